@@ -1,0 +1,56 @@
+-- Decimal numbers: the spelling without leading zeros, and a run of digits as it is read. Assumes nothing.
+use Prim.Native.Nat.{ℕ, zero, suc, _+_, _*_, _-_, _/_, _%_, _≤_}
+use mathlib.Core.Bool.{Bool, true, false}
+use mathlib.Core.List.{List, [], _∷_, _++_}
+use lib.ListN.{take, drop}
+use lib.Dec.{ltb, leb, eqb}
+use Rattle.scan.specs.Choice.{pick}
+use Rattle.scan.specs.Place.{within, runAt}
+use Rattle.decimal.specs.declared.DecimalRead.{DecimalRead}
+use Rattle.decimal.specs.declared.DecimalRead.the-variants.{Number, Over, NoDigit}
+
+-- 0-9
+pub data Digit : ℕ → Type 0 where
+  digit : {b : ℕ} → 48 ≤ b → b ≤ 57 → Digit b
+
+abbrev pub isDigit : ℕ → Bool
+isDigit = within 48 57
+
+-- the number that digits spell behind digits that spell n
+abbrev pub behind : ℕ → List ℕ → ℕ
+behind n [] = n
+behind n (b ∷ l) = behind (n * 10 + (b - 48)) l
+
+-- the number that digits spell
+abbrev pub numberOf : List ℕ → ℕ
+numberOf l = behind 0 l
+
+-- the digits of n, by as many steps as the fuel allows
+unfoldable pub decimalIn : ℕ → ℕ → List ℕ
+decimalIn zero n = (48 + n) ∷ []
+decimalIn (suc k) n = let longer = decimalIn k (n / 10) ++ ((48 + n % 10) ∷ []) in pick (ltb n 10) ((48 + n) ∷ []) longer
+
+-- the digits of n, with no leading zero
+unfoldable pub decimal : ℕ → List ℕ
+decimal n = decimalIn n n
+
+-- what the run of digits at a place is: a number up to a maximum, over it, or no digit at all
+pub data Digits : Type 0 where
+  number : (value next : ℕ) → Digits
+  over : (next : ℕ) → Digits
+  none : Digits
+
+-- the run of digits at `at` that ends at `end`
+unfoldable pub digitsTo : ℕ → List ℕ → ℕ → ℕ → Digits
+digitsTo max s at end =
+    let n = numberOf (take (end - at) (drop at s)) in pick (eqb end at) none (pick (leb n max) (number n end) (over end))
+
+-- the longest run of digits at a place
+unfoldable pub digitsAt : ℕ → List ℕ → ℕ → Digits
+digitsAt max s at = digitsTo max s at (runAt isDigit s at)
+
+-- the meaning of the code's answer
+abbrev pub decimalRead : DecimalRead → Digits
+decimalRead (Number n c) = number n (c .at)
+decimalRead (Over c) = over (c .at)
+decimalRead NoDigit = none

@@ -1,0 +1,55 @@
+-- What an event is (document 01, "The event"), and when it is valid. Assumes nothing.
+use Prim.Native.Nat.{ℕ, _≤_, _<_}
+use mathlib.Core.Path.{_≡_}
+use mathlib.Core.Bool.{Bool, true, false}
+use mathlib.Core.List.{List, [], _∷_}
+use lib.ListN.{length}
+use lib.Dec.{eqb}
+use Rattle.scan.specs.Choice.{pick}
+use Rattle.scan.specs.Span.{All}
+use Rattle.utf8.specs.Utf8.{Utf8}
+
+-- a text is its bytes
+abbrev pub Text : Type 0
+Text = List ℕ
+
+-- a tag is its texts
+abbrev pub Tag : Type 0
+Tag = List Text
+
+pub record Event : Type 0 where
+  pub id : List ℕ
+  pub pubkey : List ℕ
+  pub sig : List ℕ
+  pub createdAt : ℕ
+  pub kind : ℕ
+  pub tags : List Tag
+  pub content : Text
+
+-- n bytes
+pub record Bytes (n : ℕ) (l : List ℕ) : Type 0 where
+  pub count : length l ≡ n
+  pub each : All (λ (b : ℕ). b < 256) l
+
+-- one or more texts, up to 255, each well-formed
+pub record ValidTag (t : Tag) : Type 0 where
+  pub one : 1 ≤ length t
+  pub few : length t ≤ 255
+  pub texts : All Utf8 t
+
+pub record Valid (e : Event) : Type 0 where
+  pub id32 : Bytes 32 (e .id)
+  pub pubkey32 : Bytes 32 (e .pubkey)
+  pub sig64 : Bytes 64 (e .sig)
+  pub time : e .createdAt ≤ 9_223_372_036_854_775
+  pub kind16 : e .kind ≤ 65_535
+  pub few : length (e .tags) ≤ 1_000
+  pub each : All ValidTag (e .tags)
+  pub text : Utf8 (e .content)
+
+-- Equality of events is `≡`. Texts are compared as text, byte for byte: the decision.
+unfoldable pub sameText : Text → Text → Bool
+sameText [] [] = true
+sameText [] (b ∷ l) = false
+sameText (a ∷ k) [] = false
+sameText (a ∷ k) (b ∷ l) = pick (eqb a b) (sameText k l) false

@@ -1,0 +1,113 @@
+-- A fixed byte string stands at a place exactly where it is a span, and a run is the longest span of bytes that pass.
+-- The loops of the code cite the rulesets `stands` and `runs`; a grammar cites the four laws that speak of `Span`.
+use Prim.Native.Nat.{ℕ, _+_, _<_, _≤_}
+use mathlib.Core.Path.{_≡_, refl, sym, ap, _∙_}
+use mathlib.Core.Bool.{Bool, true, false}
+use mathlib.Core.List.{List, [], _∷_, _++_}
+use mathlib.Core.Logic.{dite}
+use native.Mathlib.Omega.{arith}
+use native.Mathlib.Decide.{decLt}
+use lib.ListN.{length, getD, drop}
+use lib.Dec.{eqb}
+use borrow.Author.Tests.{eq-eqb, ne-eqb, eqb-true}
+use Rattle.scan.specs.Choice.{pick}
+use Rattle.scan.specs.Place.{begins, standsAt, run, runAt}
+use Rattle.scan.specs.Span.{Span, here, step, All, none, also}
+use Rattle.scan.proofs.Step.{rest-none, rest-more, pick-by, pick-true, false-true}
+use Rattle.scan.proofs.SpanLaws.{from-span, to-span, place}
+
+-- ---- a fixed byte string: where the loop stands
+
+module _ (w s : List ℕ) (at i j : ℕ) where
+  pub stands-again : standsAt w s at ≡ begins (drop j w) (drop i s) → j < length w → i < length s → getD w j 0 ≡ getD s i 0
+      → standsAt w s at ≡ begins (drop (j + 1) w) (drop (i + 1) s)
+  unfolding begins
+  stands-again v h l e = v ∙ rw (rest-more w j, rest-more s i, eq-eqb _ _ e)
+
+  pub stands-ended : standsAt w s at ≡ begins (drop j w) (drop i s) → j < length w → length s ≤ i → false ≡ standsAt w s at
+  unfolding begins
+  stands-ended v h l = sym (v ∙ rw (rest-more w j, rest-none s i))
+
+  pub stands-other : standsAt w s at ≡ begins (drop j w) (drop i s) → j < length w → i < length s → (getD w j 0 ≡ getD s i 0 → ⊥)
+      → false ≡ standsAt w s at
+  unfolding begins
+  stands-other v h l n = sym (v ∙ rw (rest-more w j, rest-more s i, ne-eqb _ _ n))
+
+  pub stands-whole : standsAt w s at ≡ begins (drop j w) (drop i s) → length w ≤ j → true ≡ standsAt w s at
+  unfolding begins
+  stands-whole v h = sym (v ∙ rw (rest-none w j))
+
+pub ruleset stands = (stands-again, stands-ended, stands-other, stands-whole)
+
+pub stands-start : (w s : List ℕ) (at : ℕ) → standsAt w s at ≡ begins (drop 0 w) (drop at s)
+unfolding standsAt
+stands-start w s at = refl
+
+-- ---- a fixed byte string as a span, in both directions
+
+begins-append : (w l : List ℕ) → begins w (w ++ l) ≡ true
+unfolding begins
+begins-append [] l = refl
+begins-append (b ∷ w) l = rw (eq-eqb b b refl) (begins-append w l)
+
+-- accepts: where w is the span, it stands
+pub span-stands : {s w : List ℕ} {at c : ℕ} → Span s at w c → standsAt w s at ≡ true
+unfolding standsAt
+span-stands {s} {w} {at} {c} p = rw (from-span p) (begins-append w (drop c s))
+
+begins-rest : (w l : List ℕ) → begins w l ≡ true → (r : List ℕ) × (l ≡ w ++ r)
+unfolding begins
+begins-rest [] l h = (l, refl)
+begins-rest (b ∷ w) [] h = absurd (false-true h)
+begins-rest (b ∷ w) (c ∷ l) h =
+    let t = pick-true (eqb b c) (begins w l) h in
+    let e = eqb-true b c (t .0) in
+    let r = begins-rest w l (t .1) in
+    let f = r .1 in
+    (r .0, cc)
+
+-- consumes: where w stands, it is the span
+pub stands-span : (w s : List ℕ) (at : ℕ) → standsAt w s at ≡ true → Span s at w (at + length w)
+unfolding standsAt
+stands-span w s at h = let r = begins-rest w (drop at s) h in to-span s w (r .0) at (r .1)
+
+-- ---- a run: where the loop stands
+
+module _ (p : ℕ → Bool) (s : List ℕ) (at i : ℕ) where
+  pub run-again : (t : Bool) → runAt p s at ≡ runAt p s i → i < length s → t ≡ p (getD s i 0) → t ≡ true → runAt p s at ≡ runAt p s (i + 1)
+  unfolding runAt run
+  run-again t v h e k = v ∙ rw (rest-more s i, ← e, k)
+
+  pub run-left : runAt p s at ≡ runAt p s i → length s ≤ i → i ≡ runAt p s at
+  unfolding runAt run
+  run-left v h = sym (v ∙ rw (rest-none s i))
+
+  pub run-broke : (t : Bool) → runAt p s at ≡ runAt p s i → i < length s → t ≡ p (getD s i 0) → t ≡ false → i ≡ runAt p s at
+  unfolding runAt run
+  run-broke t v h e k = sym (v ∙ rw (rest-more s i, ← e, k))
+
+pub ruleset runs = (run-again, run-left, run-broke)
+
+-- ---- a run as a span, in both directions
+
+-- accepts: a span of bytes that pass, behind which none passes, is the run
+pub span-run : (p : ℕ → Bool) (P : ℕ → Type 0) → ((b : ℕ) → P b → p b ≡ true) → (s : List ℕ) {a c : ℕ} {l : List ℕ}
+    → All P l → Span s a l c → (c < length s → p (getD s c 0) ≡ false) → runAt p s a ≡ c
+unfolding runAt run
+span-run p P good s {a} none here stop =
+    dite (decLt a (length s)) (λ h. rw (rest-more s a h, stop h)) (λ n. rw (rest-none s a (omega (arith, n))))
+span-run p P good s {a} (also {b = b} k g) (step h e r) stop = rw (rest-more s a h, e, good b k) (span-run p P good s g r stop)
+
+-- consumes: what is run over is a span of bytes that pass
+pub run-span : (p : ℕ → Bool) (P : ℕ → Type 0) → ((b : ℕ) → p b ≡ true → P b) → (s : List ℕ) (a : ℕ)
+    → (l : List ℕ) × All P l × Span s a l (runAt p s a)
+unfolding runAt run
+run-span p P good s a = go (drop a s) a refl
+  where
+    go : (l : List ℕ) (i : ℕ) → drop i s ≡ l → (m : List ℕ) × All P m × Span s i m (run p l i)
+    go [] i q = ([], none, here)
+    go (b ∷ l) i q =
+        let u = place s i b l q in
+        pick-by (λ (e : ℕ). (m : List ℕ) × All P m × Span s i m e) (p b)
+        (λ t. let r = go l (i + 1) (u .2) in (b ∷ r .0, also (good b t) (r .1), step (u .0) (u .1) (r .2)))
+        (λ f. ([], none, here))

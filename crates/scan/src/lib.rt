@@ -1,0 +1,55 @@
+// Bytes at a place of a lent input. Every function is total: a place past the end reads as the end.
+ghost use mathlib.Core.Path.{_≡_};
+ghost use Rattle.scan.specs.Place.{byteAt, standsAt, within, runAt};
+
+// The byte at a place, and 0 past the end.
+pub fn byte_at(s: &[u8], at: usize) -> u8
+    ensures { λ r. ⌜ r ≡ byteAt (now (s .entry)) at ⌝ }
+{
+    if at < s.len() { s[at] } else { 0 }
+}
+
+// Whether the byte string w stands at a place.
+pub fn stands_at(w: &[u8], s: &[u8], at: usize) -> bool
+    ensures { λ r. ⌜ r ≡ standsAt (now (w .entry)) (now (s .entry)) at ⌝ }
+{
+    let mut i = at;
+    let mut j = 0;
+    while j < w.len() {
+        if s.len() <= i {
+            return false;
+        }
+        if w[j] != s[i] {
+            return false;
+        }
+        i += 1;
+        j += 1;
+    }
+    true
+}
+
+// Whether a byte is from low to high, both included.
+pub fn is_within(low: u8, high: u8, b: u8) -> bool
+    ensures { λ r. ⌜ r ≡ within low high b ⌝ }
+{
+    if low <= b {
+        return b <= high;
+    }
+    false
+}
+
+// The end of the run of bytes from low to high that starts at a place.
+pub fn run_end(s: &[u8], at: usize, low: u8, high: u8) -> usize
+    ensures { λ r. ⌜ r ≡ runAt (within low high) (now (s .entry)) at ⌝ }
+{
+    let mut i = at;
+    while i < s.len() {
+        let b = s[i];
+        if is_within(low, high, b) {
+            i += 1;
+        } else {
+            break;
+        }
+    }
+    i
+}

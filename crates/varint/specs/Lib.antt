@@ -1,0 +1,2 @@
+pub mod Uleb
+pub mod Varint

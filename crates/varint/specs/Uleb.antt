@@ -1,0 +1,26 @@
+-- ULEB128 (notepack draft, section 4): which bytes spell a number, and the shortest spelling. Assumes nothing.
+use Prim.Native.Nat.{ℕ, zero, suc, _+_, _*_, _/_, _%_, _≤_, _<_, _^_}
+use mathlib.Core.List.{List, [], _∷_}
+use lib.ListN.{length}
+use lib.Dec.{ltb}
+use Rattle.scan.specs.Choice.{pick}
+
+-- seven bits a byte, the lowest first; the top bit is set on every byte but the last
+pub data Uleb : ℕ → List ℕ → Type 0 where
+  last : {b : ℕ} → b < 128 → Uleb b (b ∷ [])
+  more : {b n : ℕ} {l : List ℕ} → b < 128 → Uleb n l → Uleb (b + 128 * n) ((128 + b) ∷ l)
+
+-- A varint: a spelling of one to ten bytes, of a number that 64 bits hold. (A tenth byte is then 00 or 01.)
+pub record Spells (n : ℕ) (l : List ℕ) : Type 0 where
+  pub digits : Uleb n l
+  pub ten : length l ≤ 10
+  pub holds : n < 2 ^ 64
+
+-- the shortest spelling, by as many steps as the fuel allows
+unfoldable pub ulebIn : ℕ → ℕ → List ℕ
+ulebIn zero n = n ∷ []
+ulebIn (suc k) n = let longer = (128 + n % 128) ∷ ulebIn k (n / 128) in pick (ltb n 128) (n ∷ []) longer
+
+-- the shortest spelling of n
+unfoldable pub uleb : ℕ → List ℕ
+uleb n = ulebIn n n

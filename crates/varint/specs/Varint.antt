@@ -1,0 +1,53 @@
+-- A varint as it is read at a place: its value and the place behind it, or refusal 2, 3 or 4 at the varint (document 01, "Varints"). Assumes nothing.
+use Prim.Native.Nat.{ℕ, zero, suc, _+_, _*_, _-_}
+use mathlib.Core.Bool.{Bool, true, false}
+use mathlib.Core.List.{List, [], _∷_}
+use lib.ListN.{length, drop}
+use lib.Dec.{ltb, leb, eqb}
+use Rattle.scan.specs.Choice.{pick, Answer, shown, refused, Read, read}
+use Rattle.event.specs.Answers.{told}
+use Rattle.varint.specs.declared.VarintRead.{VarintRead}
+use Rattle.varint.specs.declared.VarintRead.the-variants.{Value, Refused}
+use Rattle.varint.specs.Uleb.{uleb}
+
+-- what the bytes of a list spell from its start: a number in so many bytes, more than 64 bits hold, or no last byte
+pub data Spelled : Type 0 where
+  number : (value width : ℕ) → Spelled
+  over : Spelled
+  cut : Spelled
+
+-- one byte more in front: its seven bits are the lowest
+abbrev pub carry : ℕ → Spelled → Spelled
+carry b (number n w) = number (b + 128 * n) (suc w)
+carry b over = over
+carry b cut = cut
+
+-- `left` bytes may follow the one at hand; the last that is allowed, the tenth, is 00 or 01
+unfoldable pub spelled : ℕ → List ℕ → Spelled
+spelled left [] = cut
+spelled zero (b ∷ l) = pick (leb b 1) (number b 1) over
+spelled (suc left) (b ∷ l) = pick (ltb b 128) (number b 1) (carry (b - 128) (spelled left l))
+
+-- the answer at the varint that starts at `at`
+abbrev pub answered : ℕ → Spelled → Answer (Read ℕ)
+answered at (number n w) = read n (at + w)
+answered at over = refused 3 at
+answered at cut = refused 4 at
+
+-- the varint at a place: no byte at all is truncated
+unfoldable pub varintAt : List ℕ → ℕ → Answer (Read ℕ)
+varintAt s at = pick (ltb at (length s)) (answered at (spelled 9 (drop at s))) (refused 2 at)
+
+-- the meaning of the code's answer
+abbrev pub varintRead : VarintRead → Answer (Read ℕ)
+varintRead (Value n c) = read n (c .at)
+varintRead (Refused r) = told r
+
+-- an answer is the shortest spelling: it is a number, in as many bytes as `uleb` takes
+abbrev pub isShort : ℕ → Answer (Read ℕ) → Bool
+isShort at (shown r) = eqb (r .next) (at + length (uleb (r .value)))
+isShort at (refused n p) = false
+
+-- whether the varint at a place is there and is spelled as short as it can be
+unfoldable pub shortestAt : List ℕ → ℕ → Bool
+shortestAt s at = isShort at (varintAt s at)
