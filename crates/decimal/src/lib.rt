@@ -32,10 +32,14 @@ impl Cursor {
             }
             let d = (b - b'0') as u64;
             if max < d {
-                return DecimalRead::Over(Cursor { at: scan::run_end(s, i, b'0', b'9') });
+                return DecimalRead::Over(Cursor {
+                    at: scan::run_end(s, i, b'0', b'9'),
+                });
             }
             if (max - d) / 10 < value {
-                return DecimalRead::Over(Cursor { at: scan::run_end(s, i, b'0', b'9') });
+                return DecimalRead::Over(Cursor {
+                    at: scan::run_end(s, i, b'0', b'9'),
+                });
             }
             value = value * 10 + d;
             i += 1;

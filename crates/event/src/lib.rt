@@ -12,13 +12,19 @@ pub struct Refusal {
 pub const INPUT_TOO_LONG: u8 = 1;
 // notepack: truncated; a length beyond the rest
 pub const TRUNCATED: u8 = 2;
+
 pub const VARINT_OVERFLOW: u8 = 3;
+
 pub const VARINT_UNTERMINATED: u8 = 4;
+
 pub const ILL_FORMED_UTF8: u8 = 5;
+
 pub const KIND_OUT_OF_RANGE: u8 = 6;
+
 pub const CREATED_AT_OUT_OF_RANGE: u8 = 7;
 // too many tags or elements
 pub const TOO_MANY: u8 = 8;
+
 pub const EMPTY_TAG: u8 = 9;
 // something after the end
 pub const AFTER_THE_END: u8 = 10;
@@ -30,10 +36,13 @@ pub const BAD_PIECE: u8 = 12;
 pub const COUNT_DISAGREES: u8 = 13;
 // text not allowed: JSON syntax, type, escape, raw control byte
 pub const TEXT_NOT_ALLOWED: u8 = 14;
+
 pub const FIELD_MISSING: u8 = 15;
+
 pub const FIELD_TWICE: u8 = 16;
 // NSON can't carry it
 pub const NOT_CARRIED: u8 = 17;
+
 pub const TOO_DEEP: u8 = 18;
 // no such tag or element
 pub const NO_SUCH: u8 = 19;
@@ -41,9 +50,13 @@ pub const NO_SUCH: u8 = 19;
 // The limits.
 
 pub const MAX_INPUT: usize = 65_536;
+
 pub const MAX_CREATED_AT: u64 = 9_223_372_036_854_775;
+
 pub const MAX_KIND: u64 = 65_535;
+
 pub const MAX_TAGS: u64 = 1_000;
+
 pub const MAX_TEXTS: u64 = 255;
 // arrays and objects inside one another in a value that the plain JSON reader ignores
 pub const MAX_DEPTH: usize = 16;

@@ -6,8 +6,8 @@ use mathlib.Core.Bool.{Bool, true, false}
 use mathlib.Core.List.{List, [], _∷_}
 use native.Mathlib.Numerals.{add-one}
 use native.Mathlib.Omega.{arith}
-use lib.ListN.{length, getD, drop, drop-of-length-le, List·getD-eq-default}
-use lib.Seq.{drop-cons}
+use lib.ListN.{length, getD, take, drop, drop-of-length-le, List·getD-eq-default}
+use lib.Seq.{drop-cons, take-nil}
 use borrow.Author.Tests.{lt-ltb, le-ltb, le-leb, lt-leb, eq-eqb, ne-eqb}
 use Rattle.scan.specs.Choice.{pick}
 
@@ -16,6 +16,10 @@ rest-none s i h = drop-of-length-le s h
 
 pub rest-more : (s : List ℕ) (i : ℕ) → i < length s → drop i s ≡ getD s i 0 ∷ drop (i + 1) s
 rest-more s i h = rw (add-one, drop-cons s i 0)
+
+-- a part that starts past the end has no byte
+pub part-none : (s : List ℕ) (from n : ℕ) → length s ≤ from → take n (drop from s) ≡ []
+part-none s from n h = rw (rest-none s from h) (take-nil n)
 
 -- past the end stands 0
 pub byte-none : (s : List ℕ) (i : ℕ) → length s ≤ i → getD s i 0 ≡ 0

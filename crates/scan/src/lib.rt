@@ -1,5 +1,6 @@
 // Bytes at a place of a lent input. Every function is total: a place past the end reads as the end.
 ghost use mathlib.Core.Path.{_≡_};
+ghost use lib.ListN.{take, drop};
 ghost use Rattle.scan.specs.Place.{byteAt, standsAt, within, runAt};
 
 // The byte at a place, and 0 past the end.
@@ -7,6 +8,20 @@ pub fn byte_at(s: &[u8], at: usize) -> u8
     ensures { λ r. ⌜ r ≡ byteAt (now (s .entry)) at ⌝ }
 {
     if at < s.len() { s[at] } else { 0 }
+}
+
+// The n bytes from a place on, or as many of them as there are, as a part of the lent slice.
+pub fn part<'a>(s: &'a [u8], from: usize, n: usize) -> &'a [u8]
+    ensures { λ r. ⌜ now r ≡ take n (drop from (now (s .entry))) ⌝ }
+{
+    if s.len() <= from {
+        return &s[..0];
+    }
+    if s.len() - from <= n {
+        return &s[from..];
+    }
+    let end = from + n;
+    &s[from..end]
 }
 
 // Whether the byte string w stands at a place.

@@ -9,8 +9,8 @@ use native.Mathlib.Nat.{add-zero}
 use native.Mathlib.Numerals.{add-one}
 use native.Mathlib.Omega.{arith}
 use native.Mathlib.Decide.{decLt}
-use lib.ListN.{length, set, take, drop, length-set, drop-of-length-le}
-use lib.Seq.{sets, sets-eq, take-nil}
+use lib.ListN.{length, set, take, drop, length-set}
+use lib.Seq.{sets, sets-eq}
 use lib.Dec.{ltb}
 use borrow.Author.Tests.{lt-ltb, le-ltb}
 use Rattle.scan.specs.Choice.{pick}
@@ -95,10 +95,6 @@ full {d} {at} {vs} h = record { is = sym (puts-full d at vs h) }
 
 pub nothing : {d : List ℕ} {at : ℕ} → Wrote d at [] d at
 nothing = record { is = refl }
-
--- a part that starts past the end has no byte
-pub past : {d : List ℕ} {at : ℕ} (s : List ℕ) (from n : ℕ) → length s ≤ from → Wrote d at (take n (drop from s)) d at
-past s from n h = record { is = rw (drop-of-length-le s h, take-nil n) }
 
 -- a text of which no more than the room is written
 pub cut : {d : List ℕ} {at : ℕ} {vs d′ : List ℕ} {r : ℕ} → Wrote d at (take (length d - at) vs) d′ r → Wrote d at vs d′ r

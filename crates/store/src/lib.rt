@@ -48,12 +48,5 @@ pub fn put_bytes(out: &mut [u8], at: usize, s: &[u8]) -> usize
 pub fn put_part(out: &mut [u8], at: usize, s: &[u8], from: usize, n: usize) -> usize
     ensures { λ r. ⌜ Wrote (now (out .entry)) at (take n (drop from (now (s .entry)))) (now (out .exit)) r ⌝ }
 {
-    if s.len() <= from {
-        return at;
-    }
-    if s.len() - from <= n {
-        return put_bytes(out, at, &s[from..]);
-    }
-    let end = from + n;
-    put_bytes(out, at, &s[from..end])
+    put_bytes(out, at, scan::part(s, from, n))
 }
