@@ -1,0 +1,2 @@
+pub mod UlebLaws
+pub mod Turn
