@@ -1,2 +1,3 @@
 pub mod UlebLaws
 pub mod Turn
+pub mod VarintLaws

@@ -141,3 +141,19 @@ length-ten n h = length-uleb 9 n (omega arith)
 -- what is written is a varint
 pub uleb-spells : (n : ℕ) → n < 2 ^ 64 → Spells n (uleb n)
 uleb-spells n h = record { digits = uleb-digits n; ten = length-ten n h; holds = h }
+
+-- a varint has a byte
+pub spells-one : {n : ℕ} {l : List ℕ} → Spells n l → 1 ≤ length l
+spells-one h = digits-one (h .digits)
+
+-- every byte of a varint is a byte
+pub spells-bytes : {n : ℕ} {l : List ℕ} → Spells n l → All (λ (b : ℕ). b < 256) l
+spells-bytes h = digits-bytes (h .digits)
+
+-- a varint has one value
+pub spells-value : {n m : ℕ} {l : List ℕ} → Spells n l → Spells m l → n ≡ m
+spells-value h k = digits-value (h .digits) (k .digits)
+
+-- a varint as short as the shortest spelling is that spelling
+pub spells-unique : {n : ℕ} {l : List ℕ} → Spells n l → length l ≡ length (uleb n) → l ≡ uleb n
+spells-unique h e = uleb-unique (h .digits) e
