@@ -1,3 +1,4 @@
 pub mod UlebLaws
-pub mod Turn
+pub mod SpelledLaws
 pub mod VarintLaws
+pub mod Turn

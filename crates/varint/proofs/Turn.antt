@@ -2,7 +2,7 @@
 -- `Held` keeps the number small: seven bits more in each of nine turns, and one bit in the tenth byte.
 use Prim.Native.Nat.{ℕ, zero, suc, _+_, _*_, _-_, _^_, _≤_, _<_}
 use mathlib.Core.Path.{_≡_, refl, sym, ap, _∙_}
-use mathlib.Core.List.{List, [], _∷_}
+use mathlib.Core.List.{List, _∷_}
 use native.Mathlib.Nat.{one-le-pow, pow-succ', mul-le-mul-left}
 use native.Mathlib.Numerals.{sub-one}
 use native.Mathlib.Omega.{arith}
@@ -24,7 +24,7 @@ pub record Held (value scale left : ℕ) : Type 0 where
   pub below : value < scale
   pub room : scale * 128 ^ left ≤ 2 ^ 63
 
--- before the first byte
+-- before the first byte nothing is held
 pub held-start : Held 0 1 9
 held-start = record { below = omega arith; room = omega arith }
 
@@ -42,26 +42,32 @@ held-next {c = c} {left = left} h p = go left p (h .room)
 held-sum : {v c left d : ℕ} → Held v c left → d < 128 → v + c * d < c * 128
 held-sum {c = c} h q = omega (arith, h, mul-le-mul-left c q)
 
+-- seven bits are left of a byte with the top bit
 pub seven : (b : ℕ) → b < 256 → b - 128 < 128
 seven b h = omega arith
 
 module _ {v c left d : ℕ} where
+  -- one byte more is held
   pub held-again : Held v c left → 0 < left → d < 128 → Held (v + c * d) (c * 128) (left - 1)
   held-again h p q = record { below = held-sum h q; room = held-next h p .0 }
 
+  -- the sum with its seven bits does not wrap
   pub held-add : Held v c left → 0 < left → d < 128 → Fits w64 (v + c * d)
   held-add h p q = omega (arith, held-sum h q, held-next h p .1)
 
+  -- nor does the product
   pub held-mul : Held v c left → 0 < left → d < 128 → Fits w64 (c * d)
   held-mul h p q = omega (arith, held-sum h q, held-next h p .1)
 
-  -- the tenth byte is one bit more
+  -- the sum with the tenth byte's bit does not wrap
   pub held-add-bit : Held v c left → left ≤ 0 → d ≤ 1 → Fits w64 (v + c * d)
   held-add-bit h p q = let e : left ≡ 0 = omega arith in omega (arith, h .below, rw e at (h .room), mul-le-mul-left c q)
 
+  -- nor does the product
   pub held-mul-bit : Held v c left → left ≤ 0 → d ≤ 1 → Fits w64 (c * d)
   held-mul-bit h p q = omega (arith, held-add-bit h p q)
 
+-- the next scale does not wrap
 pub held-scale : {v c left : ℕ} → Held v c left → 0 < left → Fits w64 (c * 128)
 held-scale h p = omega (arith, held-next h p .1)
 
@@ -74,6 +80,10 @@ unfoldable pub onward : (start v c i : ℕ) → Spelled → Answer (Read ℕ)
 onward start v c i (number n w) = read (v + c * n) (i + w)
 onward start v c i over = refused 3 start
 onward start v c i cut = refused 4 start
+
+-- v was gathered of the bytes before i, and what the rest spells, counted c times, makes the answer at the start
+abbrev pub Gathered : (s : List ℕ) (start v c i left : ℕ) → Type 0
+Gathered s start v c i left = varintAt s start ≡ onward start v c i (spelled left (drop i s))
 
 onward-carry : (start v c i d : ℕ) (r : Spelled) → onward start v c i (carry d r) ≡ onward start (v + c * d) (c * 128) (i + 1) r
 unfolding onward
@@ -94,7 +104,8 @@ unfolding spelled
 spelled-end zero b l h = refl
 spelled-end (suc k) b l h = absurd (omega arith)
 
-pub turn-start : (s : List ℕ) (start : ℕ) → start < length s → varintAt s start ≡ onward start 0 1 start (spelled 9 (drop start s))
+-- before the first byte nothing was gathered
+pub turn-start : (s : List ℕ) (start : ℕ) → start < length s → Gathered s start 0 1 start 9
 unfolding varintAt onward
 turn-start s start h = rw (lt-ltb start (length s) h) (go (spelled 9 (drop start s)))
   where
@@ -103,39 +114,40 @@ turn-start s start h = rw (lt-ltb start (length s) h) (go (spelled 9 (drop start
     go over = refl
     go cut = refl
 
--- no byte at all
+-- no byte at all is truncated
 pub turn-none : (s : List ℕ) (start : ℕ) (r : VarintRead) → length s ≤ start → r ≡ Refused (record { number = 2; place = start }) → varintRead r ≡ varintAt s start
 unfolding varintAt
 turn-none s start r h e = rw (le-ltb start (length s) h, e)
 
 module _ (s : List ℕ) (start v c i left : ℕ) where
-  -- a byte with the top bit
-  pub turn-again : varintAt s start ≡ onward start v c i (spelled left (drop i s)) → 0 < left → i < length s → 128 ≤ getD s i 0
-      → varintAt s start ≡ onward start (v + c * (getD s i 0 - 128)) (c * 128) (i + 1) (spelled (left - 1) (drop (i + 1) s))
+  -- a byte with the top bit puts seven bits to what was gathered
+  pub turn-again : Gathered s start v c i left → 0 < left → i < length s → 128 ≤ getD s i 0
+      → Gathered s start (v + c * (getD s i 0 - 128)) (c * 128) (i + 1) (left - 1)
   turn-again e p h k =
       e
       ∙ rw (rest-more s i h, spelled-step left (getD s i 0) (drop (i + 1) s) p, le-ltb (getD s i 0) 128 k)
       (onward-carry start v c i (getD s i 0 - 128) (spelled (left - 1) (drop (i + 1) s)))
 
-  -- the last byte
-  pub turn-last : varintAt s start ≡ onward start v c i (spelled left (drop i s)) → 0 < left → i < length s → getD s i 0 < 128
+  -- a byte without it is the last
+  pub turn-last : Gathered s start v c i left → 0 < left → i < length s → getD s i 0 < 128
       → read (v + c * getD s i 0) (i + 1) ≡ varintAt s start
   unfolding onward
   turn-last e p h k = sym (e ∙ rw (rest-more s i h, spelled-step left (getD s i 0) (drop (i + 1) s) p, lt-ltb (getD s i 0) 128 k))
 
-  -- the end of the input
-  pub turn-cut : (r : VarintRead) → varintAt s start ≡ onward start v c i (spelled left (drop i s)) → length s ≤ i
+  -- the end of the input before the last byte is unterminated
+  pub turn-cut : (r : VarintRead) → Gathered s start v c i left → length s ≤ i
       → r ≡ Refused (record { number = 4; place = start }) → varintRead r ≡ varintAt s start
   unfolding onward spelled
   turn-cut r e h k = rw k (sym (e ∙ rw (rest-none s i h)))
 
-  -- the tenth byte
-  pub turn-tenth : varintAt s start ≡ onward start v c i (spelled left (drop i s)) → left ≤ 0 → i < length s → getD s i 0 ≤ 1
+  -- a tenth byte of 00 or 01 is the last
+  pub turn-tenth : Gathered s start v c i left → left ≤ 0 → i < length s → getD s i 0 ≤ 1
       → read (v + c * getD s i 0) (i + 1) ≡ varintAt s start
   unfolding onward
   turn-tenth e p h k = sym (e ∙ rw (rest-more s i h, spelled-end left (getD s i 0) (drop (i + 1) s) p, le-leb (getD s i 0) 1 k))
 
-  pub turn-over : (r : VarintRead) → varintAt s start ≡ onward start v c i (spelled left (drop i s)) → left ≤ 0 → i < length s → 1 < getD s i 0
+  -- any other is an overflow
+  pub turn-over : (r : VarintRead) → Gathered s start v c i left → left ≤ 0 → i < length s → 1 < getD s i 0
       → r ≡ Refused (record { number = 3; place = start }) → varintRead r ≡ varintAt s start
   unfolding onward
   turn-over r e p h k q = rw q (sym (e ∙ rw (rest-more s i h, spelled-end left (getD s i 0) (drop (i + 1) s) p, lt-leb (getD s i 0) 1 k)))

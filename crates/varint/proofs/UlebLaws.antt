@@ -14,6 +14,10 @@ use Rattle.scan.specs.Choice.{pick}
 use Rattle.scan.specs.Span.{All, none, also}
 use Rattle.varint.specs.Uleb.{Uleb, last, more, Spells, ulebIn, uleb}
 
+-- a number that a byte holds
+abbrev pub Byte : ℕ → Type 0
+Byte b = b < 256
+
 -- ---- the steps of the shortest spelling
 
 in-last : (k n : ℕ) → n < 128 → ulebIn k n ≡ n ∷ []
@@ -56,7 +60,7 @@ digits-one (last h) = omega arith
 digits-one (more h u) = omega arith
 
 -- every byte of a spelling is a byte
-pub digits-bytes : {n : ℕ} {l : List ℕ} → Uleb n l → All (λ (b : ℕ). b < 256) l
+digits-bytes : {n : ℕ} {l : List ℕ} → Uleb n l → All Byte l
 digits-bytes (last {b = b} h) = also {b = b} (omega arith) none
 digits-bytes (more {b = b} h u) = also {b = 128 + b} (omega arith) (digits-bytes u)
 
@@ -71,7 +75,7 @@ digits-worth (last {b = b} h) = rw (lt-ltb b 128 h)
 digits-worth (more {b = b} h u) = rw (le-ltb (128 + b) 128 (omega arith), ← (digits-worth u)) (omega arith)
 
 -- a spelling spells one number
-pub digits-value : {n m : ℕ} {l : List ℕ} → Uleb n l → Uleb m l → n ≡ m
+digits-value : {n m : ℕ} {l : List ℕ} → Uleb n l → Uleb m l → n ≡ m
 digits-value u v = digits-worth u ∙ sym (digits-worth v)
 
 -- ---- the shortest spelling among them
@@ -89,6 +93,10 @@ in-digits (suc k) n h =
 pub uleb-digits : (n : ℕ) → Uleb n (uleb n)
 unfolding uleb
 uleb-digits n = in-digits n n (omega arith)
+
+-- every byte of `uleb n` is a byte
+pub uleb-bytes : (n : ℕ) → All Byte (uleb n)
+uleb-bytes n = digits-bytes (uleb-digits n)
 
 -- two numbers have two shortest spellings
 pub uleb-injective : (n m : ℕ) → uleb n ≡ uleb m → n ≡ m
@@ -109,7 +117,7 @@ uleb-shortest (more {b = b} {n = n} h u) =
     (λ q. omega (arith, ap length (uleb-rest b n h (omega (arith, q))), uleb-shortest u))
 
 -- and no other is as short
-pub uleb-unique : {n : ℕ} {l : List ℕ} → Uleb n l → length l ≡ length (uleb n) → l ≡ uleb n
+uleb-unique : {n : ℕ} {l : List ℕ} → Uleb n l → length l ≡ length (uleb n) → l ≡ uleb n
 uleb-unique (last {b = b} h) e = sym (uleb-last b h)
 uleb-unique (more {b = b} {n = n} h u) e =
     dite (decLt (b + 128 * n) 128) (λ p. absurd (omega (arith, length-last (b + 128 * n) p, digits-one u)))
@@ -147,7 +155,7 @@ pub spells-one : {n : ℕ} {l : List ℕ} → Spells n l → 1 ≤ length l
 spells-one h = digits-one (h .digits)
 
 -- every byte of a varint is a byte
-pub spells-bytes : {n : ℕ} {l : List ℕ} → Spells n l → All (λ (b : ℕ). b < 256) l
+pub spells-bytes : {n : ℕ} {l : List ℕ} → Spells n l → All Byte l
 spells-bytes h = digits-bytes (h .digits)
 
 -- a varint has one value

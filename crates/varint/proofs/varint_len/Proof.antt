@@ -5,7 +5,7 @@ use mathlib.Core.Path.{_≡_}
 use native.Mathlib.Omega.{arith}
 use lib.ListN.{length}
 use Rattle.varint.specs.Uleb.{uleb}
-use Rattle.varint.proofs.UlebLaws.{length-last, length-more, length-one, length-ten}
+use Rattle.varint.proofs.UlebLaws.{length-last, length-more, length-ten}
 use Rattle.varint.proofs.varint_len.Statement.{statement}
 use Rattle.varint.proofs.varint_len.Tie as tie
 

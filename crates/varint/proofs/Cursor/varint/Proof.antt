@@ -1,17 +1,13 @@
 -- `Cursor::varint` reads the varint. The invariant is one equation: the answer at the start is what was gathered, put in front of what the rest spells.
 -- Each turn is one law of `turns`; `Held` keeps every sum and product in 64 bits.
-use mathlib.Core.Path.{_≡_}
 use native.Mathlib.Omega.{arith}
 use borrow.Author.Needs.{needs}
-use lib.ListN.{drop}
-use Rattle.varint.specs.Varint.{spelled, varintAt}
-use Rattle.varint.proofs.Turn.{Held, held, onward, turns}
+use Rattle.varint.proofs.Turn.{Held, held, Gathered, turns}
 use Rattle.varint.proofs.Cursor.varint.Statement.{statement}
 use Rattle.varint.proofs.Cursor.varint.Tie as tie
 
 abbrev Inv-loop : tie.InvT-loop
-Inv-loop s start value₀ scale₀ i₀ left₀ value scale i left =
-    (varintAt s start ≡ onward start value scale i (spelled left (drop i s))) × Held value scale left
+Inv-loop s start value₀ scale₀ i₀ left₀ value scale i left = Gathered s start value scale i left × Held value scale left
 
 abbrev μ-loop : tie.MeasureT-loop
 μ-loop s start value₀ scale₀ i₀ left₀ value scale i left = left
