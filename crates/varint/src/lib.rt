@@ -1,6 +1,6 @@
 // Varints: ULEB128 in one to ten bytes, read at a cursor and written as short as can be.
 use event::Refusal;
-ghost use Prim.Native.Nat.{_≤_, _+_};
+ghost use Prim.Native.Nat.{_≤_};
 ghost use mathlib.Core.Path.{_≡_};
 ghost use lib.ListN.{length};
 ghost use Rattle.store.specs.Store.{Wrote};
