@@ -8,11 +8,11 @@ use native.Mathlib.Omega.{arith}
 use lib.ListN.{length}
 use lib.Dec.{ltb, leb}
 use borrow.Author.Tests.{lt-ltb, le-ltb, le-leb, ltb-true, ltb-false, leb-true}
-use Rattle.scan.specs.Span.{All, also}
+use Rattle.scan.specs.Span.{All, also, IsBytes}
 use Rattle.scan.proofs.Step.{pick-by}
 use Rattle.varint.specs.Uleb.{Uleb, last, more}
 use Rattle.varint.specs.Varint.{Spelled, number, over, cut, carry, spelled}
-use Rattle.varint.proofs.UlebLaws.{Byte, digits-one}
+use Rattle.varint.proofs.UlebLaws.{digits-one}
 
 -- a spelling in front of any bytes is what they spell
 pub spelled-digits : {n : ℕ} {l : List ℕ} (left : ℕ) (r : List ℕ) → Uleb n l → length l ≤ suc left → n < 2 * 128 ^ left → spelled left (l ++ r) ≡ number n (length l)
@@ -28,7 +28,7 @@ spelled-digits (suc left) r (more {b = b} {n = n} {l = l} h u) k f =
 -- what t spells, where it is a number, is spelled by the bytes in front, if they are bytes
 pub data Taken (left : ℕ) (t : List ℕ) : Spelled → Type 0 where
   taken : {n w : ℕ} (l r : List ℕ) → t ≡ l ++ r → w ≡ length l → 1 ≤ length l → length l ≤ suc left
-      → (All Byte l → Uleb n l × (n < 2 * 128 ^ left)) → Taken left t (number n w)
+      → (IsBytes l → Uleb n l × (n < 2 * 128 ^ left)) → Taken left t (number n w)
   taken-over : Taken left t over
   taken-cut : Taken left t cut
 
@@ -36,7 +36,7 @@ taken-carry : {left : ℕ} {t : List ℕ} {x : Spelled} (b : ℕ) → 128 ≤ b 
 taken-carry {left} b h (taken {n = n} l r e f g k u) =
     taken (b ∷ l) r (ap (λ (m : List ℕ). b ∷ m) e) (ap suc f) (omega arith) (omega arith) more-bytes
   where
-    more-bytes : All Byte (b ∷ l) → Uleb (b - 128 + 128 * n) (b ∷ l) × (b - 128 + 128 * n < 2 * 128 ^ suc left)
+    more-bytes : IsBytes (b ∷ l) → Uleb (b - 128 + 128 * n) (b ∷ l) × (b - 128 + 128 * n < 2 * 128 ^ suc left)
     more-bytes (also y ys) =
         let v = u ys in
         let q : 128 + (b - 128) ≡ b = omega arith in

@@ -11,12 +11,8 @@ use lib.ListN.{length}
 use lib.Dec.{ltb}
 use borrow.Author.Tests.{lt-ltb, le-ltb}
 use Rattle.scan.specs.Choice.{pick}
-use Rattle.scan.specs.Span.{All, none, also}
+use Rattle.scan.specs.Span.{All, none, also, IsBytes}
 use Rattle.varint.specs.Uleb.{Uleb, last, more, Spells, ulebIn, uleb}
-
--- a number that a byte holds
-abbrev pub Byte : ℕ → Type 0
-Byte b = b < 256
 
 -- ---- the steps of the shortest spelling
 
@@ -60,7 +56,7 @@ digits-one (last h) = omega arith
 digits-one (more h u) = omega arith
 
 -- every byte of a spelling is a byte
-digits-bytes : {n : ℕ} {l : List ℕ} → Uleb n l → All Byte l
+digits-bytes : {n : ℕ} {l : List ℕ} → Uleb n l → IsBytes l
 digits-bytes (last {b = b} h) = also {b = b} (omega arith) none
 digits-bytes (more {b = b} h u) = also {b = 128 + b} (omega arith) (digits-bytes u)
 
@@ -95,7 +91,7 @@ unfolding uleb
 uleb-digits n = in-digits n n (omega arith)
 
 -- every byte of `uleb n` is a byte
-pub uleb-bytes : (n : ℕ) → All Byte (uleb n)
+pub uleb-bytes : (n : ℕ) → IsBytes (uleb n)
 uleb-bytes n = digits-bytes (uleb-digits n)
 
 -- two numbers have two shortest spellings
@@ -155,7 +151,7 @@ pub spells-one : {n : ℕ} {l : List ℕ} → Spells n l → 1 ≤ length l
 spells-one h = digits-one (h .digits)
 
 -- every byte of a varint is a byte
-pub spells-bytes : {n : ℕ} {l : List ℕ} → Spells n l → All Byte l
+pub spells-bytes : {n : ℕ} {l : List ℕ} → Spells n l → IsBytes l
 spells-bytes h = digits-bytes (h .digits)
 
 -- a varint has one value

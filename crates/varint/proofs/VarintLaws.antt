@@ -11,12 +11,14 @@ use lib.ListN.{length, getD, drop, length-append, length-drop}
 use lib.Dec.{ltb}
 use borrow.Author.Tests.{lt-ltb, le-ltb, eq-eqb, eqb-true}
 use Rattle.scan.specs.Choice.{Answer, shown, refused, Read, read}
-use Rattle.scan.specs.Span.{Span, here, step, All, none, also}
+use Rattle.scan.specs.Span.{Span, All, Byte, IsBytes}
 use Rattle.scan.proofs.Step.{pick-by, false-true}
 use Rattle.scan.proofs.SpanLaws.{from-span, to-span, span-length, span-fits, span-unique}
+use Rattle.scan.proofs.AllLaws.{span-all}
+use Rattle.scan.proofs.Reading.{Reads, reads, fails}
 use Rattle.varint.specs.Uleb.{Spells, uleb}
 use Rattle.varint.specs.Varint.{Spelled, number, over, cut, spelled, answered, varintAt, isShort, shortestAt}
-use Rattle.varint.proofs.UlebLaws.{Byte, uleb-spells, spells-one, spells-unique}
+use Rattle.varint.proofs.UlebLaws.{uleb-spells, spells-one, spells-unique}
 use Rattle.varint.proofs.SpelledLaws.{spelled-digits, Taken, taken, taken-over, taken-cut, spelled-taken}
 
 -- ---- at a place: what is accepted
@@ -47,7 +49,7 @@ pub data Refuses : ℕ → Type 0 where
 
 -- what is told at a place: a number with the bytes that were taken, or a refusal at the varint
 data Outcome (s : List ℕ) (at : ℕ) : Answer (Read ℕ) → Type 0 where
-  took : {n next : ℕ} (l : List ℕ) → Span s at l next → 1 ≤ length l → length l ≤ 10 → (All Byte l → Spells n l) → Outcome s at (read n next)
+  took : {n next : ℕ} (l : List ℕ) → Span s at l next → 1 ≤ length l → length l ≤ 10 → (IsBytes l → Spells n l) → Outcome s at (read n next)
   not-taken : {k : ℕ} → Refuses k → Outcome s at (refused k at)
 
 answered-outcome : {t : List ℕ} {x : Spelled} (s : List ℕ) (at : ℕ) → drop at s ≡ t → Taken 9 t x → Outcome s at (answered at x)
@@ -71,7 +73,7 @@ refusal s at e = go (outcome s at) e
 
 -- what was taken for the answer r
 abbrev Taking : List ℕ → ℕ → Read ℕ → Type 0
-Taking s at r = (l : List ℕ) × Span s at l (r .next) × (1 ≤ length l) × (length l ≤ 10) × (All Byte l → Spells (r .value) l)
+Taking s at r = (l : List ℕ) × Span s at l (r .next) × (1 ≤ length l) × (length l ≤ 10) × (IsBytes l → Spells (r .value) l)
 
 taking : (s : List ℕ) (at : ℕ) {r : Read ℕ} → varintAt s at ≡ shown r → Taking s at r
 taking s at {r} e = go (outcome s at) e
@@ -88,21 +90,18 @@ taking s at {r} e = go (outcome s at) e
 pub consumes-some : (s : List ℕ) (at : ℕ) {r : Read ℕ} → varintAt s at ≡ shown r → (at < r .next) × (r .next ≤ at + 10) × (r .next ≤ length s)
 consumes-some s at e = let t = taking s at e in omega (arith, t, span-length (t .1), span-fits (t .1))
 
--- what holds of each element holds at each place
-pub all-at : {P : ℕ → Type 0} {s : List ℕ} (i : ℕ) → All P s → i < length s → P (getD s i 0)
-all-at i none h = absurd (omega arith)
-all-at zero (also y ys) h = y
-all-at (suc i) (also y ys) h = all-at i ys (omega arith)
-
--- what holds of each element of the input holds of each of a span
-pub span-all : {P : ℕ → Type 0} {s : List ℕ} {a c : ℕ} {l : List ℕ} → All P s → Span s a l c → All P l
-span-all y here = none
-span-all {a = a} y (step h e p) = also (rw e at (all-at a y h)) (span-all y p)
-
 -- what is read of bytes is a varint that stands there, and the cursor is at its end
-pub consumes : (s : List ℕ) (at : ℕ) {r : Read ℕ} → All Byte s → varintAt s at ≡ shown r
+pub consumes : (s : List ℕ) (at : ℕ) {r : Read ℕ} → IsBytes s → varintAt s at ≡ shown r
     → (l : List ℕ) × Spells (r .value) l × Span s at l (r .next)
 consumes s at y e = let t = taking s at e in (t .0, t .4 (span-all y (t .1)), t .1)
+
+-- the same as a reading: the answer's value is spelled from `at` to the answer's place
+pub varint-reads : (s : List ℕ) (at : ℕ) → IsBytes s → Reads Spells s at (varintAt s at)
+varint-reads s at y = go (varintAt s at) refl
+  where
+    go : (x : Answer (Read ℕ)) → varintAt s at ≡ x → Reads Spells s at x
+    go (shown r) e = let t = consumes s at y e in reads (t .1) (t .2)
+    go (refused n p) e = fails
 
 -- truncated, 2, is said exactly where no byte is left
 pub truncated-at : (s : List ℕ) (at : ℕ) → (varintAt s at ≡ refused 2 at) ↔ (length s ≤ at)
@@ -128,7 +127,7 @@ one-varint {n} {m} {c = c} {d = d} h p i q =
 -- ---- the shortest spelling at a place
 
 -- the varint at a place is spelled as short as can be exactly where the shortest spelling of some number stands
-pub shortest-at : (s : List ℕ) (at : ℕ) → All Byte s
+pub shortest-at : (s : List ℕ) (at : ℕ) → IsBytes s
     → (shortestAt s at ≡ true) ↔ ((n : ℕ) × (c : ℕ) × (n < 2 ^ 64) × Span s at (uleb n) c)
 unfolding shortestAt
 shortest-at s at y = (λ e. go (varintAt s at) refl e, λ h. back (h .0) (h .1) (h .2) (h .3))
