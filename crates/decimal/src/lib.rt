@@ -1,7 +1,8 @@
 // Decimal numbers without leading zeros, written; and a run of digits read up to a maximum.
-ghost use Prim.Native.Nat.{_≤_};
+ghost use Prim.Native.Nat.{_+_, _*_, _≤_};
 ghost use mathlib.Core.Path.{_≡_};
 ghost use lib.ListN.{length};
+ghost use lib.Dec.{leb};
 ghost use Rattle.store.specs.Store.{Wrote};
 ghost use Rattle.decimal.specs.Decimal.{decimal, digitsAt, decimalRead};
 
@@ -17,6 +18,16 @@ pub enum DecimalRead {
     NoDigit,
 }
 
+// Whether value with the digit d written behind it is at most max. No number on the way is above max.
+fn fits_behind(value: u64, d: u64, max: u64) -> bool
+    ensures { λ r. ⌜ r ≡ leb (value * 10 + d) max ⌝ }
+{
+    if d <= max {
+        return value <= (max - d) / 10;
+    }
+    false
+}
+
 impl Cursor {
     // The run of digits at the cursor, as a number up to max. A run of any length is read to its end.
     pub fn decimal(self, s: &[u8], max: u64) -> DecimalRead
@@ -27,22 +38,19 @@ impl Cursor {
         let mut i = start;
         while i < s.len() {
             let b = s[i];
-            if !scan::is_within(b'0', b'9', b) {
+            if scan::is_within(b'0', b'9', b) {
+                let d = (b - b'0') as u64;
+                if fits_behind(value, d, max) {
+                    value = value * 10 + d;
+                    i += 1;
+                } else {
+                    return DecimalRead::Over(Cursor {
+                        at: scan::run_end(s, i, b'0', b'9'),
+                    });
+                }
+            } else {
                 break;
             }
-            let d = (b - b'0') as u64;
-            if max < d {
-                return DecimalRead::Over(Cursor {
-                    at: scan::run_end(s, i, b'0', b'9'),
-                });
-            }
-            if (max - d) / 10 < value {
-                return DecimalRead::Over(Cursor {
-                    at: scan::run_end(s, i, b'0', b'9'),
-                });
-            }
-            value = value * 10 + d;
-            i += 1;
         }
         if i == start {
             return DecimalRead::NoDigit;
@@ -72,7 +80,7 @@ pub fn put_decimal(out: &mut [u8], at: usize, n: u64) -> usize
     let mut digits = [0u8; 20];
     let mut k: usize = 20;
     let mut rest = n;
-    while rest >= 10 {
+    while 10 <= rest {
         k -= 1;
         digits[k] = 48 + (rest % 10) as u8;
         rest /= 10;

@@ -45,7 +45,7 @@ pub fn put_unhex(out: &mut [u8], at: usize, t: &[u8]) -> usize
 {
     let mut i = 0;
     let mut o = at;
-    while 2 <= t.len() - i {
+    while i + 1 < t.len() {
         let high = value_of(t[i]) % 16;
         let low = value_of(t[i + 1]) % 16;
         o = store::put_byte(out, o, 16 * high + low);
