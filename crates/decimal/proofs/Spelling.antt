@@ -10,6 +10,7 @@ use native.Mathlib.Decide.{decLt, decLe, ℕ-discrete}
 use lib.ListN.{length, getD, length-append, List·getD-append}
 use borrow.Author.Tests.{lt-ltb, le-ltb}
 use Rattle.scan.specs.Span.{All, none, also}
+use Rattle.scan.proofs.AllLaws.{all-append}
 use Rattle.decimal.specs.Decimal.{Digit, digit, behind, numberOf, decimalIn, decimal}
 
 -- ---- the two steps of the spelling
@@ -98,11 +99,6 @@ ten-length n e = (
 )
 
 -- ---- the digits
-
--- lists of which each element has P, one behind the other
-pub all-append : {P : ℕ → Type 0} {l m : List ℕ} → All P l → All P m → All P (l ++ m)
-all-append none m = m
-all-append (also p l) m = also p (all-append l m)
 
 -- only digits are written
 pub decimal-digits : (n : ℕ) → All Digit (decimal n)

@@ -9,7 +9,7 @@ use lib.ListN.{length}
 use lib.Dec.{ltb, eqb}
 use borrow.Author.Tests.{lt-ltb, ltb-true, eq-eqb, ne-eqb, eqb-true, eqb-false}
 use Rattle.scan.specs.Choice.{pick}
-use Rattle.scan.specs.Span.{All, none, also}
+use Rattle.scan.specs.Span.{All, none, also, IsBytes}
 use Rattle.scan.proofs.Step.{pick-true, false-true}
 use Rattle.hex.specs.Hex.{Digit, valueOf, digitOf, hexes, unhex, allDigits, goesAsBytes}
 use Rattle.hex.proofs.Digits.{digit-value, value-digit, digit-written, value-of-digit, digit-of-value, digit-ascii}
@@ -22,7 +22,7 @@ length-hexes [] = refl
 length-hexes (b ∷ l) = omega (arith, length-hexes l)
 
 -- bytes are written as digits alone
-pub hexes-digits : {l : List ℕ} → All (λ (b : ℕ). b < 256) l → All Digit (hexes l)
+pub hexes-digits : {l : List ℕ} → IsBytes l → All Digit (hexes l)
 hexes-digits none = none
 hexes-digits (also {b = b} h r) = also (digit-written (b / 16) (omega arith)) (also (digit-written (b % 16) (omega arith)) (hexes-digits r))
 
@@ -32,7 +32,7 @@ hexes-append [] m = refl
 hexes-append (b ∷ l) m = rw (hexes-append l m)
 
 -- what is written as digits reads back
-pub unhex-hexes : {l : List ℕ} → All (λ (b : ℕ). b < 256) l → unhex (hexes l) ≡ l
+pub unhex-hexes : {l : List ℕ} → IsBytes l → unhex (hexes l) ≡ l
 unfolding unhex
 unhex-hexes none = refl
 unhex-hexes (also {b = b} h r) =
@@ -42,7 +42,7 @@ unhex-hexes (also {b = b} h r) =
     rw (unhex-hexes r, whole)
 
 -- two lists of bytes are never written alike
-pub hexes-injective : {l m : List ℕ} → All (λ (b : ℕ). b < 256) l → All (λ (b : ℕ). b < 256) m → hexes l ≡ hexes m → l ≡ m
+pub hexes-injective : {l m : List ℕ} → IsBytes l → IsBytes m → hexes l ≡ hexes m → l ≡ m
 hexes-injective p q e = sym (unhex-hexes p) ∙ ap unhex e ∙ unhex-hexes q
 
 -- ---- digits as bytes
@@ -55,7 +55,7 @@ length-unhex (a ∷ []) = refl
 length-unhex (a ∷ b ∷ t) = omega (arith, length-unhex t)
 
 -- every byte is below 256
-pub unhex-bytes : (t : List ℕ) → All (λ (b : ℕ). b < 256) (unhex t)
+pub unhex-bytes : (t : List ℕ) → IsBytes (unhex t)
 unfolding unhex
 unhex-bytes [] = none
 unhex-bytes (a ∷ []) = none
@@ -118,7 +118,7 @@ go-digits t h =
     (omega (arith, some), eqb-true (length t % 2) 0 (v .0), pass-digits t (v .1))
 
 -- bytes that are written go as bytes again
-pub hexes-go : {l : List ℕ} → 0 < length l → All (λ (b : ℕ). b < 256) l → goesAsBytes (hexes l) ≡ true
+pub hexes-go : {l : List ℕ} → 0 < length l → IsBytes l → goesAsBytes (hexes l) ≡ true
 hexes-go {l} some all = let n = length-hexes l in digits-go (omega arith) (omega arith) (hexes-digits all)
 
 -- a text of digits is ASCII
