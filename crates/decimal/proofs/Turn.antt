@@ -18,7 +18,8 @@ use Rattle.scan.proofs.Step.{false-true}
 use Rattle.scan.proofs.SpanLaws.{join, open-span, none-span, span-length}
 use Rattle.scan.proofs.PlaceLaws.{run-span}
 use Rattle.decimal.specs.Decimal.{Digit, digit, isDigit, behind, numberOf, Digits, number, over, digitsAt}
-use Rattle.decimal.proofs.Spelling.{all-append, behind-append, behind-grows}
+use Rattle.scan.proofs.AllLaws.{all-append}
+use Rattle.decimal.proofs.Spelling.{behind-append, behind-grows}
 use Rattle.decimal.proofs.Reading.{passes-digit, run-stops, accepts-number, accepts-over, accepts-none}
 
 -- what the two tests of a turn say
