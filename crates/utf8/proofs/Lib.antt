@@ -1,2 +1,3 @@
 pub mod WidthLaws
 pub mod Laws
+pub mod EncodeLaws

@@ -2,9 +2,11 @@
 ghost use Prim.Native.Nat.{_≤_};
 ghost use mathlib.Core.Path.{_≡_};
 ghost use lib.ListN.{length};
+ghost use Rattle.scan.specs.Place.{within};
 ghost use Rattle.store.specs.Store.{Wrote};
 ghost use Rattle.utf8.specs.Width.{secondLow, secondHigh, twoOf, threeOf, fourOf, widthOf, widthAt, isUtf8};
-ghost use Rattle.utf8.specs.Encode.{encode};
+ghost use Rattle.utf8.specs.Block.{highBytes, Passed, Walked};
+ghost use Rattle.utf8.specs.Encode.{tailOf, encode};
 
 // The lowest second byte behind a first byte of three or four.
 fn second_low(a: u8) -> u8
@@ -86,6 +88,7 @@ fn width_of(a: u8, b: u8, c: u8, d: u8) -> usize
 // The width of the sequence at a place, 1 to 4; 0 where it is ill-formed, is cut by the end, or where nothing stands.
 pub fn width_at(s: &[u8], at: usize) -> usize
     ensures { λ r. ⌜ r ≡ widthAt (now (s .entry)) at ⌝ }
+    ensures { λ r. ⌜ r ≤ 4 ⌝ }
 {
     if at < s.len() {
         let b = scan::byte_at(s, at + 1);
@@ -94,4 +97,145 @@ pub fn width_at(s: &[u8], at: usize) -> usize
         return width_of(s[at], b, c, d);
     }
     0
+}
+
+// How many bytes of a block are not ASCII. No exit on the way, and a sum in a byte: a loop for vectors.
+fn high_bytes(block: &[u8]) -> u8
+    requires { ⌜ length (now block) ≤ 64 ⌝ }
+    ensures { λ r. ⌜ r ≡ highBytes (now (block .entry)) ⌝ }
+{
+    let mut i = 0;
+    let mut n: u8 = 0;
+    while i < block.len() {
+        n += block[i] / 128;
+        i += 1;
+    }
+    n
+}
+
+// Passes blocks of ASCII from a place on: whole ones of 64 bytes, and the rest if it is all ASCII.
+fn pass_ascii(s: &[u8], at: usize) -> usize
+    requires { ⌜ at ≤ length (now s) ⌝ }
+    ensures { λ r. ⌜ Passed (now (s .entry)) at r ⌝ }
+{
+    let mut i = at;
+    while s.len() - i >= 64 {
+        let e = i + 64;
+        if high_bytes(&s[i..e]) != 0 {
+            return i;
+        }
+        i = e;
+    }
+    if high_bytes(&s[i..]) != 0 {
+        return i;
+    }
+    s.len()
+}
+
+// Passes sequence after sequence until at or past the place e, or until none stands.
+fn pass_sequences(s: &[u8], at: usize, e: usize) -> usize
+    requires { ⌜ at ≤ length (now s) ⌝ }
+    ensures { λ r. ⌜ Walked (now (s .entry)) at e r ⌝ }
+{
+    let mut i = at;
+    while i < e {
+        let w = width_at(s, i);
+        if w == 0 {
+            return i;
+        }
+        i += w;
+    }
+    i
+}
+
+// The end of the block of 64 bytes at a place, or the end of the n bytes.
+fn block_end(at: usize, n: usize) -> usize
+    requires { ⌜ at ≤ n ⌝ }
+    ensures { λ r. ⌜ r ≤ n ⌝ }
+    ensures { λ r. ⌜ at < n → at < r ⌝ }
+{
+    if n - at <= 64 { n } else { at + 64 }
+}
+
+// Whether a text is well-formed. Blocks of ASCII are passed whole; the block that stops them goes sequence by sequence.
+pub fn is_utf8(s: &[u8]) -> bool
+    ensures { λ r. ⌜ r ≡ isUtf8 (now (s .entry)) ⌝ }
+{
+    let mut i = 0;
+    while i < s.len() {
+        let b = pass_ascii(s, i);
+        let e = block_end(b, s.len());
+        i = pass_sequences(s, b, e);
+        if i < e {
+            return false;
+        }
+    }
+    true
+}
+
+// 10xxxxxx with the lowest six bits of n.
+fn tail_of(n: u32) -> u8
+    ensures { λ r. ⌜ r ≡ tailOf n ⌝ }
+{
+    (0x80 + n % 64) as u8
+}
+
+fn is_surrogate(n: u32) -> bool
+    ensures { λ r. ⌜ r ≡ within 0xD800 0xDFFF n ⌝ }
+{
+    if 0xD800 <= n {
+        return n <= 0xDFFF;
+    }
+    false
+}
+
+// How many bytes a scalar value takes; 0 for any other number.
+pub fn scalar_len(n: u32) -> usize
+    ensures { λ r. ⌜ r ≡ length (encode n) ⌝ }
+    ensures { λ r. ⌜ r ≤ 4 ⌝ }
+{
+    if n < 0x80 {
+        return 1;
+    }
+    if n < 0x800 {
+        return 2;
+    }
+    if is_surrogate(n) {
+        return 0;
+    }
+    if n < 0x10000 {
+        return 3;
+    }
+    if n < 0x110000 {
+        return 4;
+    }
+    0
+}
+
+// The bytes of a scalar value; none for any other number.
+pub fn put_scalar(out: &mut [u8], at: usize, n: u32) -> usize
+    ensures { λ r. ⌜ Wrote (now (out .entry)) at (encode n) (now (out .exit)) r ⌝ }
+{
+    if n < 0x80 {
+        return store::put_byte(out, at, n as u8);
+    }
+    if n < 0x800 {
+        let b = store::put_byte(out, at, (0xC0 + n / 64) as u8);
+        return store::put_byte(out, b, tail_of(n));
+    }
+    if is_surrogate(n) {
+        return at;
+    }
+    if n < 0x10000 {
+        let b = store::put_byte(out, at, (0xE0 + n / 4096) as u8);
+        let c = store::put_byte(out, b, tail_of(n / 64));
+        return store::put_byte(out, c, tail_of(n));
+    }
+    if n < 0x110000 {
+        let b = store::put_byte(out, at, (0xF0 + n / 262144) as u8);
+        let c = store::put_byte(out, b, tail_of(n / 4096));
+        let d = store::put_byte(out, c, tail_of(n / 64));
+        return store::put_byte(out, d, tail_of(n));
+    }
+    at
 }
