@@ -1,6 +1,6 @@
 -- One sequence: `widthAt` gives a width exactly where a `Char` of that length stands, and 0 elsewhere.
 -- One way by the rows of the grammar, each under its bounds; the other by a walk over the tests of `widthOf`.
-use Prim.Native.Nat.{ℕ, suc, _+_, _<_, _≤_}
+use Prim.Native.Nat.{ℕ, _+_, _-_, _<_, _≤_}
 use mathlib.Core.Path.{_≡_, refl, sym, ap, _∙_}
 use mathlib.Core.Bool.{Bool, true, false}
 use mathlib.Core.List.{List, [], _∷_, _++_}
@@ -241,9 +241,14 @@ width-most s a =
     dite (ℕ-discrete (widthAt s a) 0) (λ e. omega arith)
     (λ n. let u = width-consumes s a n in omega (arith, char-length (u .1)))
 
--- a sequence lies within the input
+-- a sequence lies within the input: its width is at most what is left
+pub width-left : (s : List ℕ) (a : ℕ) → widthAt s a ≤ length s - a
+width-left s a =
+    dite (ℕ-discrete (widthAt s a) 0) (λ e. omega arith)
+    (λ n. let u = width-consumes s a n in omega (arith, span-fits (u .2)))
+
 pub width-within : (s : List ℕ) (a : ℕ) → (widthAt s a ≡ 0 → ⊥) → a + widthAt s a ≤ length s
-width-within s a n = let u = width-consumes s a n in let h = width-place s a n in omega (arith, span-fits (u .2))
+width-within s a n = omega (arith, width-left s a, width-place s a n)
 
 -- an ASCII byte is a sequence of its own
 pub width-ascii : (s : List ℕ) (a : ℕ) → a < length s → getD s a 0 < 0x80 → widthAt s a ≡ 1

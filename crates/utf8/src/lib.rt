@@ -1,5 +1,5 @@
 // UTF-8 by RFC 3629: the check of a text, one sequence at a place, and the bytes of a scalar value.
-ghost use Prim.Native.Nat.{_≤_};
+ghost use Prim.Native.Nat.{_+_, _-_, _≤_, min};
 ghost use mathlib.Core.Path.{_≡_};
 ghost use lib.ListN.{length};
 ghost use Rattle.scan.specs.Place.{within};
@@ -89,6 +89,7 @@ fn width_of(a: u8, b: u8, c: u8, d: u8) -> usize
 pub fn width_at(s: &[u8], at: usize) -> usize
     ensures { λ r. ⌜ r ≡ widthAt (now (s .entry)) at ⌝ }
     ensures { λ r. ⌜ r ≤ 4 ⌝ }
+    ensures { λ r. ⌜ r ≤ length (now (s .entry)) - at ⌝ }
 {
     if at < s.len() {
         let b = scan::byte_at(s, at + 1);
@@ -151,8 +152,7 @@ fn pass_sequences(s: &[u8], at: usize, e: usize) -> usize
 // The end of the block of 64 bytes at a place, or the end of the n bytes.
 fn block_end(at: usize, n: usize) -> usize
     requires { ⌜ at ≤ n ⌝ }
-    ensures { λ r. ⌜ r ≤ n ⌝ }
-    ensures { λ r. ⌜ at < n → at < r ⌝ }
+    ensures { λ r. ⌜ r ≡ min (at + 64) n ⌝ }
 {
     if n - at <= 64 { n } else { at + 64 }
 }

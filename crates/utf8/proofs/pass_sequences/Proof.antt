@@ -1,42 +1,19 @@
+-- `pass_sequences` goes sequence by sequence. The invariant is that whole sequences were passed from the start to here.
+-- Each turn and each end is one law of `walks`; a width is at least 1, so what is left falls.
+use Prim.Native.Nat.{_-_}
+use native.Mathlib.Omega.{arith}
+use borrow.Author.Needs.{needs}
+use lib.ListN.{length}
+use Rattle.utf8.specs.Block.{Passed}
+use Rattle.utf8.proofs.BlockLaws.{passed-none, walks}
 use Rattle.utf8.proofs.pass_sequences.Statement.{statement}
 use Rattle.utf8.proofs.pass_sequences.Tie as tie
-use Rattle.utf8.proofs.pass_sequences.Reads as reads
-use Rattle.utf8.proofs.pass_sequences.Lts as lts
-use Rattle.utf8.proofs.width_at.Reads as width-at-reads
 
 abbrev Inv-loop : tie.InvT-loop
-Inv-loop s at e i₀ i = ?
+Inv-loop s at e i₀ i = Passed s i₀ i
 
 abbrev μ-loop : tie.MeasureT-loop
-μ-loop s at e i₀ i = ?
-
--- src/lib.rt:141:5
-loop-holds : tie.Need-loop-holds Inv-loop μ-loop
-loop-holds c = ?
-
--- src/lib.rt:142:13
-width-at-requires : tie.Need-width-at-requires Inv-loop μ-loop
-width-at-requires c κs = ?
-
--- src/lib.rt:144:13
-returns : tie.Need-returns Inv-loop μ-loop
-returns c = ?
-
--- src/lib.rt:146:9
-add-i : tie.Need-add-i Inv-loop μ-loop
-add-i c = ?
-
--- src/lib.rt:141:5
-loop-less : tie.Need-loop-less Inv-loop μ-loop
-loop-less c = ?
-
--- src/lib.rt:141:5
-loop-again : tie.Need-loop-again Inv-loop μ-loop
-loop-again c = ?
-
--- src/lib.rt:136:1
-returns-2 : tie.Need-returns-2 Inv-loop μ-loop
-returns-2 c = ?
+μ-loop s at e i₀ i = length s - i
 
 pub pass-sequences-spec : {M : Type 1} → statement M
 pass-sequences-spec =
@@ -44,10 +21,10 @@ pass-sequences-spec =
     (tie.spec
     Inv-loop
     μ-loop
-    loop-holds
-    width-at-requires
-    returns
-    add-i
-    loop-less
-    loop-again
-    returns-2)
+    (λ c. passed-none _ _ (omega arith))
+    (λ c κs. search needs)
+    (λ c. search walks)
+    (λ c. omega arith)
+    (λ c. omega arith)
+    (λ c. search walks)
+    (λ c. search walks))

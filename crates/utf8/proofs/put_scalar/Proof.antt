@@ -1,3 +1,6 @@
+use mathlib.Core.Path.{_≡_, sym, _∙_}
+use Rattle.store.proofs.Laws.{then, nothing}
+use Rattle.utf8.proofs.EncodeLaws.{encode-one, encode-two, encode-surrogate, encode-three, encode-four, encode-past}
 use borrow.Author.Needs.{needs}
 use Rattle.utf8.proofs.put_scalar.Statement.{statement}
 use Rattle.utf8.proofs.put_scalar.Tie as tie
@@ -21,7 +24,7 @@ same-length c = search needs
 
 -- src/lib.rt:220:9
 returns : tie.Need-returns
-returns c = ?
+returns c = let a = c .before .before .before .before .before .before .args in rw (encode-one (a .n) (c .before .before .before .before .if1 .taken)) (c .before .before .put-byte .ensures)
 
 -- src/lib.rt:223:43
 add-put-byte : tie.Need-add-put-byte
@@ -49,7 +52,7 @@ same-length-2 c = search needs
 
 -- src/lib.rt:224:9
 returns-2 : tie.Need-returns-2
-returns-2 c = ?
+returns-2 c = rw (encode-two (c .before .before .before .before .before .before .before .before .before .before .before .before .args .n) (c .before .before .before .before .before .before .before .before .before .before .if1 .left) (c .before .before .before .before .before .before .before .before .before .if2 .taken), ← c .before .before .before .tail-of .ensures) (then (c .before .before .before .before .before .before .before .put-byte2 .ensures) (c .before .before .put-byte3 .ensures))
 
 -- src/lib.rt:226:8
 is-surrogate-requires : tie.Need-is-surrogate-requires
@@ -57,7 +60,7 @@ is-surrogate-requires c κs = search needs
 
 -- src/lib.rt:227:9
 returns-3 : tie.Need-returns-3
-returns-3 c = ?
+returns-3 c = rw (encode-surrogate (c .before .before .before .before .before .args .n) (c .before .before .if2 .left) (sym (c .before .is-surrogate .ensures) ∙ c .if3 .taken)) nothing
 
 -- src/lib.rt:230:43
 add-put-byte-2 : tie.Need-add-put-byte-2
@@ -93,7 +96,10 @@ same-length-3 c = search needs
 
 -- src/lib.rt:232:9
 returns-4 : tie.Need-returns-4
-returns-4 c = ?
+returns-4 c =
+    let f = sym (c .before .before .before .before .before .before .before .before .before .before .before .before .before .before .before .before .is-surrogate .ensures) ∙ c .before .before .before .before .before .before .before .before .before .before .before .before .before .before .before .if3 .left in
+    rw (encode-three (c .before .before .before .before .before .before .before .before .before .before .before .before .before .before .before .before .before .before .before .before .args .n) (c .before .before .before .before .before .before .before .before .before .before .before .before .before .before .before .before .before .if2 .left) f (c .before .before .before .before .before .before .before .before .before .before .before .before .before .before .if4 .taken), ← c .before .before .before .before .before .before .before .before .tail-of2 .ensures, ← c .before .before .before .tail-of3 .ensures)
+    (then (then (c .before .before .before .before .before .before .before .before .before .before .before .before .put-byte4 .ensures) (c .before .before .before .before .before .before .before .put-byte5 .ensures)) (c .before .before .put-byte6 .ensures))
 
 -- src/lib.rt:235:43
 add-put-byte-3 : tie.Need-add-put-byte-3
@@ -137,11 +143,13 @@ same-length-4 c = search needs
 
 -- src/lib.rt:238:9
 returns-5 : tie.Need-returns-5
-returns-5 c = ?
+returns-5 c =
+    rw (encode-four (c .before .before .before .before .before .before .before .before .before .before .before .before .before .before .before .before .before .before .before .before .before .before .before .before .before .before .args .n) (c .before .before .before .before .before .before .before .before .before .before .before .before .before .before .before .before .before .before .before .before .if4 .left) (c .before .before .before .before .before .before .before .before .before .before .before .before .before .before .before .before .before .before .before .if5 .taken), ← c .before .before .before .before .before .before .before .before .before .before .before .before .before .tail-of4 .ensures, ← c .before .before .before .before .before .before .before .before .tail-of5 .ensures, ← c .before .before .before .tail-of6 .ensures)
+    (then (then (then (c .before .before .before .before .before .before .before .before .before .before .before .before .before .before .before .before .before .put-byte7 .ensures) (c .before .before .before .before .before .before .before .before .before .before .before .before .put-byte8 .ensures)) (c .before .before .before .before .before .before .before .put-byte9 .ensures)) (c .before .before .put-byte10 .ensures))
 
 -- src/lib.rt:216:1
 returns-6 : tie.Need-returns-6
-returns-6 c = ?
+returns-6 c = rw (encode-past (c .before .before .before .before .before .before .before .args .n) (c .if5 .left)) nothing
 
 pub put-scalar-spec : {M : Type 1} → statement M
 put-scalar-spec =

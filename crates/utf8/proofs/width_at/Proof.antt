@@ -1,62 +1,35 @@
+-- `width_at` reads the four bytes at its place and asks their width; past the end it is 0.
+-- The bounds are the laws `width-most` and `width-left`, said of the result.
+use Prim.Native.Nat.{_≤_}
+use mathlib.Core.Path.{_≡_, sym}
 use borrow.Author.Needs.{needs}
+use Rattle.utf8.specs.Width.{widthAt}
+use Rattle.utf8.proofs.WidthLaws.{width-here, width-none, width-most, width-left}
 use Rattle.utf8.proofs.width_at.Statement.{statement}
 use Rattle.utf8.proofs.width_at.Tie as tie
-use Rattle.utf8.proofs.width_at.Reads as reads
-use Rattle.utf8.proofs.width_at.Lts as lts
-use Rattle.scan.proofs.byte_at.Reads as byte-at-reads
-use Rattle.utf8.proofs.width_of.Reads as width-of-reads
 
--- src/lib.rt:94:34
-add-byte-at : tie.Need-add-byte-at
-add-byte-at c = search needs
-
--- src/lib.rt:94:13
-byte-at-requires : tie.Need-byte-at-requires
-byte-at-requires c κs = search needs
-
--- src/lib.rt:95:34
-add-byte-at-2 : tie.Need-add-byte-at-2
-add-byte-at-2 c = search needs
-
--- src/lib.rt:95:13
-byte-at-requires-2 : tie.Need-byte-at-requires-2
-byte-at-requires-2 c κs = search needs
-
--- src/lib.rt:96:34
-add-byte-at-3 : tie.Need-add-byte-at-3
-add-byte-at-3 c = search needs
-
--- src/lib.rt:96:13
-byte-at-requires-3 : tie.Need-byte-at-requires-3
-byte-at-requires-3 c κs = search needs
-
--- src/lib.rt:97:25
-shared-slice-read-width-of : tie.Need-shared-slice-read-width-of
-shared-slice-read-width-of c = search needs
-
--- src/lib.rt:97:9
-width-of-requires : tie.Need-width-of-requires
-width-of-requires c κs = search needs
-
--- src/lib.rt:97:9
 returns : tie.Need-returns
-returns c = ?
+returns c =
+    let a = c .before .before .before .before .before .before .before .args in
+    let e : c .width-of .result ≡ widthAt (a .s .now) (a .at) =
+        rw (width-here (a .s .now) (a .at) (c .before .before .before .before .before .if1 .taken), ← c .before .before .before .before .byte-at .ensures, ← c .before .before .before .byte-at2 .ensures, ← c .before .before .byte-at3 .ensures)
+        (c .width-of .ensures) in
+    (e, (rw e (width-most (a .s .now) (a .at)), rw e (width-left (a .s .now) (a .at))))
 
--- src/lib.rt:89:1
 returns-2 : tie.Need-returns-2
-returns-2 c = ?
+returns-2 c = let a = c .before .before .args in (sym (width-none (a .s .now) (a .at) (c .if1 .left)), (search needs, search needs))
 
 pub width-at-spec : {M : Type 1} → statement M
 width-at-spec =
     tie.close
     (tie.spec
-    add-byte-at
-    byte-at-requires
-    add-byte-at-2
-    byte-at-requires-2
-    add-byte-at-3
-    byte-at-requires-3
-    shared-slice-read-width-of
-    width-of-requires
+    (λ c. search needs)
+    (λ c κs. search needs)
+    (λ c. search needs)
+    (λ c κs. search needs)
+    (λ c. search needs)
+    (λ c κs. search needs)
+    (λ c. search needs)
+    (λ c κs. search needs)
     returns
     returns-2)
