@@ -34,6 +34,14 @@ fn second_high(a: u8) -> u8
     0xBF
 }
 
+// Whether b may stand second behind a first byte of three or four.
+fn is_second(a: u8, b: u8) -> bool
+    ensures { λ r. ⌜ r ≡ within (secondLow a) (secondHigh a) b ⌝ }
+{
+    scan::is_within(second_low(a), second_high(a), b)
+}
+
+// The width by the bytes behind the first, which says two, three or four.
 fn two_of(b: u8) -> usize
     ensures { λ r. ⌜ r ≡ twoOf b ⌝ }
 {
@@ -43,7 +51,7 @@ fn two_of(b: u8) -> usize
 fn three_of(a: u8, b: u8, c: u8) -> usize
     ensures { λ r. ⌜ r ≡ threeOf a b c ⌝ }
 {
-    if scan::is_within(second_low(a), second_high(a), b) {
+    if is_second(a, b) {
         if scan::is_within(0x80, 0xBF, c) {
             return 3;
         }
@@ -54,7 +62,7 @@ fn three_of(a: u8, b: u8, c: u8) -> usize
 fn four_of(a: u8, b: u8, c: u8, d: u8) -> usize
     ensures { λ r. ⌜ r ≡ fourOf a b c d ⌝ }
 {
-    if scan::is_within(second_low(a), second_high(a), b) {
+    if is_second(a, b) {
         if scan::is_within(0x80, 0xBF, c) {
             if scan::is_within(0x80, 0xBF, d) {
                 return 4;
@@ -64,6 +72,7 @@ fn four_of(a: u8, b: u8, c: u8, d: u8) -> usize
     0
 }
 
+// The width of the sequence that begins with the bytes a, b, c, d.
 fn width_of(a: u8, b: u8, c: u8, d: u8) -> usize
     ensures { λ r. ⌜ r ≡ widthOf a b c d ⌝ }
 {
@@ -91,18 +100,22 @@ pub fn width_at(s: &[u8], at: usize) -> usize
     ensures { λ r. ⌜ r ≤ 4 ⌝ }
     ensures { λ r. ⌜ r ≤ length (now (s .entry)) - at ⌝ }
 {
-    if at < s.len() {
-        let b = scan::byte_at(s, at + 1);
-        let c = scan::byte_at(s, at + 2);
-        let d = scan::byte_at(s, at + 3);
-        return width_of(s[at], b, c, d);
+    if s.len() <= at {
+        return 0;
     }
-    0
+    // ASCII, before any other byte is read
+    if s[at] < 0x80 {
+        return 1;
+    }
+    let b = scan::byte_at(s, at + 1);
+    let c = scan::byte_at(s, at + 2);
+    let d = scan::byte_at(s, at + 3);
+    width_of(s[at], b, c, d)
 }
 
 // How many bytes of a block are not ASCII. No exit on the way, and a sum in a byte: a loop for vectors.
 fn high_bytes(block: &[u8]) -> u8
-    requires { ⌜ length (now block) ≤ 64 ⌝ }
+    requires { ⌜ length (now block) ≤ 32 ⌝ }
     ensures { λ r. ⌜ r ≡ highBytes (now (block .entry)) ⌝ }
 {
     let mut i = 0;
@@ -114,14 +127,14 @@ fn high_bytes(block: &[u8]) -> u8
     n
 }
 
-// Passes blocks of ASCII from a place on: whole ones of 64 bytes, and the rest if it is all ASCII.
+// Passes blocks of ASCII from a place on: whole ones of 32 bytes, and the rest if it is all ASCII.
 fn pass_ascii(s: &[u8], at: usize) -> usize
     requires { ⌜ at ≤ length (now s) ⌝ }
     ensures { λ r. ⌜ Passed (now (s .entry)) at r ⌝ }
 {
     let mut i = at;
-    while s.len() - i >= 64 {
-        let e = i + 64;
+    while s.len() - i >= 32 {
+        let e = i + 32;
         if high_bytes(&s[i..e]) != 0 {
             return i;
         }
@@ -149,12 +162,12 @@ fn pass_sequences(s: &[u8], at: usize, e: usize) -> usize
     i
 }
 
-// The end of the block of 64 bytes at a place, or the end of the n bytes.
+// The end of the block of 32 bytes at a place, or the end of the n bytes.
 fn block_end(at: usize, n: usize) -> usize
     requires { ⌜ at ≤ n ⌝ }
-    ensures { λ r. ⌜ r ≡ min (at + 64) n ⌝ }
+    ensures { λ r. ⌜ r ≡ min (at + 32) n ⌝ }
 {
-    if n - at <= 64 { n } else { at + 64 }
+    if n - at <= 32 { n } else { at + 32 }
 }
 
 // Whether a text is well-formed. Blocks of ASCII are passed whole; the block that stops them goes sequence by sequence.
