@@ -1,0 +1,5 @@
+pub mod RowLaws
+pub mod WidthLaws
+pub mod Laws
+pub mod EncodeLaws
+pub mod BlockLaws
