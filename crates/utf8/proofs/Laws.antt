@@ -13,7 +13,7 @@ use lib.Seq.{getD-drop, drop-drop, drop-append-seam}
 use lib.Dec.{eqb}
 use borrow.Author.Tests.{eq-eqb, ne-eqb}
 use Rattle.scan.specs.Choice.{pick}
-use Rattle.scan.specs.Span.{All, none, also}
+use Rattle.scan.specs.Span.{All, none, also, IsBytes}
 use Rattle.scan.proofs.Step.{rest-none, rest-more, false-true}
 use Rattle.scan.proofs.SpanLaws.{from-span, to-span}
 use Rattle.utf8.specs.Utf8.{Octet, octet, Tail, Char, one, two, three-E0, three-E1, three-ED, three-EE, four-F0, four-F1, four-F4, Utf8, char}
@@ -129,6 +129,6 @@ char-bytes (four-F1 p q r t) = also (small p (omega arith)) (also (tail q) (also
 char-bytes (four-F4 p q r) = also {b = 0xF4} (omega arith) (also (small p (omega arith)) (also (tail q) (also (tail r) none)))
 
 -- each byte of a text is below 256
-pub utf8-bytes : {l : List ℕ} → Utf8 l → All (λ (b : ℕ). b < 256) l
+pub utf8-bytes : {l : List ℕ} → Utf8 l → IsBytes l
 utf8-bytes Utf8.none = none
 utf8-bytes (char g u) = all-append (char-bytes g) (utf8-bytes u)
