@@ -1,3 +1,5 @@
 pub mod Step
 pub mod SpanLaws
 pub mod PlaceLaws
+pub mod Reading
+pub mod AllLaws

@@ -3,7 +3,7 @@
 use Prim.Native.Nat.{ℕ, zero, suc, _+_, _-_, _<_, _≤_}
 use mathlib.Core.Path.{_≡_, refl, sym, ap, _∙_}
 use mathlib.Core.Bool.{Bool, true, false}
-use mathlib.Core.List.{List, [], _∷_, _++_}
+use mathlib.Core.List.{List, [], _∷_, _++_, append-nil}
 use mathlib.Core.Logic.{dite}
 use native.Mathlib.Nat.{add-zero}
 use native.Mathlib.Omega.{arith}
@@ -37,6 +37,13 @@ pub span-length : {s : List ℕ} {a c : ℕ} {l : List ℕ} → Span s a l c →
 span-length here = omega arith
 span-length (step h e p) = omega (arith, span-length p)
 
+-- a span cut behind its first n bytes
+pub cut-at : {s : List ℕ} {a c : ℕ} (l : List ℕ) {m : List ℕ} (n : ℕ) → length l ≡ n → Span s a (l ++ m) c → Span s a l (a + n) × Span s (a + n) m c
+cut-at {s} {a} {c} l {m} n e r = settle (cut l r)
+  where
+    settle : (b : ℕ) × Span s a l b × Span s b m c → Span s a l (a + n) × Span s (a + n) m c
+    settle q = let k : q .0 ≡ a + n = span-length (q .1) ∙ ap (λ (i : ℕ). a + i) e in (rw k at (q .1), rw k at (q .2))
+
 -- a span lies within the input, so its length is at most what is left
 pub span-fits : {s : List ℕ} {a c : ℕ} {l : List ℕ} → Span s a l c → length l ≤ length s - a
 span-fits here = omega arith
@@ -53,6 +60,10 @@ pub from-span : {s : List ℕ} {a c : ℕ} {l : List ℕ} → Span s a l c → d
 from-span here = refl
 from-span {s} {a} (step {b = b} {c = c} {l = l} h e p) = rest-more s a h ∙ ap (λ (x : ℕ). x ∷ drop (a + 1) s) e ∙ ap (λ (t : List ℕ). b ∷ t) (from-span p)
 
+-- the span of the whole input
+pub whole-span : {s l : List ℕ} → Span s 0 l (length s) → s ≡ l
+whole-span {s} {l} p = from-span p ∙ rw (rest-none s (length s) (omega arith)) (append-nil l)
+
 -- a byte that stands first in the rest
 pub place : (s : List ℕ) (a b : ℕ) (r : List ℕ) → drop a s ≡ b ∷ r → (a < length s) × (getD s a 0 ≡ b) × (drop (a + 1) s ≡ r)
 place s a b r q =
@@ -66,6 +77,10 @@ to-span s l r a q = go l a (a + length l) refl q
     go : (l : List ℕ) (a c : ℕ) → c ≡ a + length l → drop a s ≡ l ++ r → Span s a l c
     go [] a c e q = let f : c ≡ a = omega arith in rw f here
     go (b ∷ l) a c e q = let p = place s a b (l ++ r) q in step (p .0) (p .1) (go l (a + 1) c (omega arith) (p .2))
+
+-- the input is a span of itself
+pub input-span : (s : List ℕ) → Span s 0 s (length s)
+input-span s = let k : 0 + length s ≡ length s = omega arith in rw k at (to-span s s [] 0 (sym (append-nil s)))
 
 -- where a test that 0 does not pass is passed, the place is within the input
 pub seen : (p : ℕ → Bool) (s : List ℕ) (a : ℕ) → p 0 ≡ false → p (getD s a 0) ≡ true → a < length s

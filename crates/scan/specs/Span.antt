@@ -12,3 +12,7 @@ pub data Span (s : List ℕ) : ℕ → List ℕ → ℕ → Type 0 where
 pub data All {A : Type 0} (P : A → Type 0) : List A → Type 0 where
   none : All P []
   also : {b : A} {l : List A} → P b → All P l → All P (b ∷ l)
+
+-- a byte string: every number of it is a byte
+abbrev pub IsBytes : List ℕ → Type 0
+IsBytes = All (λ (b : ℕ). b < 256)

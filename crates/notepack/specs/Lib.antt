@@ -1,0 +1,4 @@
+pub mod Layout
+pub mod Strict
+pub mod Unpack
+pub mod Tally
