@@ -1,12 +1,12 @@
 -- What an event is (document 01, "The event"), and when it is valid. Assumes nothing.
-use Prim.Native.Nat.{ℕ, _≤_, _<_}
+use Prim.Native.Nat.{ℕ, _≤_}
 use mathlib.Core.Path.{_≡_}
 use mathlib.Core.Bool.{Bool, true, false}
 use mathlib.Core.List.{List, [], _∷_}
 use lib.ListN.{length}
 use lib.Dec.{eqb}
 use Rattle.scan.specs.Choice.{pick}
-use Rattle.scan.specs.Span.{All}
+use Rattle.scan.specs.Span.{All, IsBytes}
 use Rattle.utf8.specs.Utf8.{Utf8}
 
 -- a text is its bytes
@@ -29,7 +29,7 @@ pub record Event : Type 0 where
 -- n bytes
 pub record Bytes (n : ℕ) (l : List ℕ) : Type 0 where
   pub count : length l ≡ n
-  pub each : All (λ (b : ℕ). b < 256) l
+  pub each : IsBytes l
 
 -- one or more texts, up to 255, each well-formed
 pub record ValidTag (t : Tag) : Type 0 where

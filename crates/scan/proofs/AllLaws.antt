@@ -5,7 +5,7 @@ use mathlib.Core.Path.{_≡_, refl}
 use mathlib.Core.List.{List, [], _∷_, _++_}
 use native.Mathlib.Omega.{arith}
 use lib.ListN.{length, getD, take, drop}
-use Rattle.scan.specs.Span.{All, none, also, IsBytes}
+use Rattle.scan.specs.Span.{Span, here, step, All, none, also, IsBytes}
 
 pub all-map : {A : Type 0} {P Q : A → Type 0} {l : List A} → ((x : A) → P x → Q x) → All P l → All Q l
 all-map f none = none
@@ -31,3 +31,14 @@ all-drop (suc n) (also p a) = all-drop n a
 pub all-places : (s : List ℕ) → ((i : ℕ) → getD s i 0 < 256) → IsBytes s
 all-places [] f = none
 all-places (b ∷ s) f = also (f 0) (all-places s (λ i. f (suc i)))
+
+-- what holds of each element holds at each place
+pub all-at : {P : ℕ → Type 0} {s : List ℕ} (i : ℕ) → All P s → i < length s → P (getD s i 0)
+all-at i none h = absurd (omega arith)
+all-at zero (also y ys) h = y
+all-at (suc i) (also y ys) h = all-at i ys (omega arith)
+
+-- what holds of each element of the input holds of each of a span
+pub span-all : {P : ℕ → Type 0} {s : List ℕ} {a c : ℕ} {l : List ℕ} → All P s → Span s a l c → All P l
+span-all y here = none
+span-all {a = a} y (step h e p) = also (rw e at (all-at a y h)) (span-all y p)

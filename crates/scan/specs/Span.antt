@@ -13,6 +13,10 @@ pub data All {A : Type 0} (P : A → Type 0) : List A → Type 0 where
   none : All P []
   also : {b : A} {l : List A} → P b → All P l → All P (b ∷ l)
 
--- a byte string: every number of it is a byte
+-- a number that is a byte
+abbrev pub Byte : ℕ → Type 0
+Byte b = b < 256
+
+-- a byte string
 abbrev pub IsBytes : List ℕ → Type 0
-IsBytes = All (λ (b : ℕ). b < 256)
+IsBytes = All Byte

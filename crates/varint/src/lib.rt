@@ -1,5 +1,11 @@
 // Varints: ULEB128 in one to ten bytes, read at a cursor and written as short as can be.
 use event::Refusal;
+ghost use Prim.Native.Nat.{_≤_};
+ghost use mathlib.Core.Path.{_≡_};
+ghost use lib.ListN.{length};
+ghost use Rattle.store.specs.Store.{Wrote};
+ghost use Rattle.varint.specs.Uleb.{uleb};
+ghost use Rattle.varint.specs.Varint.{varintRead, varintAt, shortestAt};
 
 // A place in the input. A cursor past the end reads as the end.
 pub struct Cursor {
@@ -12,3 +18,84 @@ pub enum VarintRead {
     Refused(Refusal),
 }
 
+fn refuse(number: u8, place: usize) -> VarintRead
+    ensures { λ r. ⌜ r ≡ VarintRead.Refused (record { number = number; place = place }) ⌝ }
+{
+    VarintRead::Refused(Refusal { number, place })
+}
+
+impl Cursor {
+    // The varint at the cursor.
+    pub fn varint(self, s: &[u8]) -> VarintRead
+        ensures { λ r. ⌜ varintRead r ≡ varintAt (now (s .entry)) (self .at) ⌝ }
+    {
+        let start = self.at;
+        if s.len() <= start {
+            return refuse(event::TRUNCATED, start);
+        }
+        let mut value: u64 = 0;
+        let mut scale: u64 = 1;
+        let mut i: usize = start;
+        let mut left: usize = 9;
+        while 0 < left {
+            if s.len() <= i {
+                return refuse(event::VARINT_UNTERMINATED, start);
+            }
+            let b = s[i] as u64;
+            if b < 128 {
+                return VarintRead::Value(value + scale * b, Cursor { at: i + 1 });
+            }
+            value += scale * (b - 128);
+            scale *= 128;
+            i += 1;
+            left -= 1;
+        }
+        if s.len() <= i {
+            return refuse(event::VARINT_UNTERMINATED, start);
+        }
+        let b = s[i] as u64;
+        if b <= 1 {
+            return VarintRead::Value(value + scale * b, Cursor { at: i + 1 });
+        }
+        refuse(event::VARINT_OVERFLOW, start)
+    }
+
+    // Whether the varint at the cursor is spelled as short as it can be.
+    pub fn is_shortest(self, s: &[u8]) -> bool
+        ensures { λ r. ⌜ r ≡ shortestAt (now (s .entry)) (self .at) ⌝ }
+    {
+        let at = self.at;
+        let found = self.varint(s);
+        match found {
+            VarintRead::Value(n, next) => next.at == at + varint_len(n),
+            VarintRead::Refused(_) => false,
+        }
+    }
+}
+
+// The number of bytes of the shortest spelling.
+pub fn varint_len(n: u64) -> usize
+    ensures { λ r. ⌜ r ≡ length (uleb n) ⌝ }
+    ensures { λ r. ⌜ r ≤ 10 ⌝ }
+{
+    let mut k: usize = 1;
+    let mut rest = n;
+    while rest >= 128 {
+        k += 1;
+        rest /= 128;
+    }
+    k
+}
+
+// The shortest spelling, written.
+pub fn put_varint(out: &mut [u8], at: usize, n: u64) -> usize
+    ensures { λ r. ⌜ Wrote (now (out .entry)) at (uleb n) (now (out .exit)) r ⌝ }
+{
+    let mut o = at;
+    let mut rest = n;
+    while rest >= 128 {
+        o = store::put_byte(out, o, 128 + (rest % 128) as u8);
+        rest /= 128;
+    }
+    store::put_byte(out, o, rest as u8)
+}

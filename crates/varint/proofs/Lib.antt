@@ -1,0 +1,4 @@
+pub mod UlebLaws
+pub mod SpelledLaws
+pub mod VarintLaws
+pub mod Turn
