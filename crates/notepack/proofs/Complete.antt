@@ -14,6 +14,7 @@ use Rattle.scan.specs.Span.{Span, here, All, none, also}
 use Rattle.scan.proofs.SpanLaws.{cut, cut-at, none-span, span-length, span-fits, from-span, input-span}
 use Rattle.varint.specs.Uleb.{Spells}
 use Rattle.varint.specs.Varint.{varintAt}
+use Rattle.varint.proofs.VarintLaws.{accepts}
 use Rattle.utf8.specs.Utf8.{Utf8}
 use Rattle.utf8.specs.Width.{isUtf8}
 use Rattle.hex.specs.Hex.{hexes}
@@ -23,7 +24,7 @@ use Rattle.notepack.specs.declared.Part.{Part}
 use Rattle.notepack.specs.declared.Head.{Head}
 use Rattle.notepack.specs.Layout.{Element, as-text, as-bytes, Elements, TagLays, Tags, Lays}
 use Rattle.notepack.specs.Unpack.{partOf, bytesOf, textOf, payloadAt, textAt, numberAt, contentAt, elementAt, elementsAt, tagCountAt, tagAt, tagsAt, headAt, Packed, packedAt, eventOf, unpack}
-use Rattle.notepack.proofs.Assumed.{varint-full, utf8-complete}
+use Rattle.notepack.proofs.Assumed.{is-utf8}
 
 module _ {s : List ℕ} where
   -- the bytes of a span are the bytes of the part
@@ -36,11 +37,11 @@ module _ {s : List ℕ} where
 
   pub text-full : (place : ℕ) {a c : ℕ} {l : List ℕ} → Utf8 l → Span s a l c → textAt place (length l) s a ≡ read (partOf a (length l) false) c
   unfolding textAt
-  text-full place u r = rw (payload-full place false r, span-bytes r, utf8-complete u)
+  text-full place u r = rw (payload-full place false r, span-bytes r, is-utf8 _ .1 u)
 
   pub number-full : (max number : ℕ) {n a c : ℕ} {l : List ℕ} → Spells n l → n ≤ max → Span s a l c → numberAt max number s a ≡ read n c
   unfolding numberAt
-  number-full max number {n} d h r = rw (varint-full d r, le-leb n max h)
+  number-full max number {n} d h r = rw (accepts d r, le-leb n max h)
 
   -- an element is read as a part whose text it is
   pub element-full : {t l : List ℕ} {a c : ℕ} → Element t l → Utf8 t → Span s a l c → (p : Part) × (elementAt s a ≡ read p c) × (textOf s p ≡ t)
@@ -49,12 +50,12 @@ module _ {s : List ℕ} where
       let q = cut w r in
       let e : 2 * length t / 2 ≡ length t = omega arith in
       let odd : eqb (2 * length t % 2) 1 ≡ false = ne-eqb (2 * length t % 2) 1 (omega arith) in
-      (partOf (q .0) (length t) false, rw (varint-full d (q .1), odd, e) (text-full a u (q .2)), span-bytes (q .2))
+      (partOf (q .0) (length t) false, rw (accepts d (q .1), odd, e) (text-full a u (q .2)), span-bytes (q .2))
   element-full {a = a} (as-bytes {p = p} {w = w} b d) u r =
       let q = cut w r in
       let e : (2 * length p + 1) / 2 ≡ length p = omega arith in
       let odd : eqb ((2 * length p + 1) % 2) 1 ≡ true = eq-eqb ((2 * length p + 1) % 2) 1 (omega arith) in
-      (partOf (q .0) (length p) true, rw (varint-full d (q .1), odd, e) (payload-full a true (q .2)), ap hexes (span-bytes (q .2)))
+      (partOf (q .0) (length p) true, rw (accepts d (q .1), odd, e) (payload-full a true (q .2)), ap hexes (span-bytes (q .2)))
 
   pub elements-full : {ts : Tag} {l : List ℕ} {a c : ℕ} → Elements ts l → All Utf8 ts → Span s a l c
       → (ps : List Part) × (elementsAt (length ts) s a ≡ read ps c) × (map (textOf s) ps ≡ ts)
@@ -117,7 +118,7 @@ module _ {s : List ℕ} where
       , y
       , number-full 9_223_372_036_854_775 7 t (v .time) (rt .1)
       , number-full 65_535 6 k (v .kind16) (rk .1)
-      , varint-full z (rz .1)
+      , accepts z (rz .1)
       , text-full (rk .0) (v .text) (rc .1)
       , number-full 1_000 8 n (v .few) (rn .1)
       , ts .1

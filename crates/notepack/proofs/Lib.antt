@@ -1,3 +1,5 @@
 pub mod Assumed
+pub mod Piece
 pub mod Sound
 pub mod Complete
+pub mod StrictLaws

@@ -15,6 +15,8 @@ use Rattle.scan.proofs.Reading.{Reads, reads, fails, pick-reads, then-reads, fr
 use Rattle.scan.proofs.AllLaws.{all-take, all-drop}
 use Rattle.varint.specs.Uleb.{Spells}
 use Rattle.varint.specs.Varint.{varintAt}
+use Rattle.varint.proofs.VarintLaws.{varint-reads}
+use Rattle.hex.proofs.Texts.{hexes-digits, digits-ascii}
 use Rattle.utf8.specs.Utf8.{Utf8}
 use Rattle.utf8.specs.Width.{isUtf8}
 use Rattle.hex.specs.Hex.{hexes}
@@ -23,7 +25,10 @@ use Rattle.notepack.specs.declared.Part.{Part}
 use Rattle.notepack.specs.declared.Head.{Head}
 use Rattle.notepack.specs.Layout.{Element, as-text, as-bytes, Elements, TagLays, tag, Tags, Lays}
 use Rattle.notepack.specs.Unpack.{partOf, bytesOf, textOf, payloadAt, textAt, numberAt, contentAt, elementAt, elementsAt, tagCountAt, tagAt, tagsAt, headAt, Packed, packedAt, eventOf, unpack}
-use Rattle.notepack.proofs.Assumed.{varint-reads, utf8-sound, hexes-utf8}
+use Rattle.notepack.specs.Strict.{packElement, packElements, packTag, packTags, pack}
+use Rattle.notepack.specs.Tally.{isHollow, hollowIn, hollowTags}
+use Rattle.notepack.proofs.Piece.{Piece, whole, number, beside, text-piece, bytes-piece}
+use Rattle.notepack.proofs.Assumed.{is-utf8, utf8-ascii}
 
 -- a payload of n bytes at `at`: the part is these bytes
 pub record Payload (s : List ℕ) (at n : ℕ) (raw : Bool) (p : Part) (l : List ℕ) : Type 0 where
@@ -56,19 +61,13 @@ text-reads place n s at =
     then-reads _ (payload-reads place false n s at)
     (λ p l e g r.
     pick-reads (isUtf8 (bytesOf s p))
-    (λ t. reads (record { payload = g; text = rw (g .bytes) (rw (g .is) at (utf8-sound _ t)) }) r)
+    (λ t. reads (record { payload = g; text = rw (g .bytes) (rw (g .is) at (is-utf8 _ .0 t)) }) r)
     (λ f. fails))
 
 -- a number up to a maximum
 pub record Number (max : ℕ) (n : ℕ) (l : List ℕ) : Type 0 where
   pub spells : Spells n l
   pub within : n ≤ max
-
-pub number-reads : (max number : ℕ) (s : List ℕ) (at : ℕ) → Reads (Number max) s at (numberAt max number s at)
-unfolding numberAt
-number-reads max number s at =
-    then-reads _ (varint-reads s at)
-    (λ n l e g r. pick-reads (leb n max) (λ t. reads (record { spells = g; within = leb-true n max t }) r) (λ f. fails))
 
 -- a well-formed text behind its length
 pub data Sized (s : List ℕ) (p : Part) : List ℕ → Type 0 where
@@ -78,26 +77,34 @@ sized-text : {s : List ℕ} {p : Part} {l : List ℕ} → Sized s p l
     → (w : List ℕ) × (l ≡ w ++ textOf s p) × Utf8 (textOf s p) × Spells (length (textOf s p)) w
 sized-text (sized {t = t} {w = w} e u g) = (w, rw e, rw e u, rw e g)
 
-pub content-reads : (s : List ℕ) (at : ℕ) → Reads (Sized s) s at (contentAt s at)
-unfolding contentAt textOf
-content-reads s at =
-    then-reads _ (varint-reads s at)
-    (λ n w e g r.
-    from-reads (text-reads at n s e)
-    (λ p l f u q.
-    let v = u .payload in
-    let is = v .is in
-    reads (sized {w = w} (rw is (sym (v .bytes))) (u .text) (rw (v .long) g)) (join r q)))
-
--- an element, with its text well-formed
-pub data Laid (s : List ℕ) (p : Part) : List ℕ → Type 0 where
-  laid : {l : List ℕ} → Element (textOf s p) l → Utf8 (textOf s p) → Laid s p l
+-- an element, with its text well-formed, beside its strict form
+pub record Laid (s : List ℕ) (p : Part) (l : List ℕ) : Type 0 where
+  pub element : Element (textOf s p) l
+  pub text : Utf8 (textOf s p)
+  pub piece : Piece (packElement (textOf s p)) l (isHollow p)
 
 module _ (s : List ℕ) (bytes : IsBytes s) where
+  pub number-reads : (max number at : ℕ) → Reads (Number max) s at (numberAt max number s at)
+  unfolding numberAt
+  number-reads max number at =
+      then-reads _ (varint-reads s at bytes)
+      (λ n l e g r. pick-reads (leb n max) (λ t. reads (record { spells = g; within = leb-true n max t }) r) (λ f. fails))
+
+  pub content-reads : (at : ℕ) → Reads (Sized s) s at (contentAt s at)
+  unfolding contentAt textOf
+  content-reads at =
+      then-reads _ (varint-reads s at bytes)
+      (λ n w e g r.
+      from-reads (text-reads at n s e)
+      (λ p l f u q.
+      let v = u .payload in
+      let is = v .is in
+      reads (sized {w = w} (rw is (sym (v .bytes))) (u .text) (rw (v .long) g)) (join r q)))
+
   pub element-reads : (at : ℕ) → Reads (Laid s) s at (elementAt s at)
-  unfolding elementAt textOf
+  unfolding elementAt textOf isHollow
   element-reads at =
-      then-reads _ (varint-reads s at)
+      then-reads _ (varint-reads s at bytes)
       (λ n w e g r.
       pick-reads (eqb (n % 2) 1)
       (λ t.
@@ -108,7 +115,14 @@ module _ (s : List ℕ) (bytes : IsBytes s) where
       let word : n ≡ 2 * length l + 1 = omega (arith, v .long) in
       let b : IsBytes l = rw (v .bytes) (all-take (n / 2) (all-drop e bytes)) in
       let text : textOf s p ≡ hexes l = rw is (ap hexes (sym (v .bytes))) in
-      reads (laid (rw text (as-bytes b (rw word at g))) (rw text (hexes-utf8 b))) (join r q)))
+      let hollow : isHollow p ≡ eqb (length l) 0 = rw (is, v .long) in
+      reads
+      (record
+      { element = rw text (as-bytes b (rw word at g))
+      ; text = rw text (utf8-ascii (digits-ascii (hexes-digits b)))
+      ; piece = rw (text, hollow) (bytes-piece l b (rw word at g))
+      })
+      (join r q)))
       (λ k.
       from-reads (text-reads at (n / 2) s e)
       (λ p l f u q.
@@ -117,41 +131,49 @@ module _ (s : List ℕ) (bytes : IsBytes s) where
       let is = v .is in
       let word : n ≡ 2 * length l = omega (arith, v .long) in
       let text : textOf s p ≡ l = rw is (sym (v .bytes)) in
-      reads (laid (rw text (as-text (rw word at g))) (rw text (u .text))) (join r q))))
+      let hollow : isHollow p ≡ false = rw is in
+      reads
+      (record { element = rw text (as-text (rw word at g)); text = rw text (u .text); piece = rw (text, hollow) (text-piece l (rw word at g)) })
+      (join r q))))
 
   -- n elements
   pub record LaidAll (n : ℕ) (ps : List Part) (l : List ℕ) : Type 0 where
     pub elements : Elements (map (textOf s) ps) l
     pub texts : All Utf8 (map (textOf s) ps)
     pub count : length ps ≡ n
+    pub piece : Piece (packElements (map (textOf s) ps)) l (hollowIn ps)
 
   pub elements-reads : (n at : ℕ) → Reads (LaidAll n) s at (elementsAt n s at)
   unfolding elementsAt
-  elements-reads zero at = reads (record { elements = Elements.none; texts = All.none; count = refl }) here
+  elements-reads zero at = reads (record { elements = Elements.none; texts = All.none; count = refl; piece = whole }) here
   elements-reads (suc n) at =
       then-reads _ (element-reads at)
       (λ p l e g r.
       then-reads _ (elements-reads n e)
-      (λ ps m f h q. first p l g ps m h (join r q)))
-    where
-      first : (p : Part) (l : List ℕ) → Laid s p l → (ps : List Part) (m : List ℕ) → LaidAll n ps m → {f : ℕ} → Span s at (l ++ m) f
-          → Reads (LaidAll (suc n)) s at (read (p ∷ ps) f)
-      first p l (laid g u) ps m h r =
-          reads (record { elements = Elements.more g (h .elements); texts = also u (h .texts); count = ap suc (h .count) }) r
+      (λ ps m f h q.
+      reads
+      (record
+      { elements = Elements.more (g .element) (h .elements)
+      ; texts = also (g .text) (h .texts)
+      ; count = ap suc (h .count)
+      ; piece = beside (g .piece) (h .piece)
+      })
+      (join r q)))
 
   -- a tag: one to 255 elements behind their number
   pub record LaidTag (ps : List Part) (l : List ℕ) : Type 0 where
     pub tag : TagLays (map (textOf s) ps) l
     pub good : ValidTag (map (textOf s) ps)
+    pub piece : Piece (packTag (map (textOf s) ps)) l (hollowIn ps)
 
   pub count-reads : (at : ℕ) → Reads (λ (n : ℕ) (l : List ℕ). Number 255 n l × (1 ≤ n)) s at (tagCountAt s at)
   unfolding tagCountAt
   count-reads at =
-      then-reads _ (number-reads 255 8 s at)
+      then-reads _ (number-reads 255 8 at)
       (λ n l e g r. pick-reads (eqb n 0) (λ t. fails) (λ f. let h = eqb-false n 0 f in reads (g, omega arith) r))
 
   pub tag-reads : (at : ℕ) → Reads LaidTag s at (tagAt s at)
-  unfolding tagAt
+  unfolding tagAt packTag
   tag-reads at =
       then-reads _ (count-reads at)
       (λ n w e g r.
@@ -159,7 +181,7 @@ module _ (s : List ℕ) (bytes : IsBytes s) where
       (λ ps l f h q.
       let c : length (map (textOf s) ps) ≡ n = length-map ps (textOf s) ∙ h .count in
       reads
-      (record { tag = TagLays.tag {w = w} (rw c (g .0 .spells)) (h .elements); good = record { one = rw c (g .1); few = rw c (g .0 .within); texts = h .texts } })
+      (record { tag = TagLays.tag {w = w} (rw c (g .0 .spells)) (h .elements); good = record { one = rw c (g .1); few = rw c (g .0 .within); texts = h .texts }; piece = beside (number {l = w} (rw c (g .0 .spells))) (h .piece) })
       (join r q)))
 
   -- n tags
@@ -167,16 +189,17 @@ module _ (s : List ℕ) (bytes : IsBytes s) where
     pub tags : Tags (map (map (textOf s)) ts) l
     pub good : All ValidTag (map (map (textOf s)) ts)
     pub count : length ts ≡ n
+    pub piece : Piece (packTags (map (map (textOf s)) ts)) l (hollowTags ts)
 
   pub tags-reads : (n at : ℕ) → Reads (LaidTags n) s at (tagsAt n s at)
   unfolding tagsAt
-  tags-reads zero at = reads (record { tags = Tags.none; good = All.none; count = refl }) here
+  tags-reads zero at = reads (record { tags = Tags.none; good = All.none; count = refl; piece = whole }) here
   tags-reads (suc n) at =
       then-reads _ (tag-reads at)
       (λ p l e g r.
       then-reads _ (tags-reads n e)
       (λ ps m f h q.
-      reads (record { tags = Tags.more (g .tag) (h .tags); good = also (g .good) (h .good); count = ap suc (h .count) }) (join r q)))
+      reads (record { tags = Tags.more (g .tag) (h .tags); good = also (g .good) (h .good); count = ap suc (h .count); piece = beside (g .piece) (h .piece) }) (join r q)))
 
   -- all in front of the tags, piece by piece
   pub record Headed (h : Head) : Type 0 where
@@ -198,13 +221,13 @@ module _ (s : List ℕ) (bytes : IsBytes s) where
       (λ _ _ k q u.
       read-gives _ (payload-reads 64 true 64 s 64)
       (λ _ _ g v w.
-      read-gives _ (number-reads 9_223_372_036_854_775 7 s 128)
+      read-gives _ (number-reads 9_223_372_036_854_775 7 128)
       (λ t lt et gt rt.
-      read-gives _ (number-reads 65_535 6 s et)
+      read-gives _ (number-reads 65_535 6 et)
       (λ n ln en gn rn.
-      read-gives _ (content-reads s en)
+      read-gives _ (content-reads en)
       (λ c lc ec gc rc.
-      read-gives _ (number-reads 1_000 8 s ec)
+      read-gives _ (number-reads 1_000 8 ec)
       (λ m lm em gm rm.
       gives
       (record
@@ -219,24 +242,26 @@ module _ (s : List ℕ) (bytes : IsBytes s) where
       }))))))))
 
   -- what the whole input shows
-  pub record Sound (e : Event) : Type 0 where
-    pub lays : Lays e s
-    pub valid : Valid e
+  pub record Sound (p : Packed) : Type 0 where
+    pub lays : Lays (eventOf s p) s
+    pub valid : Valid (eventOf s p)
     pub short : length s ≤ 65_536
+    pub piece : Piece (pack (eventOf s p)) s (hollowTags (p .tags))
 
   sound-packed : (h : Head) → Headed h → (ts : List (List Part)) (l : List ℕ) → LaidTags (h .«tag_count») ts l → Span s (h .«tags_at») l (length s)
-      → length s ≤ 65_536 → Sound (eventOf s (record { head = h; tags = ts }))
-  unfolding eventOf
+      → length s ≤ 65_536 → Sound (record { head = h; tags = ts })
+  unfolding eventOf pack
   sound-packed h d ts l g r k =
       let c = sized-text (d .content .2) in
       let q = cut (c .0) (rw (c .1) at (d .content .3)) in
       let n : length (map (map (textOf s)) ts) ≡ h .«tag_count» = length-map ts (map (textOf s)) ∙ g .count in
+      let count : Spells (length (map (map (textOf s)) ts)) (d .count .0) = rw n (d .count .1 .spells) in
       let behind = join (d .time .3) (join (d .kind .3) (join (q .1) (join (q .2) (join (d .count .2) r)))) in
       let all = whole-span (join (d .id) (join (d .pubkey) (join (d .sig) behind))) in
       record
       { lays =
           subst (λ (x : List ℕ). Lays (eventOf s (record { head = h; tags = ts })) x) (sym all)
-          (Lays.lays {count = d .count .0} (d .time .2 .spells) (d .kind .2 .spells) (c .3) (rw n (d .count .1 .spells)) (g .tags))
+          (Lays.lays (d .time .2 .spells) (d .kind .2 .spells) (c .3) count (g .tags))
       ; valid =
           record
           { id32 = record { count = d .ids .0; each = all-take 32 bytes }
@@ -249,9 +274,17 @@ module _ (s : List ℕ) (bytes : IsBytes s) where
           ; text = c .2
           }
       ; short = k
+      ; piece =
+          subst (λ (x : List ℕ). Piece (pack (eventOf s (record { head = h; tags = ts }))) x (hollowTags ts)) (sym all)
+          (beside (whole {l = take 32 s})
+          (beside (whole {l = take 32 (drop 32 s)})
+          (beside (whole {l = take 64 (drop 64 s)})
+          (beside (number (d .time .2 .spells))
+          (beside (number (d .kind .2 .spells))
+          (beside (number (c .3)) (beside (whole {l = textOf s (h .content)}) (beside (number count) (g .piece)))))))))
       }
 
-  pub packed-gives : Gives (λ (p : Packed). Sound (eventOf s p)) (packedAt s)
+  pub packed-gives : Gives Sound (packedAt s)
   unfolding packedAt
   packed-gives =
       pick-gives (leb (length s) 65_536)
@@ -265,10 +298,17 @@ module _ (s : List ℕ) (bytes : IsBytes s) where
       (λ f. lacks))))
       (λ f. lacks)
 
--- Sound: the event that packed bytes show is valid, and the bytes lay it out within the limit.
-pub sound : (s : List ℕ) → IsBytes s → (e : Event) → unpack s ≡ shown e → Lays e s × Valid e × (length s ≤ 65_536)
+-- Sound: the event that packed bytes show is valid, the bytes lay it out within the limit, and its strict form is no longer than they are.
+pub record Shows (s : List ℕ) (e : Event) : Type 0 where
+  pub lays : Lays e s
+  pub valid : Valid e
+  pub short : length s ≤ 65_536
+  pub least : length (pack e) ≤ length s
+
+pub sound : (s : List ℕ) → IsBytes s → (e : Event) → unpack s ≡ shown e → Shows s e
 unfolding unpack
 sound s bytes e h =
-    let g = then-gives {Q = Sound s bytes} _ (packed-gives s bytes) (λ p k. gives k) in
-    let r = shown-gives (rw h at g) in
-    (r .lays, r .valid, r .short)
+    let g =
+        then-gives {Q = Shows s} _ (packed-gives s bytes)
+        (λ p k. gives (record { lays = k .lays; valid = k .valid; short = k .short; least = k .piece .least })) in
+    shown-gives (rw h at g)

@@ -1,8 +1,8 @@
 -- The layout of notepack (document 01, "Notepack layout"): which bytes lay out which event, with any spelling of each varint. Says nothing of refusals. Assumes nothing.
-use Prim.Native.Nat.{ℕ, _+_, _*_, _<_}
+use Prim.Native.Nat.{ℕ, _+_, _*_}
 use mathlib.Core.List.{List, [], _∷_, _++_}
 use lib.ListN.{length}
-use Rattle.scan.specs.Span.{All}
+use Rattle.scan.specs.Span.{IsBytes}
 use Rattle.varint.specs.Uleb.{Spells}
 use Rattle.hex.specs.Hex.{hexes}
 use Rattle.event.specs.Event.{Text, Tag, Event}
@@ -12,7 +12,7 @@ pub data Element : Text → List ℕ → Type 0 where
   -- b = 0: the bytes are the text
   as-text : {t w : List ℕ} → Spells (2 * length t) w → Element t (w ++ t)
   -- b = 1: the text is the lowercase hex of the bytes
-  as-bytes : {p w : List ℕ} → All (λ (b : ℕ). b < 256) p → Spells (2 * length p + 1) w → Element (hexes p) (w ++ p)
+  as-bytes : {p w : List ℕ} → IsBytes p → Spells (2 * length p + 1) w → Element (hexes p) (w ++ p)
 
 -- elements, one after the other
 pub data Elements : Tag → List ℕ → Type 0 where

@@ -2,3 +2,4 @@ pub mod Layout
 pub mod Strict
 pub mod Unpack
 pub mod Tally
+pub mod Answers

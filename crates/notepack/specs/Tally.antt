@@ -1,48 +1,44 @@
--- What one pass over a packed event measures besides: the length of the strict form, and whether an element is raw and empty. Assumes nothing.
+-- What one pass over a packed event measures besides: the length of the strict form, and whether an element is hollow. Assumes nothing.
 use Prim.Native.Nat.{ℕ, _+_}
 use mathlib.Core.Bool.{Bool, true, false}
-use mathlib.Core.List.{List, [], _∷_}
+use mathlib.Core.List.{List, [], _∷_, map}
 use lib.ListN.{length}
 use lib.Dec.{eqb}
-use Rattle.scan.specs.Choice.{pick, Answer, shown, Read, read, andThen}
-use Rattle.varint.specs.Uleb.{uleb}
+use Rattle.scan.specs.Choice.{pick, either, Answer, shown, Read, read, andThen}
 use Rattle.notepack.specs.declared.Part.{Part}
-use Rattle.notepack.specs.declared.Head.{Head}
 use Rattle.notepack.specs.declared.Tally.{Tally}
-use Rattle.notepack.specs.Strict.{packElement}
-use Rattle.notepack.specs.Unpack.{textOf, elementsAt, tagsAt, Packed, packedAt}
+use Rattle.notepack.specs.Strict.{packElement, packElements, packTag, packTags, pack}
+use Rattle.notepack.specs.Unpack.{textOf, elementsAt, tagAt, tagsAt, Packed, packedAt, eventOf}
 
--- the strict length of a part's text
-unfoldable pub partLen : List ℕ → Part → ℕ
-partLen s p = length (packElement (textOf s p))
-
--- raw and of length 0: its strict spelling 00 is as long as it is, but another
+-- raw and of length 0: its word 01 is as long as the strict 00, but another
 unfoldable pub isHollow : Part → Bool
 isHollow p = pick (p .raw) (eqb (p .len) 0) false
 
--- n bytes more
-abbrev pub longer : ℕ → Tally → Tally
-longer n t = record { len = t .len + n; hollow = t .hollow }
+abbrev pub hollowIn : List Part → Bool
+hollowIn [] = false
+hollowIn (p ∷ ps) = either (isHollow p) (hollowIn ps)
 
-unfoldable pub tallyPart : List ℕ → Part → Tally → Tally
-tallyPart s p t = record { len = t .len + partLen s p; hollow = pick (isHollow p) true (t .hollow) }
+abbrev pub hollowTags : List (List Part) → Bool
+hollowTags [] = false
+hollowTags (ps ∷ ts) = either (hollowIn ps) (hollowTags ts)
 
-abbrev pub tallyParts : List ℕ → List Part → Tally → Tally
-tallyParts s [] t = t
-tallyParts s (p ∷ ps) t = tallyParts s ps (tallyPart s p t)
+-- n bytes more of the strict form
+abbrev pub more : Tally → ℕ → Bool → Tally
+more t n hollow = record { len = t .len + n; hollow = either (t .hollow) hollow }
 
--- a tag: its count, then its elements
-abbrev pub tallyTag : List ℕ → List Part → Tally → Tally
-tallyTag s ps t = tallyParts s ps (longer (length (uleb (length ps))) t)
+-- elements, a tag and tags as they are passed over: the tally with theirs, and the place behind them
+abbrev pub passElement : List ℕ → Tally → Read Part → Answer (Read Tally)
+passElement s t e = read (more t (length (packElement (textOf s (e .value)))) (isHollow (e .value))) (e .next)
 
-abbrev pub tallyTags : List ℕ → List (List Part) → Tally → Tally
-tallyTags s [] t = t
-tallyTags s (ps ∷ ts) t = tallyTags s ts (tallyTag s ps t)
+abbrev pub passElements : List ℕ → Tally → Read (List Part) → Answer (Read Tally)
+passElements s t es = read (more t (length (packElements (map (textOf s) (es .value)))) (hollowIn (es .value))) (es .next)
 
--- the strict length of all in front of the tags
-unfoldable pub headLen : Head → ℕ
-headLen h =
-    128 + length (uleb (h .«created_at»)) + length (uleb (h .kind)) + length (uleb (h .content .len)) + h .content .len + length (uleb (h .«tag_count»))
+abbrev pub passTag : List ℕ → Tally → Read (List Part) → Answer (Read Tally)
+passTag s t ts = read (more t (length (packTag (map (textOf s) (ts .value)))) (hollowIn (ts .value))) (ts .next)
 
-abbrev pub tallyPacked : List ℕ → Packed → Tally
-tallyPacked s p = tallyTags s (p .tags) (record { len = headLen (p .head); hollow = false })
+abbrev pub passTags : List ℕ → Tally → Read (List (List Part)) → Answer (Read Tally)
+passTags s t ts = read (more t (length (packTags (map (map (textOf s)) (ts .value)))) (hollowTags (ts .value))) (ts .next)
+
+-- the tally of a whole packed event
+abbrev pub tallyOf : List ℕ → Packed → Tally
+tallyOf s p = record { len = length (pack (eventOf s p)); hollow = hollowTags (p .tags) }

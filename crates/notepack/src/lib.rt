@@ -1,3 +1,4 @@
+use event::Refusal;
 pub struct Cursor {
     pub at: usize,
 }
@@ -22,5 +23,15 @@ pub struct Head {
 pub struct Tally {
     pub len: usize,
     pub hollow: bool,
+}
+
+pub enum PartRead {
+    Found(Part, Cursor),
+    Refused(Refusal),
+}
+
+pub enum NumberRead {
+    Number(u64, Cursor),
+    Refused(Refusal),
 }
 

@@ -7,10 +7,10 @@ abbrev pub pick : {A : Type 0} → Bool → A → A → A
 pick true a b = a
 pick false a b = b
 
--- both tests hold
-abbrev pub both : Bool → Bool → Bool
-both true b = b
-both false b = false
+-- one of two tests holds
+abbrev pub either : Bool → Bool → Bool
+either true b = true
+either false b = b
 
 -- What a reader tells: a value, or a refusal by its number and its place (document 01, "Numbers of refusal").
 pub data Answer (A : Type 0) : Type 0 where
