@@ -17,6 +17,7 @@ use Rattle.varint.specs.Varint.{varintAt}
 use Rattle.varint.proofs.VarintLaws.{accepts}
 use Rattle.utf8.specs.Utf8.{Utf8}
 use Rattle.utf8.specs.Width.{isUtf8}
+use Rattle.utf8.proofs.Laws.{is-utf8}
 use Rattle.hex.specs.Hex.{hexes}
 use Rattle.event.specs.Event.{Text, Tag, Event, ValidTag, Valid}
 use Rattle.event.proofs.Laws.{all-seven}
@@ -24,7 +25,6 @@ use Rattle.notepack.specs.declared.Part.{Part}
 use Rattle.notepack.specs.declared.Head.{Head}
 use Rattle.notepack.specs.Layout.{Element, as-text, as-bytes, Elements, TagLays, Tags, Lays}
 use Rattle.notepack.specs.Unpack.{partOf, bytesOf, textOf, payloadAt, textAt, numberAt, contentAt, elementAt, elementsAt, tagCountAt, tagAt, tagsAt, headAt, Packed, packedAt, eventOf, unpack}
-use Rattle.notepack.proofs.Assumed.{is-utf8}
 
 module _ {s : List ℕ} where
   -- the bytes of a span are the bytes of the part

@@ -1,5 +1,6 @@
-pub mod Assumed
 pub mod Piece
 pub mod Sound
 pub mod Complete
 pub mod StrictLaws
+pub mod Lengths
+pub mod Passing

@@ -19,6 +19,7 @@ use Rattle.varint.proofs.VarintLaws.{varint-reads}
 use Rattle.hex.proofs.Texts.{hexes-digits, digits-ascii}
 use Rattle.utf8.specs.Utf8.{Utf8}
 use Rattle.utf8.specs.Width.{isUtf8}
+use Rattle.utf8.proofs.Laws.{is-utf8, utf8-ascii}
 use Rattle.hex.specs.Hex.{hexes}
 use Rattle.event.specs.Event.{Text, Tag, Event, ValidTag, Valid}
 use Rattle.notepack.specs.declared.Part.{Part}
@@ -28,7 +29,6 @@ use Rattle.notepack.specs.Unpack.{partOf, bytesOf, textOf, payloadAt, te
 use Rattle.notepack.specs.Strict.{packElement, packElements, packTag, packTags, pack}
 use Rattle.notepack.specs.Tally.{isHollow, hollowIn, hollowTags}
 use Rattle.notepack.proofs.Piece.{Piece, whole, number, beside, text-piece, bytes-piece}
-use Rattle.notepack.proofs.Assumed.{is-utf8, utf8-ascii}
 
 -- a payload of n bytes at `at`: the part is these bytes
 pub record Payload (s : List ℕ) (at n : ℕ) (raw : Bool) (p : Part) (l : List ℕ) : Type 0 where

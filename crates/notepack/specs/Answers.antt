@@ -10,6 +10,8 @@ use Rattle.notepack.specs.declared.PartRead.{PartRead}
 use Rattle.notepack.specs.declared.PartRead.the-variants as part
 use Rattle.notepack.specs.declared.NumberRead.{NumberRead}
 use Rattle.notepack.specs.declared.NumberRead.the-variants as number
+use Rattle.notepack.specs.declared.Pass.{Pass}
+use Rattle.notepack.specs.declared.Pass.the-variants as pass-by
 
 -- a part with the place behind it, or the refusal
 abbrev pub partRead : PartRead → Answer (Read Part)
@@ -20,3 +22,8 @@ partRead (part.Refused r) = told r
 abbrev pub numberRead : NumberRead → Answer (Read ℕ)
 numberRead (number.Number n c) = read n (c .at)
 numberRead (number.Refused r) = told r
+
+-- a tally with the place behind what was passed over, or the refusal
+abbrev pub pass : Pass → Answer (Read Tally)
+pass (pass-by.Done t c) = read t (c .at)
+pass (pass-by.Refused r) = told r

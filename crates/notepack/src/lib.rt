@@ -1,4 +1,18 @@
+// Notepack: the form in which the box holds a record. One pass reads it, checks it and measures its strict form.
 use event::Refusal;
+use varint::VarintRead;
+
+ghost use Prim.Native.Nat.{_≤_, _<_, _+_, _-_, _^_};
+ghost use mathlib.Core.Path.{_≡_};
+ghost use lib.ListN.{length};
+ghost use Rattle.scan.specs.Choice.{andThen};
+ghost use Rattle.hex.specs.Hex.{hexes};
+ghost use Rattle.notepack.specs.Strict.{packElement};
+ghost use Rattle.notepack.specs.Unpack.{textOf, payloadAt, textAt, numberAt, contentAt, elementAt, elementsAt, tagCountAt, tagAt, tagsAt};
+ghost use Rattle.notepack.specs.Tally.{isHollow, more, passElements, passTag, passTags};
+ghost use Rattle.notepack.specs.Answers.{partRead, numberRead, pass};
+
+// A place in the input. A cursor past the end reads as the end.
 pub struct Cursor {
     pub at: usize,
 }
@@ -35,3 +49,247 @@ pub enum NumberRead {
     Refused(Refusal),
 }
 
+pub enum HeadRead {
+    Found(Head),
+    Refused(Refusal),
+}
+
+// Passed over, with the cursor behind and the tally so far; or the refusal.
+pub enum Pass {
+    Done(Tally, Cursor),
+    Refused(Refusal),
+}
+
+// A whole packed event, with the tally of its strict form; or the refusal.
+pub enum Walk {
+    Done(Head, Tally),
+    Refused(Refusal),
+}
+
+// How many bytes stand from a place on.
+fn rest(s: &[u8], at: usize) -> usize
+    ensures { λ r. ⌜ r ≡ length (now (s .entry)) - at ⌝ }
+{
+    if at < s.len() { s.len() - at } else { 0 }
+}
+
+impl Cursor {
+    // n bytes. A length beyond the rest is refused at the place of that length.
+    pub fn payload(self, s: &[u8], place: usize, raw: bool, n: u64) -> PartRead
+        ensures { λ r. ⌜ partRead r ≡ payloadAt place raw n (now (s .entry)) (self .at) ⌝ }
+    {
+        let at = self.at;
+        let len = n as usize;
+        if len <= rest(s, at) {
+            return PartRead::Found(Part { at, len, raw }, Cursor { at: at + len });
+        }
+        PartRead::Refused(Refusal {
+            number: event::TRUNCATED,
+            place,
+        })
+    }
+
+    // n bytes of well-formed text.
+    pub fn text(self, s: &[u8], place: usize, n: u64) -> PartRead
+        ensures { λ r. ⌜ partRead r ≡ textAt place n (now (s .entry)) (self .at) ⌝ }
+    {
+        let at = self.at;
+        let found = self.payload(s, place, false, n);
+        let PartRead::Found(p, next) = found else {
+            return found;
+        };
+        if utf8::is_utf8(scan::part(s, p.at, p.len)) {
+            return found;
+        }
+        PartRead::Refused(Refusal {
+            number: event::ILL_FORMED_UTF8,
+            place: at,
+        })
+    }
+
+    // A number up to max; above it the refusal has the number given.
+    pub fn number(self, s: &[u8], max: u64, refusal: u8) -> NumberRead
+        ensures { λ r. ⌜ numberRead r ≡ numberAt max refusal (now (s .entry)) (self .at) ⌝ }
+    {
+        let at = self.at;
+        let found = varint::Cursor { at }.varint(s);
+        match found {
+            VarintRead::Value(n, behind) => {
+                if n <= max {
+                    return NumberRead::Number(n, Cursor { at: behind.at });
+                }
+                NumberRead::Refused(Refusal {
+                    number: refusal,
+                    place: at,
+                })
+            }
+            VarintRead::Refused(r) => NumberRead::Refused(r),
+        }
+    }
+
+    // The content: its length, then its text.
+    pub fn content(self, s: &[u8]) -> PartRead
+        ensures { λ r. ⌜ partRead r ≡ contentAt (now (s .entry)) (self .at) ⌝ }
+    {
+        let at = self.at;
+        let found = varint::Cursor { at }.varint(s);
+        match found {
+            VarintRead::Value(n, behind) => Cursor { at: behind.at }.text(s, at, n),
+            VarintRead::Refused(r) => PartRead::Refused(r),
+        }
+    }
+
+    // An element: the varint 2 × length + b, then its payload.
+    pub fn element(self, s: &[u8]) -> PartRead
+        ensures { λ r. ⌜ partRead r ≡ elementAt (now (s .entry)) (self .at) ⌝ }
+    {
+        let at = self.at;
+        let found = varint::Cursor { at }.varint(s);
+        match found {
+            VarintRead::Value(word, behind) => {
+                let c = Cursor { at: behind.at };
+                if word % 2 == 1 {
+                    return c.payload(s, at, true, word / 2);
+                }
+                c.text(s, at, word / 2)
+            }
+            VarintRead::Refused(r) => PartRead::Refused(r),
+        }
+    }
+
+    // The number of elements of a tag.
+    pub fn tag_count(self, s: &[u8]) -> NumberRead
+        ensures { λ r. ⌜ numberRead r ≡ tagCountAt (now (s .entry)) (self .at) ⌝ }
+    {
+        let at = self.at;
+        let found = self.number(s, event::MAX_TEXTS, event::TOO_MANY);
+        let NumberRead::Number(n, next) = found else {
+            return found;
+        };
+        if n == 0 {
+            return NumberRead::Refused(Refusal {
+                number: event::EMPTY_TAG,
+                place: at,
+            });
+        }
+        found
+    }
+
+    // count elements, one after the other, added to the tally.
+    fn pass_elements(self, s: &[u8], count: u64, t: Tally) -> Pass
+        requires { ⌜ t .len ≤ self .at ⌝ }
+        ensures { λ r. ⌜ pass r ≡ andThen (elementsAt count (now (s .entry)) (self .at)) (passElements (now (s .entry)) t) ⌝ }
+    {
+        let mut c = self;
+        let mut sum = t;
+        let mut left = count;
+        while 0 < left {
+            let found = c.element(s);
+            match found {
+                PartRead::Found(p, next) => {
+                    let n = element_len(s, p);
+                    sum = sum.more(n, is_hollow(p));
+                    c = next;
+                    left -= 1;
+                }
+                PartRead::Refused(r) => return Pass::Refused(r),
+            }
+        }
+        Pass::Done(sum, c)
+    }
+
+    // A tag, added to the tally.
+    fn pass_tag(self, s: &[u8], t: Tally) -> Pass
+        requires { ⌜ t .len ≤ self .at ⌝ }
+        ensures { λ r. ⌜ pass r ≡ andThen (tagAt (now (s .entry)) (self .at)) (passTag (now (s .entry)) t) ⌝ }
+    {
+        let found = self.tag_count(s);
+        match found {
+            NumberRead::Number(n, next) => {
+                let sum = t.more(varint::varint_len(n), false);
+                next.pass_elements(s, n, sum)
+            }
+            NumberRead::Refused(r) => Pass::Refused(r),
+        }
+    }
+
+    // count tags, one after the other, added to the tally.
+    fn pass_tags(self, s: &[u8], count: u64, t: Tally) -> Pass
+        requires { ⌜ t .len ≤ self .at ⌝ }
+        ensures { λ r. ⌜ pass r ≡ andThen (tagsAt count (now (s .entry)) (self .at)) (passTags (now (s .entry)) t) ⌝ }
+    {
+        let mut c = self;
+        let mut sum = t;
+        let mut left = count;
+        while 0 < left {
+            let found = c.pass_tag(s, sum);
+            match found {
+                Pass::Done(u, next) => {
+                    sum = u;
+                    c = next;
+                    left -= 1;
+                }
+                Pass::Refused(r) => return Pass::Refused(r),
+            }
+        }
+        Pass::Done(sum, c)
+    }
+}
+
+impl Tally {
+    // n bytes more of the strict form.
+    fn more(self, n: usize, hollow: bool) -> Tally
+        requires { ⌜ self .len + n < 2 ^ 64 ⌝ }
+        ensures { λ r. ⌜ r ≡ more self n hollow ⌝ }
+    {
+        let len = self.len + n;
+        if self.hollow {
+            return Tally { len, hollow: true };
+        }
+        Tally { len, hollow }
+    }
+}
+
+// Whether a part is raw and empty.
+fn is_hollow(p: Part) -> bool
+    ensures { λ r. ⌜ r ≡ isHollow p ⌝ }
+{
+    if p.raw {
+        return p.len == 0;
+    }
+    false
+}
+
+// The length of the strict element whose text these bytes are.
+pub fn text_len(t: &[u8]) -> usize
+    ensures { λ r. ⌜ r ≡ length (packElement (now (t .entry))) ⌝ }
+    ensures { λ r. ⌜ r ≤ length (now (t .entry)) + 10 ⌝ }
+{
+    if hex::goes_as_bytes(t) {
+        let n = t.len() / 2;
+        return varint::varint_len(2 * n as u64 + 1) + n;
+    }
+    varint::varint_len(2 * t.len() as u64) + t.len()
+}
+
+// The length of the strict element whose text is the hex of these bytes.
+pub fn bytes_len(b: &[u8]) -> usize
+    ensures { λ r. ⌜ r ≡ length (packElement (hexes (now (b .entry)))) ⌝ }
+    ensures { λ r. ⌜ r ≤ length (now (b .entry)) + 10 ⌝ }
+{
+    if b.len() == 0 {
+        return 1;
+    }
+    varint::varint_len(2 * b.len() as u64 + 1) + b.len()
+}
+
+// The length of the strict element that has a part's text.
+pub fn element_len(s: &[u8], p: Part) -> usize
+    ensures { λ r. ⌜ r ≡ length (packElement (textOf (now (s .entry)) p)) ⌝ }
+{
+    let bytes = scan::part(s, p.at, p.len);
+    if p.raw {
+        return bytes_len(bytes);
+    }
+    text_len(bytes)
+}

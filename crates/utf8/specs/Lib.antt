@@ -1,3 +1,4 @@
 pub mod Utf8
 pub mod Width
 pub mod Encode
+pub mod Block

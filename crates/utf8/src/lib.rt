@@ -1,0 +1,254 @@
+// UTF-8 by RFC 3629: the check of a text, one sequence at a place, and the bytes of a scalar value.
+ghost use Prim.Native.Nat.{_+_, _-_, _≤_, min};
+ghost use mathlib.Core.Path.{_≡_};
+ghost use lib.ListN.{length};
+ghost use Rattle.scan.specs.Place.{within};
+ghost use Rattle.store.specs.Store.{Wrote};
+ghost use Rattle.utf8.specs.Width.{secondLow, secondHigh, twoOf, threeOf, fourOf, widthOf, widthAt, isUtf8};
+ghost use Rattle.utf8.specs.Block.{highBytes, Passed, Walked};
+ghost use Rattle.utf8.specs.Encode.{tailOf, encode};
+
+// The lowest second byte behind a first byte of three or four.
+fn second_low(a: u8) -> u8
+    ensures { λ r. ⌜ r ≡ secondLow a ⌝ }
+{
+    if a == 0xE0 {
+        return 0xA0;
+    }
+    if a == 0xF0 {
+        return 0x90;
+    }
+    0x80
+}
+
+// The highest second byte behind a first byte of three or four.
+fn second_high(a: u8) -> u8
+    ensures { λ r. ⌜ r ≡ secondHigh a ⌝ }
+{
+    if a == 0xED {
+        return 0x9F;
+    }
+    if a == 0xF4 {
+        return 0x8F;
+    }
+    0xBF
+}
+
+// Whether b may stand second behind a first byte of three or four.
+fn is_second(a: u8, b: u8) -> bool
+    ensures { λ r. ⌜ r ≡ within (secondLow a) (secondHigh a) b ⌝ }
+{
+    scan::is_within(second_low(a), second_high(a), b)
+}
+
+// The width by the bytes behind the first, which says two, three or four.
+fn two_of(b: u8) -> usize
+    ensures { λ r. ⌜ r ≡ twoOf b ⌝ }
+{
+    if scan::is_within(0x80, 0xBF, b) { 2 } else { 0 }
+}
+
+fn three_of(a: u8, b: u8, c: u8) -> usize
+    ensures { λ r. ⌜ r ≡ threeOf a b c ⌝ }
+{
+    if is_second(a, b) {
+        if scan::is_within(0x80, 0xBF, c) {
+            return 3;
+        }
+    }
+    0
+}
+
+fn four_of(a: u8, b: u8, c: u8, d: u8) -> usize
+    ensures { λ r. ⌜ r ≡ fourOf a b c d ⌝ }
+{
+    if is_second(a, b) {
+        if scan::is_within(0x80, 0xBF, c) {
+            if scan::is_within(0x80, 0xBF, d) {
+                return 4;
+            }
+        }
+    }
+    0
+}
+
+// The width of the sequence that begins with the bytes a, b, c, d.
+fn width_of(a: u8, b: u8, c: u8, d: u8) -> usize
+    ensures { λ r. ⌜ r ≡ widthOf a b c d ⌝ }
+{
+    if a < 0x80 {
+        return 1;
+    }
+    if a < 0xC2 {
+        return 0;
+    }
+    if a < 0xE0 {
+        return two_of(b);
+    }
+    if a < 0xF0 {
+        return three_of(a, b, c);
+    }
+    if a < 0xF5 {
+        return four_of(a, b, c, d);
+    }
+    0
+}
+
+// The width of the sequence at a place, 1 to 4; 0 where it is ill-formed, is cut by the end, or where nothing stands.
+pub fn width_at(s: &[u8], at: usize) -> usize
+    ensures { λ r. ⌜ r ≡ widthAt (now (s .entry)) at ⌝ }
+    ensures { λ r. ⌜ r ≤ 4 ⌝ }
+    ensures { λ r. ⌜ r ≤ length (now (s .entry)) - at ⌝ }
+{
+    if s.len() <= at {
+        return 0;
+    }
+    // ASCII, before any other byte is read
+    if s[at] < 0x80 {
+        return 1;
+    }
+    let b = scan::byte_at(s, at + 1);
+    let c = scan::byte_at(s, at + 2);
+    let d = scan::byte_at(s, at + 3);
+    width_of(s[at], b, c, d)
+}
+
+// How many bytes of a block are not ASCII. No exit on the way, and a sum in a byte: a loop for vectors.
+fn high_bytes(block: &[u8]) -> u8
+    requires { ⌜ length (now block) ≤ 32 ⌝ }
+    ensures { λ r. ⌜ r ≡ highBytes (now (block .entry)) ⌝ }
+{
+    let mut i = 0;
+    let mut n: u8 = 0;
+    while i < block.len() {
+        n += block[i] / 128;
+        i += 1;
+    }
+    n
+}
+
+// Passes blocks of ASCII from a place on: whole ones of 32 bytes, and the rest if it is all ASCII.
+fn pass_ascii(s: &[u8], at: usize) -> usize
+    requires { ⌜ at ≤ length (now s) ⌝ }
+    ensures { λ r. ⌜ Passed (now (s .entry)) at r ⌝ }
+{
+    let mut i = at;
+    while s.len() - i >= 32 {
+        let e = i + 32;
+        if high_bytes(&s[i..e]) != 0 {
+            return i;
+        }
+        i = e;
+    }
+    if high_bytes(&s[i..]) != 0 {
+        return i;
+    }
+    s.len()
+}
+
+// Passes sequence after sequence until at or past the place e, or until none stands.
+fn pass_sequences(s: &[u8], at: usize, e: usize) -> usize
+    requires { ⌜ at ≤ length (now s) ⌝ }
+    ensures { λ r. ⌜ Walked (now (s .entry)) at e r ⌝ }
+{
+    let mut i = at;
+    while i < e {
+        let w = width_at(s, i);
+        if w == 0 {
+            return i;
+        }
+        i += w;
+    }
+    i
+}
+
+// The end of the block of 32 bytes at a place, or the end of the n bytes.
+fn block_end(at: usize, n: usize) -> usize
+    requires { ⌜ at ≤ n ⌝ }
+    ensures { λ r. ⌜ r ≡ min (at + 32) n ⌝ }
+{
+    if n - at <= 32 { n } else { at + 32 }
+}
+
+// Whether a text is well-formed. Blocks of ASCII are passed whole; the block that stops them goes sequence by sequence.
+pub fn is_utf8(s: &[u8]) -> bool
+    ensures { λ r. ⌜ r ≡ isUtf8 (now (s .entry)) ⌝ }
+{
+    let mut i = 0;
+    while i < s.len() {
+        let b = pass_ascii(s, i);
+        let e = block_end(b, s.len());
+        i = pass_sequences(s, b, e);
+        if i < e {
+            return false;
+        }
+    }
+    true
+}
+
+// 10xxxxxx with the lowest six bits of n.
+fn tail_of(n: u32) -> u8
+    ensures { λ r. ⌜ r ≡ tailOf n ⌝ }
+{
+    (0x80 + n % 64) as u8
+}
+
+fn is_surrogate(n: u32) -> bool
+    ensures { λ r. ⌜ r ≡ within 0xD800 0xDFFF n ⌝ }
+{
+    if 0xD800 <= n {
+        return n <= 0xDFFF;
+    }
+    false
+}
+
+// How many bytes a scalar value takes; 0 for any other number.
+pub fn scalar_len(n: u32) -> usize
+    ensures { λ r. ⌜ r ≡ length (encode n) ⌝ }
+    ensures { λ r. ⌜ r ≤ 4 ⌝ }
+{
+    if n < 0x80 {
+        return 1;
+    }
+    if n < 0x800 {
+        return 2;
+    }
+    if is_surrogate(n) {
+        return 0;
+    }
+    if n < 0x10000 {
+        return 3;
+    }
+    if n < 0x110000 {
+        return 4;
+    }
+    0
+}
+
+// The bytes of a scalar value; none for any other number.
+pub fn put_scalar(out: &mut [u8], at: usize, n: u32) -> usize
+    ensures { λ r. ⌜ Wrote (now (out .entry)) at (encode n) (now (out .exit)) r ⌝ }
+{
+    if n < 0x80 {
+        return store::put_byte(out, at, n as u8);
+    }
+    if n < 0x800 {
+        let b = store::put_byte(out, at, (0xC0 + n / 64) as u8);
+        return store::put_byte(out, b, tail_of(n));
+    }
+    if is_surrogate(n) {
+        return at;
+    }
+    if n < 0x10000 {
+        let b = store::put_byte(out, at, (0xE0 + n / 4096) as u8);
+        let c = store::put_byte(out, b, tail_of(n / 64));
+        return store::put_byte(out, c, tail_of(n));
+    }
+    if n < 0x110000 {
+        let b = store::put_byte(out, at, (0xF0 + n / 262144) as u8);
+        let c = store::put_byte(out, b, tail_of(n / 4096));
+        let d = store::put_byte(out, c, tail_of(n / 64));
+        return store::put_byte(out, d, tail_of(n));
+    }
+    at
+}

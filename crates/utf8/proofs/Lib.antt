@@ -1,0 +1,4 @@
+pub mod WidthLaws
+pub mod Laws
+pub mod EncodeLaws
+pub mod BlockLaws
