@@ -2,11 +2,11 @@
 -- `Passed` composes; each turn of a loop is one law whose premises are what the loop knows.
 use Prim.Native.Nat.{ℕ, _+_, _/_, _-_, _<_, _≤_}
 use mathlib.Core.Path.{_≡_, refl, sym, ap, _∙_}
-use mathlib.Core.Bool.{Bool, true, false}
+use mathlib.Core.Bool.{true, false}
 use mathlib.Core.List.{List, [], _∷_, _++_}
 use native.Mathlib.Omega.{arith}
 use lib.ListN.{length, getD, drop, take, take-append-drop}
-use lib.Seq.{drop-drop, drop-length}
+use lib.Seq.{drop-drop}
 use Rattle.scan.proofs.Step.{rest-none, rest-more}
 use Rattle.utf8.specs.Utf8.{octet, one}
 use Rattle.utf8.specs.Width.{widthAt, isUtf8}
@@ -17,16 +17,19 @@ use Rattle.utf8.proofs.Laws.{rest-end, rest-stop, rest-step, rest-char}
 -- ---- a block with no high byte
 
 module _ (s : List ℕ) (i n h : ℕ) where
+  -- a byte more is counted
   pub high-again : n + highBytes (drop i s) ≡ h → i < length s → n + getD s i 0 / 128 + highBytes (drop (i + 1) s) ≡ h
   unfolding highBytes
   high-again e l = let q : highBytes (drop i s) ≡ getD s i 0 / 128 + highBytes (drop (i + 1) s) = rw (rest-more s i l) refl in omega arith
 
+  -- all is counted
   pub high-left : n + highBytes (drop i s) ≡ h → length s ≤ i → n ≡ h
   unfolding highBytes
   high-left e l = let q : highBytes (drop i s) ≡ 0 = rw (rest-none s i l) refl in omega arith
 
 pub ruleset highs = (high-again, high-left)
 
+-- a block with no high byte is ASCII, and behind it the rest decides
 high-none : (l r : List ℕ) → highBytes l ≡ 0 → isUtf8 (l ++ r) ≡ isUtf8 r
 unfolding highBytes
 high-none [] r h = refl
@@ -34,9 +37,11 @@ high-none (b ∷ l) r h = rest-char (one (octet {b = b} (omega arith) (omega ari
 
 -- ---- how far
 
+-- nothing yet
 pub passed-none : (s : List ℕ) (a : ℕ) → a ≤ length s → Passed s a a
 passed-none s a h = record { onward = omega arith; inside = h; same = refl }
 
+-- a way and then another
 pub passed-then : {s : List ℕ} {a b c : ℕ} → Passed s a b → Passed s b c → Passed s a c
 passed-then p q = record { onward = omega arith; inside = q .inside; same = p .same ∙ q .same }
 

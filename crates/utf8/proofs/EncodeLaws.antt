@@ -1,8 +1,8 @@
 -- The encoding of a scalar value is one character of the grammar, it decodes to the value again, and every character is such an encoding.
 -- Each row of the table is one equation under its bounds; the rest is arithmetic on quotients and remainders.
-use Prim.Native.Nat.{ℕ, _+_, _-_, _*_, _/_, _%_, _<_, _≤_}
-use mathlib.Core.Path.{_≡_, refl, sym, ap, _∙_}
-use mathlib.Core.Bool.{Bool, true, false}
+use Prim.Native.Nat.{ℕ, _+_, _-_, _*_, _/_, _<_, _≤_}
+use mathlib.Core.Path.{_≡_, _∙_}
+use mathlib.Core.Bool.{true, false}
 use mathlib.Core.List.{List, [], _∷_}
 use mathlib.Core.Logic.{dite}
 use native.Mathlib.Nat.{div-div-eq-div-mul}
@@ -11,7 +11,7 @@ use native.Mathlib.Decide.{decLt}
 use lib.ListN.{length}
 use borrow.Author.Tests.{lt-ltb, le-ltb, le-leb, lt-leb}
 use Rattle.scan.specs.Place.{within}
-use Rattle.utf8.specs.Utf8.{Octet, octet, Tail, Char, one, two, three-E0, three-E1, three-ED, three-EE, four-F0, four-F1, four-F4, Utf8}
+use Rattle.utf8.specs.Utf8.{octet, Tail, Char, one, two, three-E0, three-E1, three-ED, three-EE, four-F0, four-F1, four-F4, Utf8}
 use Rattle.utf8.specs.Encode.{Scalar, below, above, tailOf, encode, scalarOf}
 use Rattle.utf8.proofs.WidthLaws.{char-length}
 use Rattle.utf8.proofs.Laws.{utf8-char}
@@ -31,26 +31,32 @@ module _ (n : ℕ) where
   unfolding within
   over h = simp (le-leb 0xD800 n (omega arith), lt-leb n 0xDFFF h)
 
+  -- one byte
   pub encode-one : n < 0x80 → encode n ≡ n ∷ []
   unfolding encode
   encode-one h = simp (lt-ltb n 0x80 h)
 
+  -- two bytes
   pub encode-two : 0x80 ≤ n → n < 0x800 → encode n ≡ (0xC0 + n / 64) ∷ tailOf n ∷ []
   unfolding encode
   encode-two h l = simp (le-ltb n 0x80 h, lt-ltb n 0x800 l)
 
+  -- a surrogate has none
   pub encode-surrogate : 0x800 ≤ n → within 0xD800 0xDFFF n ≡ true → encode n ≡ []
   unfolding encode
   encode-surrogate h t = simp (le-ltb n 0x80 (omega arith), le-ltb n 0x800 h, t)
 
+  -- three bytes
   pub encode-three : 0x800 ≤ n → within 0xD800 0xDFFF n ≡ false → n < 0x10000 → encode n ≡ (0xE0 + n / 4096) ∷ tailOf (n / 64) ∷ tailOf n ∷ []
   unfolding encode
   encode-three h f l = simp (le-ltb n 0x80 (omega arith), le-ltb n 0x800 h, f, lt-ltb n 0x10000 l)
 
+  -- four bytes
   pub encode-four : 0x10000 ≤ n → n < 0x110000 → encode n ≡ (0xF0 + n / 262144) ∷ tailOf (n / 4096) ∷ tailOf (n / 64) ∷ tailOf n ∷ []
   unfolding encode
   encode-four h l = simp (le-ltb n 0x80 (omega arith), le-ltb n 0x800 (omega arith), over (omega arith), le-ltb n 0x10000 h, lt-ltb n 0x110000 l)
 
+  -- past 10FFFF there is none
   pub encode-past : 0x110000 ≤ n → encode n ≡ []
   unfolding encode
   encode-past h =
@@ -88,13 +94,15 @@ module _ (n : ℕ) where
       let e : 0xF0 + n / 262144 ≡ 0xF4 = omega (arith, r) in
       rw e (four-F4 (octet {b = tailOf (n / 4096)} (omega arith) (omega (arith, r))) (tail (n / 64)) (tail n))))
 
+  -- no scalar value is a surrogate
   no-surrogate : Scalar n → within 0xD800 0xDFFF n ≡ false
   no-surrogate (below b) = under n b
   no-surrogate (above b m) = over n b
 
-  least : Scalar n → n < 0x110000
-  least (below b) = omega arith
-  least (above b m) = omega arith
+  -- no scalar value is past 10FFFF
+  most : Scalar n → n < 0x110000
+  most (below b) = omega arith
+  most (above b m) = omega arith
 
 -- the bytes of a scalar value are one character
 pub encode-char : {n : ℕ} → Scalar n → Char (encode n)
@@ -106,7 +114,7 @@ encode-char {n} g =
     (λ q₂.
     dite (decLt n 0x10000)
     (λ l. rw (encode-three n (omega (arith, q₂)) (no-surrogate n g) l) (three n g (omega (arith, q₂)) l))
-    (λ q₃. rw (encode-four n (omega (arith, q₃)) (least n g)) (four n (omega (arith, q₃)) (least n g)))))
+    (λ q₃. rw (encode-four n (omega (arith, q₃)) (most n g)) (four n (omega (arith, q₃)) (most n g)))))
 
 -- the bytes of a scalar value are a text
 pub encode-utf8 : {n : ℕ} → Scalar n → Utf8 (encode n)
@@ -137,7 +145,7 @@ decode-encode {n} g =
     (λ q₂.
     dite (decLt n 0x10000) (λ l. rw (encode-three n (omega (arith, q₂)) (no-surrogate n g) l) (omega (arith, div-div-eq-div-mul n 64 64)))
     (λ q₃.
-    rw (encode-four n (omega (arith, q₃)) (least n g)) (omega (arith, least n g, div-div-eq-div-mul n 64 64, div-div-eq-div-mul n 4096 64)))))
+    rw (encode-four n (omega (arith, q₃)) (most n g)) (omega (arith, most n g, div-div-eq-div-mul n 64 64, div-div-eq-div-mul n 4096 64)))))
 
 -- what a character decodes to is a scalar value
 pub char-scalar : {c : List ℕ} → Char c → Scalar (scalarOf c)
@@ -153,6 +161,7 @@ char-scalar {c} (four-F1 (octet p q) (octet r t) (octet u v) (octet w x)) = abov
 char-scalar {c} (four-F4 (octet r t) (octet u v) (octet w x)) = above {n = scalarOf c} (omega arith) (omega arith)
 
 module _ (a b c d : ℕ) where
+  -- the rows of two, three and four bytes, put together and taken apart again
   two-back : 0xC2 ≤ a → a ≤ 0xDF → Tail b → encode ((a - 0xC0) * 64 + (b - 0x80)) ≡ a ∷ b ∷ []
   two-back p q (octet r t) =
       let n = (a - 0xC0) * 64 + (b - 0x80) in

@@ -2,23 +2,23 @@
 -- One step law turns the recursion over bytes into a step over a whole sequence; both directions follow it.
 use Prim.Native.Nat.{ℕ, zero, suc, _+_, _-_, _<_, _≤_}
 use mathlib.Core.Path.{_≡_, refl, sym, ap, _∙_}
-use mathlib.Core.Bool.{Bool, true, false}
+use mathlib.Core.Bool.{true, false}
 use mathlib.Core.List.{List, [], _∷_, _++_, append-assoc, append-nil}
 use mathlib.Core.Logic.{dite, _↔_}
 use native.Mathlib.Nat.{add-zero, add-assoc}
 use native.Mathlib.Omega.{arith}
 use native.Mathlib.Decide.{decLt, ℕ-discrete}
-use lib.ListN.{length, getD, drop, take, length-append, length-drop}
+use lib.ListN.{length, drop}
 use lib.Seq.{getD-drop, drop-drop, drop-append-seam}
 use lib.Dec.{eqb}
 use borrow.Author.Tests.{eq-eqb, ne-eqb}
 use Rattle.scan.specs.Choice.{pick}
-use Rattle.scan.specs.Span.{Span, All, none, also}
+use Rattle.scan.specs.Span.{All, none, also, IsBytes}
 use Rattle.scan.proofs.Step.{rest-none, rest-more, false-true}
 use Rattle.scan.proofs.SpanLaws.{from-span, to-span}
 use Rattle.utf8.specs.Utf8.{Octet, octet, Tail, Char, one, two, three-E0, three-E1, three-ED, three-EE, four-F0, four-F1, four-F4, Utf8, char}
-use Rattle.utf8.specs.Width.{widthOf, widthAt, sequences, isUtf8}
-use Rattle.utf8.proofs.WidthLaws.{width-here, width-none, width-place, width-accepts, width-consumes, char-length, width-within, width-ascii, width-most}
+use Rattle.utf8.specs.Width.{widthAt, sequences, isUtf8}
+use Rattle.utf8.proofs.WidthLaws.{width-here, width-place, width-accepts, width-consumes, char-length}
 
 -- ---- the step over a whole sequence
 
@@ -82,6 +82,15 @@ is-utf8 l = (sound (length l) l 0 (omega arith), complete)
 
 -- ---- the grammar's own laws
 
+-- behind a text the rest decides
+pub rest-text : {a : List ℕ} → Utf8 a → (l : List ℕ) → isUtf8 (a ++ l) ≡ isUtf8 l
+rest-text Utf8.none l = refl
+rest-text (char {c = c} {l = m} g u) l = ap isUtf8 (append-assoc c m l) ∙ rest-char g (m ++ l) ∙ rest-text u l
+
+-- what stands behind a text in a text is a text
+pub utf8-rest : {a b : List ℕ} → Utf8 a → Utf8 (a ++ b) → Utf8 b
+utf8-rest {a} {b} u v = is-utf8 b .0 (sym (rest-text u b) ∙ is-utf8 (a ++ b) .1 v)
+
 -- a text behind a text
 pub utf8-append : {a b : List ℕ} → Utf8 a → Utf8 b → Utf8 (a ++ b)
 utf8-append Utf8.none v = v
@@ -96,7 +105,7 @@ pub utf8-ascii : {l : List ℕ} → All (λ (b : ℕ). b < 0x80) l → Utf8 l
 utf8-ascii none = Utf8.none
 utf8-ascii (also {b = b} h g) = char (one (octet {b = b} (omega arith) (omega arith))) (utf8-ascii g)
 
--- ---- every byte of a text is below 256
+-- ---- the bytes of a text
 
 small : {low high b : ℕ} → Octet low high b → high < 256 → b < 256
 small (octet p q) h = omega arith
@@ -119,6 +128,7 @@ char-bytes (four-F0 p q r) = also {b = 0xF0} (omega arith) (also (small p (omega
 char-bytes (four-F1 p q r t) = also (small p (omega arith)) (also (tail q) (also (tail r) (also (tail t) none)))
 char-bytes (four-F4 p q r) = also {b = 0xF4} (omega arith) (also (small p (omega arith)) (also (tail q) (also (tail r) none)))
 
-pub utf8-bytes : {l : List ℕ} → Utf8 l → All (λ (b : ℕ). b < 256) l
+-- each byte of a text is below 256
+pub utf8-bytes : {l : List ℕ} → Utf8 l → IsBytes l
 utf8-bytes Utf8.none = none
 utf8-bytes (char g u) = all-append (char-bytes g) (utf8-bytes u)

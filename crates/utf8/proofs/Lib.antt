@@ -1,3 +1,4 @@
+pub mod RowLaws
 pub mod WidthLaws
 pub mod Laws
 pub mod EncodeLaws

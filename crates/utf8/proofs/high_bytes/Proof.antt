@@ -1,7 +1,7 @@
 -- `high_bytes` counts the high bytes of a block. The invariant: the count and the high bytes that are left make the whole.
 -- A byte adds 0 or 1, so the sum is at most i and fits a byte.
 use Prim.Native.Nat.{_+_, _-_, _≤_}
-use mathlib.Core.Path.{_≡_, refl}
+use mathlib.Core.Path.{_≡_}
 use native.Mathlib.Omega.{arith}
 use lib.ListN.{length, drop}
 use Rattle.utf8.specs.Block.{highBytes}

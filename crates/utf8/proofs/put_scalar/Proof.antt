@@ -1,6 +1,6 @@
 -- `put_scalar` writes the row of the table that the tests choose; what is no scalar value writes nothing.
 -- Each row is one `put_byte` for each byte, joined by `then`.
-use mathlib.Core.Path.{_≡_, sym, _∙_}
+use mathlib.Core.Path.{sym, _∙_}
 use borrow.Author.Needs.{needs}
 use Rattle.store.proofs.Laws.{then, nothing}
 use Rattle.utf8.proofs.EncodeLaws.{encode-one, encode-two, encode-surrogate, encode-three, encode-four, encode-past}

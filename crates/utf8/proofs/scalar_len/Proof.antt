@@ -1,6 +1,6 @@
 -- `scalar_len` makes the tests of `encode`, in its order, and tells the row's length.
 -- Each return is one row of the table.
-use mathlib.Core.Path.{_≡_, refl, sym, _∙_}
+use mathlib.Core.Path.{refl, sym, _∙_}
 use native.Mathlib.Omega.{arith}
 use borrow.Author.Needs.{needs}
 use Rattle.utf8.proofs.EncodeLaws.{encode-one, encode-two, encode-surrogate, encode-three, encode-four, encode-past}
