@@ -24,7 +24,7 @@ use Rattle.event.proofs.Laws.{all-seven}
 use Rattle.notepack.specs.declared.Part.{Part}
 use Rattle.notepack.specs.declared.Head.{Head}
 use Rattle.notepack.specs.Layout.{Element, as-text, as-bytes, Elements, TagLays, Tags, Lays}
-use Rattle.notepack.specs.Unpack.{partOf, bytesOf, textOf, payloadAt, textAt, numberAt, contentAt, elementAt, elementsAt, tagCountAt, tagAt, tagsAt, headAt, Packed, packedAt, eventOf, unpack}
+use Rattle.notepack.specs.Unpack.{partOf, bytesOf, textOf, payloadAt, textAt, numberAt, contentAt, elementAt, elementsAt, tagCountAt, tagAt, tagsAt, numbersAt, headAt, Packed, packedAt, eventOf, unpack}
 
 module _ {s : List ℕ} where
   -- the bytes of a span are the bytes of the part
@@ -97,7 +97,7 @@ module _ {s : List ℕ} where
 
   -- the whole
   complete-span : {e : Event} {l : List ℕ} → Lays e l → Valid e → Span s 0 l (length s) → length s ≤ 65_536 → unpack s ≡ shown e
-  unfolding unpack packedAt headAt contentAt eventOf textOf
+  unfolding unpack packedAt headAt numbersAt contentAt eventOf textOf
   complete-span {e} (Lays.lays {time = time} {kind = kind} {size = size} {count = count} t k z n g) v r short =
       let ri = cut-at (e .id) 32 (v .id32 .count) r in
       let rp = cut-at (e .pubkey) 32 (v .pubkey32 .count) (ri .1) in

@@ -4,3 +4,4 @@ pub mod Complete
 pub mod StrictLaws
 pub mod Lengths
 pub mod Passing
+pub mod Walking

@@ -25,7 +25,7 @@ use Rattle.event.specs.Event.{Text, Tag, Event, ValidTag, Valid}
 use Rattle.notepack.specs.declared.Part.{Part}
 use Rattle.notepack.specs.declared.Head.{Head}
 use Rattle.notepack.specs.Layout.{Element, as-text, as-bytes, Elements, TagLays, tag, Tags, Lays}
-use Rattle.notepack.specs.Unpack.{partOf, bytesOf, textOf, payloadAt, textAt, numberAt, contentAt, elementAt, elementsAt, tagCountAt, tagAt, tagsAt, headAt, Packed, packedAt, eventOf, unpack}
+use Rattle.notepack.specs.Unpack.{partOf, bytesOf, textOf, payloadAt, textAt, numberAt, contentAt, elementAt, elementsAt, tagCountAt, tagAt, tagsAt, numbersAt, headAt, Packed, packedAt, eventOf, unpack}
 use Rattle.notepack.specs.Strict.{packElement, packElements, packTag, packTags, pack}
 use Rattle.notepack.specs.Tally.{isHollow, hollowIn, hollowTags}
 use Rattle.notepack.proofs.Piece.{Piece, whole, number, beside, text-piece, bytes-piece}
@@ -71,11 +71,11 @@ pub record Number (max : ℕ) (n : ℕ) (l : List ℕ) : Type 0 where
 
 -- a well-formed text behind its length
 pub data Sized (s : List ℕ) (p : Part) : List ℕ → Type 0 where
-  sized : {t w : List ℕ} → textOf s p ≡ t → Utf8 t → Spells (length t) w → Sized s p (w ++ t)
+  sized : {t w : List ℕ} → textOf s p ≡ t → p .len ≡ length t → Utf8 t → Spells (length t) w → Sized s p (w ++ t)
 
-sized-text : {s : List ℕ} {p : Part} {l : List ℕ} → Sized s p l
-    → (w : List ℕ) × (l ≡ w ++ textOf s p) × Utf8 (textOf s p) × Spells (length (textOf s p)) w
-sized-text (sized {t = t} {w = w} e u g) = (w, rw e, rw e u, rw e g)
+pub sized-text : {s : List ℕ} {p : Part} {l : List ℕ} → Sized s p l
+    → (w : List ℕ) × (l ≡ w ++ textOf s p) × Utf8 (textOf s p) × Spells (length (textOf s p)) w × (length (textOf s p) ≡ p .len)
+sized-text (sized {t = t} {w = w} e n u g) = (w, rw e, rw e u, rw e g, rw e (sym n))
 
 -- an element, with its text well-formed, beside its strict form
 pub record Laid (s : List ℕ) (p : Part) (l : List ℕ) : Type 0 where
@@ -99,7 +99,7 @@ module _ (s : List ℕ) (bytes : IsBytes s) where
       (λ p l f u q.
       let v = u .payload in
       let is = v .is in
-      reads (sized {w = w} (rw is (sym (v .bytes))) (u .text) (rw (v .long) g)) (join r q)))
+      reads (sized {w = w} (rw is (sym (v .bytes))) (rw is (sym (v .long))) (u .text) (rw (v .long) g)) (join r q)))
 
   pub element-reads : (at : ℕ) → Reads (Laid s) s at (elementAt s at)
   unfolding elementAt textOf isHollow
@@ -213,7 +213,7 @@ module _ (s : List ℕ) (bytes : IsBytes s) where
     pub count : (l : List ℕ) × Number 1_000 (h .«tag_count») l × Span s (content .1) l (h .«tags_at»)
 
   pub head-gives : Gives Headed (headAt s)
-  unfolding headAt
+  unfolding headAt numbersAt
   head-gives =
       read-gives _ (payload-reads 0 true 32 s 0)
       (λ _ _ i p r.

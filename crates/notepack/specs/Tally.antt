@@ -5,7 +5,9 @@ use mathlib.Core.List.{List, [], _∷_, map}
 use lib.ListN.{length}
 use lib.Dec.{eqb}
 use Rattle.scan.specs.Choice.{pick, either, Answer, shown, Read, read, andThen}
+use Rattle.varint.specs.Uleb.{uleb}
 use Rattle.notepack.specs.declared.Part.{Part}
+use Rattle.notepack.specs.declared.Head.{Head}
 use Rattle.notepack.specs.declared.Tally.{Tally}
 use Rattle.notepack.specs.Strict.{packElement, packElements, packTag, packTags, pack}
 use Rattle.notepack.specs.Unpack.{textOf, elementsAt, tagAt, tagsAt, Packed, packedAt, eventOf}
@@ -38,6 +40,11 @@ passTag s t ts = read (more t (length (packTag (map (textOf s) (ts .value)))) (h
 
 abbrev pub passTags : List ℕ → Tally → Read (List (List Part)) → Answer (Read Tally)
 passTags s t ts = read (more t (length (packTags (map (map (textOf s)) (ts .value)))) (hollowTags (ts .value))) (ts .next)
+
+-- the strict length of all in front of the tags
+unfoldable pub headLen : Head → ℕ
+headLen h =
+    128 + length (uleb (h .«created_at»)) + length (uleb (h .kind)) + length (uleb (h .content .len)) + h .content .len + length (uleb (h .«tag_count»))
 
 -- the tally of a whole packed event
 abbrev pub tallyOf : List ℕ → Packed → Tally

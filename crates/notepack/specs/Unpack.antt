@@ -78,17 +78,22 @@ tagsAt (suc n) s at =
     andThen (tagsAt n s (t .next)) λ ts.
     read (t .value ∷ ts .value) (ts .next)
 
--- all in front of the tags: id, pubkey, sig, created_at, kind, content, the number of tags
-unfoldable pub headAt : List ℕ → Answer Head
-headAt s =
-    andThen (payloadAt 0 true 32 s 0) λ i.
-    andThen (payloadAt 32 true 32 s 32) λ p.
-    andThen (payloadAt 64 true 64 s 64) λ g.
+-- created_at, kind, the content and the number of tags
+unfoldable pub numbersAt : List ℕ → Answer Head
+numbersAt s =
     andThen (numberAt 9_223_372_036_854_775 7 s 128) λ t.
     andThen (numberAt 65_535 6 s (t .next)) λ k.
     andThen (contentAt s (k .next)) λ c.
     andThen (numberAt 1_000 8 s (c .next)) λ n.
     shown (record { «created_at» = t .value; kind = k .value; content = c .value; «tag_count» = n .value; «tags_at» = n .next })
+
+-- all in front of the tags: id, pubkey and sig first
+unfoldable pub headAt : List ℕ → Answer Head
+headAt s =
+    andThen (payloadAt 0 true 32 s 0) λ i.
+    andThen (payloadAt 32 true 32 s 32) λ p.
+    andThen (payloadAt 64 true 64 s 64) λ g.
+    numbersAt s
 
 -- where everything of a packed event stands
 pub record Packed : Type 0 where

@@ -5,12 +5,12 @@ use varint::VarintRead;
 ghost use Prim.Native.Nat.{_≤_, _<_, _+_, _-_, _^_};
 ghost use mathlib.Core.Path.{_≡_};
 ghost use lib.ListN.{length};
-ghost use Rattle.scan.specs.Choice.{andThen};
+ghost use Rattle.scan.specs.Choice.{andThen, shown};
 ghost use Rattle.hex.specs.Hex.{hexes};
 ghost use Rattle.notepack.specs.Strict.{packElement};
-ghost use Rattle.notepack.specs.Unpack.{textOf, payloadAt, textAt, numberAt, contentAt, elementAt, elementsAt, tagCountAt, tagAt, tagsAt};
-ghost use Rattle.notepack.specs.Tally.{isHollow, more, passElements, passTag, passTags};
-ghost use Rattle.notepack.specs.Answers.{partRead, numberRead, pass};
+ghost use Rattle.notepack.specs.Unpack.{textOf, payloadAt, textAt, numberAt, contentAt, elementAt, elementsAt, tagCountAt, tagAt, tagsAt, numbersAt, headAt};
+ghost use Rattle.notepack.specs.Tally.{headLen, isHollow, more, passElements, passTag, passTags};
+ghost use Rattle.notepack.specs.Answers.{partRead, numberRead, pass, headRead, walk, walkAt};
 
 // A place in the input. A cursor past the end reads as the end.
 pub struct Cursor {
@@ -47,6 +47,12 @@ pub enum PartRead {
 pub enum NumberRead {
     Number(u64, Cursor),
     Refused(Refusal),
+}
+
+// A number and the cursor behind it.
+struct Counted {
+    n: u64,
+    next: Cursor,
 }
 
 pub enum HeadRead {
@@ -292,4 +298,107 @@ pub fn element_len(s: &[u8], p: Part) -> usize
         return bytes_len(bytes);
     }
     text_len(bytes)
+}
+
+// created_at, kind, the content and the number of tags.
+fn numbers(s: &[u8]) -> HeadRead
+    ensures { λ r. ⌜ headRead r ≡ numbersAt (now (s .entry)) ⌝ }
+{
+    let time = Cursor { at: 128 }.number(s, event::MAX_CREATED_AT, event::CREATED_AT_OUT_OF_RANGE);
+    let first = match time {
+        NumberRead::Number(n, next) => Counted { n, next },
+        NumberRead::Refused(r) => return HeadRead::Refused(r),
+    };
+    let kind = first.next.number(s, event::MAX_KIND, event::KIND_OUT_OF_RANGE);
+    let second = match kind {
+        NumberRead::Number(n, next) => Counted { n, next },
+        NumberRead::Refused(r) => return HeadRead::Refused(r),
+    };
+    let text = second.next.content(s);
+    match text {
+        PartRead::Refused(r) => HeadRead::Refused(r),
+        PartRead::Found(content, behind) => {
+            let count = behind.number(s, event::MAX_TAGS, event::TOO_MANY);
+            match count {
+                NumberRead::Refused(r) => HeadRead::Refused(r),
+                NumberRead::Number(tag_count, tags) => HeadRead::Found(Head {
+                    created_at: first.n,
+                    kind: second.n,
+                    content,
+                    tag_count,
+                    tags_at: tags.at,
+                }),
+            }
+        }
+    }
+}
+
+// All in front of the tags: id, pubkey and sig first.
+fn read_head(s: &[u8]) -> HeadRead
+    ensures { λ r. ⌜ headRead r ≡ headAt (now (s .entry)) ⌝ }
+{
+    let id = Cursor { at: 0 }.payload(s, 0, true, 32);
+    if let PartRead::Refused(r) = id {
+        return HeadRead::Refused(r);
+    }
+    let pubkey = Cursor { at: 32 }.payload(s, 32, true, 32);
+    if let PartRead::Refused(r) = pubkey {
+        return HeadRead::Refused(r);
+    }
+    let sig = Cursor { at: 64 }.payload(s, 64, true, 64);
+    if let PartRead::Refused(r) = sig {
+        return HeadRead::Refused(r);
+    }
+    numbers(s)
+}
+
+// The strict length of all in front of the tags.
+fn head_len(h: Head) -> usize
+    requires { ⌜ h .content .len ≤ 65536 ⌝ }
+    ensures { λ r. ⌜ r ≡ headLen h ⌝ }
+{
+    let content = h.content;
+    128 + varint::varint_len(h.created_at) + varint::varint_len(h.kind) + varint::varint_len(content.len as u64) + content.len + varint::varint_len(h.tag_count)
+}
+
+// The whole input, checked and measured in one pass: 1 first of all, 10 for a byte after the end.
+pub fn walk_packed(s: &[u8]) -> Walk
+    ensures { λ r. ⌜ walk r ≡ walkAt (now (s .entry)) ⌝ }
+{
+    if event::MAX_INPUT < s.len() {
+        return Walk::Refused(Refusal {
+            number: event::INPUT_TOO_LONG,
+            place: 0,
+        });
+    }
+    let front = read_head(s);
+    match front {
+        HeadRead::Refused(r) => Walk::Refused(r),
+        HeadRead::Found(h) => walk_tags(s, h),
+    }
+}
+
+// The tags behind what stands in front of them, to the input's end.
+fn walk_tags(s: &[u8], h: Head) -> Walk
+    requires { ⌜ (length (now s) ≤ 65536) × (headAt (now s) ≡ shown h) ⌝ }
+    ensures { λ r. ⌜ walk r ≡ walkAt (now (s .entry)) ⌝ }
+{
+    let t = Tally {
+        len: head_len(h),
+        hollow: false,
+    };
+    let tags_at = h.tags_at;
+    let passed = Cursor { at: tags_at }.pass_tags(s, h.tag_count, t);
+    match passed {
+        Pass::Refused(r) => Walk::Refused(r),
+        Pass::Done(tally, c) => {
+            if c.at == s.len() {
+                return Walk::Done(h, tally);
+            }
+            Walk::Refused(Refusal {
+                number: event::AFTER_THE_END,
+                place: c.at,
+            })
+        }
+    }
 }
