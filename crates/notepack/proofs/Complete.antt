@@ -9,7 +9,7 @@ use lib.ListN.{length, take, drop}
 use lib.Seq.{take-at}
 use lib.Dec.{leb, eqb}
 use borrow.Author.Tests.{le-leb, eq-eqb, ne-eqb}
-use Rattle.scan.specs.Choice.{pick, Answer, shown, refused, Read, read, andThen}
+use Rattle.scan.specs.Choice.{pick, Answer, shown, refused, Read, read, andThen, many}
 use Rattle.scan.specs.Span.{Span, here, All, none, also}
 use Rattle.scan.proofs.SpanLaws.{cut, cut-at, none-span, span-length, span-fits, from-span, input-span}
 use Rattle.varint.specs.Uleb.{Spells}
@@ -59,7 +59,7 @@ module _ {s : List ℕ} where
 
   pub elements-full : {ts : Tag} {l : List ℕ} {a c : ℕ} → Elements ts l → All Utf8 ts → Span s a l c
       → (ps : List Part) × (elementsAt (length ts) s a ≡ read ps c) × (map (textOf s) ps ≡ ts)
-  unfolding elementsAt
+  unfolding many
   elements-full Elements.none none r = ([], rw (none-span r), refl)
   elements-full (Elements.more {l = l} g h) (also u v) r =
       let q = cut l r in
@@ -80,7 +80,7 @@ module _ {s : List ℕ} where
 
   pub tags-full : {ts : List Tag} {l : List ℕ} {a c : ℕ} → Tags ts l → All ValidTag ts → Span s a l c
       → (ps : List (List Part)) × (tagsAt (length ts) s a ≡ read ps c) × (map (map (textOf s)) ps ≡ ts)
-  unfolding tagsAt
+  unfolding many
   tags-full Tags.none none r = ([], rw (none-span r), refl)
   tags-full (Tags.more {l = l} g h) (also u v) r =
       let q = cut l r in

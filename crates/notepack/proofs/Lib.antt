@@ -5,3 +5,4 @@ pub mod StrictLaws
 pub mod Lengths
 pub mod Passing
 pub mod Walking
+pub mod Viewing

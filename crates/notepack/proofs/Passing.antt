@@ -8,7 +8,7 @@ use native.Mathlib.Nat.{add-zero}
 use native.Mathlib.Numerals.{sub-one}
 use native.Mathlib.Omega.{arith}
 use lib.ListN.{length, length-append, length-map}
-use Rattle.scan.specs.Choice.{pick, either, Answer, shown, refused, Read, read, andThen}
+use Rattle.scan.specs.Choice.{pick, either, Answer, shown, refused, Read, read, andThen, many}
 use Rattle.scan.specs.Span.{Span, IsBytes}
 use Rattle.scan.proofs.Step.{pick-by}
 use Rattle.scan.proofs.SpanLaws.{span-length, span-fits}
@@ -66,7 +66,7 @@ module _ (s : List ℕ) where
   element-first : (n at next : ℕ) (p : Part) (t : Tally) → elementAt s at ≡ read p next
       → andThen (elementsAt (suc n) s at) (passElements s t)
       ≡ andThen (elementsAt n s next) (passElements s (more t (length (packElement (textOf s p))) (isHollow p)))
-  unfolding elementsAt
+  unfolding many
   element-first n at next p t e = rw e (go (elementsAt n s next))
     where
       go : (r : Answer (Read (List Part)))
@@ -89,13 +89,13 @@ module _ (s : List ℕ) where
 
   pub elements-refused : (X : Answer (Read Tally)) (left at : ℕ) (t : Tally) (f : PartRead) (n q : ℕ)
       → X ≡ andThen (elementsAt left s at) (passElements s t) → 0 < left → partRead f ≡ elementAt s at → partRead f ≡ refused n q → refused n q ≡ X
-  unfolding elementsAt
+  unfolding many
   elements-refused X zero at t f n q inv l e k = absurd (omega arith)
   elements-refused X (suc left) at t f n q inv l e k = sym (inv ∙ rw (sym e ∙ k))
 
   pub elements-done : (X : Answer (Read Tally)) (left at : ℕ) (t : Tally)
       → X ≡ andThen (elementsAt left s at) (passElements s t) → left ≤ 0 → read t at ≡ X
-  unfolding elementsAt
+  unfolding many
   elements-done X zero at t inv l = sym (inv ∙ rw (more-none t))
   elements-done X (suc left) at t inv l = absurd (omega arith)
 
@@ -148,7 +148,7 @@ module _ (s : List ℕ) where
   tag-first : (n at next : ℕ) (ps : List Part) (t : Tally) → tagAt s at ≡ read ps next
       → andThen (tagsAt (suc n) s at) (passTags s t)
       ≡ andThen (tagsAt n s next) (passTags s (more t (length (packTag (map (textOf s) ps))) (hollowIn ps)))
-  unfolding tagsAt
+  unfolding many
   tag-first n at next ps t e = rw e (go (tagsAt n s next))
     where
       go : (r : Answer (Read (List (List Part))))
@@ -183,7 +183,7 @@ module _ (s : List ℕ) where
 
   pub tags-refused : (X : Answer (Read Tally)) (left at : ℕ) (t : Tally) (f : Pass) (n q : ℕ)
       → X ≡ andThen (tagsAt left s at) (passTags s t) → 0 < left → pass f ≡ andThen (tagAt s at) (passTag s t) → pass f ≡ refused n q → refused n q ≡ X
-  unfolding tagsAt
+  unfolding many
   tags-refused X zero at t f n q inv l e k = absurd (omega arith)
   tags-refused X (suc left) at t f n q inv l e k = sym (inv ∙ go (tagAt s at) (sym k ∙ e))
     where
@@ -194,7 +194,7 @@ module _ (s : List ℕ) where
       go (refused m p) e = sym e
 
   pub tags-done : (X : Answer (Read Tally)) (left at : ℕ) (t : Tally) → X ≡ andThen (tagsAt left s at) (passTags s t) → left ≤ 0 → read t at ≡ X
-  unfolding tagsAt
+  unfolding many
   tags-done X zero at t inv l = sym (inv ∙ rw (more-none t))
   tags-done X (suc left) at t inv l = absurd (omega arith)
 

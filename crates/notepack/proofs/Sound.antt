@@ -8,7 +8,7 @@ use native.Mathlib.Omega.{arith}
 use lib.ListN.{length, take, drop, length-map}
 use lib.Dec.{leb, eqb}
 use borrow.Author.Tests.{leb-true, eqb-true, eqb-false}
-use Rattle.scan.specs.Choice.{pick, Answer, shown, refused, Read, read, andThen}
+use Rattle.scan.specs.Choice.{pick, Answer, shown, refused, Read, read, andThen, many}
 use Rattle.scan.specs.Span.{Span, here, All, also, IsBytes}
 use Rattle.scan.proofs.SpanLaws.{join, cut, span-length, whole-span}
 use Rattle.scan.proofs.Reading.{Reads, reads, fails, pick-reads, then-reads, from-reads, part-span, part-length, Gives, gives, lacks, shown-gives, pick-gives, then-gives, read-gives}
@@ -144,7 +144,7 @@ module _ (s : List ℕ) (bytes : IsBytes s) where
     pub piece : Piece (packElements (map (textOf s) ps)) l (hollowIn ps)
 
   pub elements-reads : (n at : ℕ) → Reads (LaidAll n) s at (elementsAt n s at)
-  unfolding elementsAt
+  unfolding many
   elements-reads zero at = reads (record { elements = Elements.none; texts = All.none; count = refl; piece = whole }) here
   elements-reads (suc n) at =
       then-reads _ (element-reads at)
@@ -192,7 +192,7 @@ module _ (s : List ℕ) (bytes : IsBytes s) where
     pub piece : Piece (packTags (map (map (textOf s)) ts)) l (hollowTags ts)
 
   pub tags-reads : (n at : ℕ) → Reads (LaidTags n) s at (tagsAt n s at)
-  unfolding tagsAt
+  unfolding many
   tags-reads zero at = reads (record { tags = Tags.none; good = All.none; count = refl; piece = whole }) here
   tags-reads (suc n) at =
       then-reads _ (tag-reads at)

@@ -18,6 +18,10 @@ use Rattle.notepack.specs.declared.Walk.{Walk}
 use Rattle.notepack.specs.declared.Walk.the-variants as walk-by
 use Rattle.notepack.specs.Unpack.{packedAt}
 use Rattle.notepack.specs.Tally.{tallyOf}
+use Rattle.notepack.specs.declared.CountRead.{CountRead}
+use Rattle.notepack.specs.declared.CountRead.the-variants as count-by
+use Rattle.notepack.specs.declared.ElementRead.{ElementRead}
+use Rattle.notepack.specs.declared.ElementRead.the-variants as element-by
 
 -- a part with the place behind it, or the refusal
 abbrev pub partRead : PartRead → Answer (Read Part)
@@ -33,6 +37,16 @@ numberRead (number.Refused r) = told r
 abbrev pub pass : Pass → Answer (Read Tally)
 pass (pass-by.Done t c) = read t (c .at)
 pass (pass-by.Refused r) = told r
+
+-- how many, or the refusal
+abbrev pub countRead : CountRead → Answer ℕ
+countRead (count-by.Count n) = shown n
+countRead (count-by.Refused r) = told r
+
+-- an element's part, or the refusal
+abbrev pub elementRead : ElementRead → Answer Part
+elementRead (element-by.Found p) = shown p
+elementRead (element-by.Refused r) = told r
 
 -- the numbers in front of the tags, or the refusal
 abbrev pub headRead : HeadRead → Answer Head

@@ -2,4 +2,5 @@ pub mod Layout
 pub mod Strict
 pub mod Unpack
 pub mod Tally
+pub mod Views
 pub mod Answers

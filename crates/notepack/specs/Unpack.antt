@@ -1,10 +1,10 @@
 -- Reading notepack at places of the input, with document 01's refusals and their places. `proofs/` shows that it is `Lays`. Assumes nothing.
-use Prim.Native.Nat.{ℕ, zero, suc, _+_, _-_, _/_, _%_}
+use Prim.Native.Nat.{ℕ, _+_, _-_, _/_, _%_}
 use mathlib.Core.Bool.{Bool, true, false}
-use mathlib.Core.List.{List, [], _∷_, map}
+use mathlib.Core.List.{List, map}
 use lib.ListN.{length, take, drop}
 use lib.Dec.{leb, eqb}
-use Rattle.scan.specs.Choice.{pick, Answer, shown, refused, Read, read, andThen}
+use Rattle.scan.specs.Choice.{pick, Answer, shown, refused, Read, read, andThen, many}
 use Rattle.varint.specs.Varint.{varintAt}
 use Rattle.utf8.specs.Width.{isUtf8}
 use Rattle.hex.specs.Hex.{hexes}
@@ -51,12 +51,8 @@ elementAt s at =
     pick (eqb (w .value % 2) 1) (payloadAt at true (w .value / 2) s (w .next)) (textAt at (w .value / 2) s (w .next))
 
 -- n elements, one after the other
-unfoldable pub elementsAt : ℕ → List ℕ → ℕ → Answer (Read (List Part))
-elementsAt zero s at = read [] at
-elementsAt (suc n) s at =
-    andThen (elementAt s at) λ e.
-    andThen (elementsAt n s (e .next)) λ es.
-    read (e .value ∷ es .value) (es .next)
+abbrev pub elementsAt : ℕ → List ℕ → ℕ → Answer (Read (List Part))
+elementsAt n s at = many (elementAt s) n at
 
 -- a tag's number of elements: none is 9, more than 255 is 8
 unfoldable pub tagCountAt : List ℕ → ℕ → Answer (Read ℕ)
@@ -71,12 +67,8 @@ tagAt s at =
     elementsAt (n .value) s (n .next)
 
 -- n tags, one after the other
-unfoldable pub tagsAt : ℕ → List ℕ → ℕ → Answer (Read (List (List Part)))
-tagsAt zero s at = read [] at
-tagsAt (suc n) s at =
-    andThen (tagAt s at) λ t.
-    andThen (tagsAt n s (t .next)) λ ts.
-    read (t .value ∷ ts .value) (ts .next)
+abbrev pub tagsAt : ℕ → List ℕ → ℕ → Answer (Read (List (List Part)))
+tagsAt n s at = many (tagAt s) n at
 
 -- created_at, kind, the content and the number of tags
 unfoldable pub numbersAt : List ℕ → Answer Head

@@ -10,7 +10,8 @@ ghost use Rattle.hex.specs.Hex.{hexes};
 ghost use Rattle.notepack.specs.Strict.{packElement};
 ghost use Rattle.notepack.specs.Unpack.{textOf, payloadAt, textAt, numberAt, contentAt, elementAt, elementsAt, tagCountAt, tagAt, tagsAt, numbersAt, headAt};
 ghost use Rattle.notepack.specs.Tally.{headLen, isHollow, more, passElements, passTag, passTags};
-ghost use Rattle.notepack.specs.Answers.{partRead, numberRead, pass, headRead, walk, walkAt};
+ghost use Rattle.notepack.specs.Views.{numbersOf, textsIn, elementOf, view, contentOf, tagStart, elementPlace};
+ghost use Rattle.notepack.specs.Answers.{countRead, elementRead, partRead, numberRead, pass, headRead, walk, walkAt};
 
 // A place in the input. A cursor past the end reads as the end.
 pub struct Cursor {
@@ -57,6 +58,18 @@ struct Counted {
 
 pub enum HeadRead {
     Found(Head),
+    Refused(Refusal),
+}
+
+// How many, or the refusal.
+pub enum CountRead {
+    Count(u64),
+    Refused(Refusal),
+}
+
+// An element's part, which has its b, or the refusal.
+pub enum ElementRead {
+    Found(Part),
     Refused(Refusal),
 }
 
@@ -400,5 +413,136 @@ fn walk_tags(s: &[u8], h: Head) -> Walk
                 place: c.at,
             })
         }
+    }
+}
+
+// The numbers of a packed event: created_at, kind, where the content stands, how many tags; or the refusal.
+pub fn read_packed(s: &[u8]) -> HeadRead
+    ensures { λ r. ⌜ headRead r ≡ numbersOf (now (s .entry)) ⌝ }
+{
+    let walked = walk_packed(s);
+    match walked {
+        Walk::Done(h, _) => HeadRead::Found(h),
+        Walk::Refused(r) => HeadRead::Refused(r),
+    }
+}
+
+// The content, as a part of the caller's own bytes; empty where the reader refuses.
+pub fn content<'a>(s: &'a [u8]) -> &'a [u8]
+    ensures { λ r. ⌜ now r ≡ view (now (s .entry)) (contentOf (now (s .entry))) ⌝ }
+{
+    let found = read_packed(s);
+    match found {
+        HeadRead::Found(h) => {
+            let p = h.content;
+            scan::part(s, p.at, p.len)
+        }
+        HeadRead::Refused(_) => &s[..0],
+    }
+}
+
+// The number of texts in tag i, with the cursor at the first of them.
+fn find_tag(s: &[u8], i: u64) -> NumberRead
+    ensures { λ r. ⌜ numberRead r ≡ tagStart i (now (s .entry)) ⌝ }
+{
+    let found = read_packed(s);
+    match found {
+        HeadRead::Refused(r) => NumberRead::Refused(r),
+        HeadRead::Found(h) => {
+            if i < h.tag_count {
+                return skip_to(s, h.tags_at, i);
+            }
+            NumberRead::Refused(Refusal {
+                number: event::NO_SUCH,
+                place: 0,
+            })
+        }
+    }
+}
+
+// The count of the tag behind i tags.
+fn skip_to(s: &[u8], at: usize, i: u64) -> NumberRead
+    ensures { λ r. ⌜ numberRead r ≡ andThen (tagsAt i (now (s .entry)) at) (λ t. tagCountAt (now (s .entry)) (t .next)) ⌝ }
+{
+    let passed = Cursor { at }.pass_tags(
+        s,
+        i,
+        Tally {
+            len: 0,
+            hollow: false,
+        },
+    );
+    match passed {
+        Pass::Done(_, c) => c.tag_count(s),
+        Pass::Refused(r) => NumberRead::Refused(r),
+    }
+}
+
+// The number of texts in tag i, or the refusal: the reader's, then 19.
+pub fn texts_in(s: &[u8], i: u64) -> CountRead
+    ensures { λ r. ⌜ countRead r ≡ textsIn i (now (s .entry)) ⌝ }
+{
+    let found = find_tag(s, i);
+    match found {
+        NumberRead::Number(n, _) => CountRead::Count(n),
+        NumberRead::Refused(r) => CountRead::Refused(r),
+    }
+}
+
+// The element behind j elements.
+fn skip_elements(s: &[u8], c: Cursor, j: u64) -> PartRead
+    ensures { λ r. ⌜ partRead r ≡ andThen (elementsAt j (now (s .entry)) (c .at)) (λ e. elementAt (now (s .entry)) (e .next)) ⌝ }
+{
+    let passed = c.pass_elements(
+        s,
+        j,
+        Tally {
+            len: 0,
+            hollow: false,
+        },
+    );
+    match passed {
+        Pass::Done(_, next) => next.element(s),
+        Pass::Refused(r) => PartRead::Refused(r),
+    }
+}
+
+fn find_part(s: &[u8], i: u64, j: u64) -> PartRead
+    ensures { λ r. ⌜ partRead r ≡ elementPlace i j (now (s .entry)) ⌝ }
+{
+    let found = find_tag(s, i);
+    match found {
+        NumberRead::Refused(r) => PartRead::Refused(r),
+        NumberRead::Number(n, first) => {
+            if j < n {
+                return skip_elements(s, first, j);
+            }
+            PartRead::Refused(Refusal {
+                number: event::NO_SUCH,
+                place: 0,
+            })
+        }
+    }
+}
+
+// Element j of tag i, both from 0: where its payload stands and its b; or the refusal: the reader's, then 19.
+pub fn find_element(s: &[u8], i: u64, j: u64) -> ElementRead
+    ensures { λ r. ⌜ elementRead r ≡ elementOf i j (now (s .entry)) ⌝ }
+{
+    let found = find_part(s, i, j);
+    match found {
+        PartRead::Found(p, _) => ElementRead::Found(p),
+        PartRead::Refused(r) => ElementRead::Refused(r),
+    }
+}
+
+// The payload of element j of tag i, as a part of the caller's own bytes; empty where there is none.
+pub fn element<'a>(s: &'a [u8], i: u64, j: u64) -> &'a [u8]
+    ensures { λ r. ⌜ now r ≡ view (now (s .entry)) (elementOf i j (now (s .entry))) ⌝ }
+{
+    let found = find_element(s, i, j);
+    match found {
+        ElementRead::Found(p) => scan::part(s, p.at, p.len),
+        ElementRead::Refused(_) => &s[..0],
     }
 }

@@ -1,6 +1,7 @@
 -- How a definition chooses and goes on: `pick` by a test, `Answer` for what a reader tells, `andThen` for one read after another. Assumes nothing.
-use Prim.Native.Nat.{ℕ}
+use Prim.Native.Nat.{ℕ, zero, suc}
 use mathlib.Core.Bool.{Bool, true, false}
+use mathlib.Core.List.{List, [], _∷_}
 
 -- the choice by a test
 abbrev pub pick : {A : Type 0} → Bool → A → A → A
@@ -30,3 +31,11 @@ read a next = shown (record { value = a; next = next })
 abbrev pub andThen : {A B : Type 0} → Answer A → (A → Answer B) → Answer B
 andThen (shown a) f = f a
 andThen (refused n p) f = refused n p
+
+-- n reads, one after the other, as one read of a list
+unfoldable pub many : {A : Type 0} → (ℕ → Answer (Read A)) → ℕ → ℕ → Answer (Read (List A))
+many item zero at = read [] at
+many item (suc n) at =
+    andThen (item at) λ x.
+    andThen (many item n (x .next)) λ xs.
+    read (x .value ∷ xs .value) (xs .next)
