@@ -111,18 +111,18 @@ module _ {s : List ℕ} where
       let i = field-full 0 32 (v .id32 .count) (ri .0) in
       let p = field-full 32 32 (v .pubkey32 .count) (rp .0) in
       let y = field-full 64 64 (v .sig64 .count) (rs .0) in
-      rw
-      ( le-leb (length s) 65_536 short
-      , i
-      , p
-      , y
-      , number-full 9_223_372_036_854_775 7 t (v .time) (rt .1)
-      , number-full 65_535 6 k (v .kind16) (rk .1)
-      , accepts z (rz .1)
-      , text-full (rk .0) (v .text) (rc .1)
-      , number-full 1_000 8 n (v .few) (rn .1)
-      , ts .1
-      , eq-eqb (length s) (length s) refl
+      rw (
+        le-leb (length s) 65_536 short,
+        i,
+        p,
+        y,
+        number-full 9_223_372_036_854_775 7 t (v .time) (rt .1),
+        number-full 65_535 6 k (v .kind16) (rk .1),
+        accepts z (rz .1),
+        text-full (rk .0) (v .text) (rc .1),
+        number-full 1_000 8 n (v .few) (rn .1),
+        ts .1,
+        eq-eqb (length s) (length s) refl,
       )
       (ap shown
       (all-seven

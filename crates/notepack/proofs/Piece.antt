@@ -42,10 +42,10 @@ either-no false b e = (refl, e)
 
 -- two lists joined alike, the first parts as long as each other
 halves : (a b c d : List ℕ) → length a ≡ length c → a ++ b ≡ c ++ d → (a ≡ c) × (b ≡ d)
-halves a b c d n e =
-    ( sym (take-at a b (length a) refl) ∙ ap (take (length a)) e ∙ take-at c d (length a) (sym n)
-    , sym (drop-at a b (length a) refl) ∙ ap (drop (length a)) e ∙ drop-at c d (length a) (sym n)
-    )
+halves a b c d n e = (
+  sym (take-at a b (length a) refl) ∙ ap (take (length a)) e ∙ take-at c d (length a) (sym n),
+  sym (drop-at a b (length a) refl) ∙ ap (drop (length a)) e ∙ drop-at c d (length a) (sym n),
+)
 
 -- one piece behind another
 pub beside : {a b l m : List ℕ} {h k : Bool} → Piece a l h → Piece b m k → Piece (a ++ b) (l ++ m) (either h k)
@@ -53,19 +53,19 @@ beside {a} {b} {l} {m} {h} {k} p q =
     let u = length-append a b in
     let v = length-append l m in
     let least : length (a ++ b) ≤ length (l ++ m) = omega (arith, u, v, p .least, q .least) in
-    record
-    { least = least
-    ; same =
-        λ e f.
-        let n = either-no h k f in
-        let x = p .same (omega (arith, u, v, e, p .least, q .least)) (n .0) in
-        let y = q .same (omega (arith, u, v, e, p .least, q .least)) (n .1) in
-        cc
-    ; clear =
-        λ e.
-        let g = ap length e in
-        let s = halves l m a b (omega (arith, u, v, g, p .least, q .least)) e in
-        rw (p .clear (s .0), q .clear (s .1))
+    record {
+      least = least;
+      same =
+          λ e f.
+          let n = either-no h k f in
+          let x = p .same (omega (arith, u, v, e, p .least, q .least)) (n .0) in
+          let y = q .same (omega (arith, u, v, e, p .least, q .least)) (n .1) in
+          cc;
+      clear =
+          λ e.
+          let g = ap length e in
+          let s = halves l m a b (omega (arith, u, v, g, p .least, q .least)) e in
+          rw (p .clear (s .0), q .clear (s .1));
     }
 
 -- a shorter number is spelled no longer
@@ -87,11 +87,11 @@ text-piece t {w} d =
     let n = length-unhex t in
     let u = uleb-mono (2 * length t) (2 * length (unhex t) + 1) (2 * length t) (omega arith) (omega (arith, n, h .0, h .1)) in
     let less : length (uleb (2 * length (unhex t) + 1) ++ unhex t) < length (w ++ t) =
-        omega (arith, u, n, h .0, h .1, uleb-shortest (d .digits), length-append (uleb (2 * length (unhex t) + 1)) (unhex t), length-append w t) in
-    record
-    { least = omega arith
-    ; same = λ e f. absurd (omega (arith, e))
-    ; clear = λ e. refl
+    omega (arith, u, n, h .0, h .1, uleb-shortest (d .digits), length-append (uleb (2 * length (unhex t) + 1)) (unhex t), length-append w t) in
+    record {
+      least = omega arith;
+      same = λ e f. absurd (omega (arith, e));
+      clear = λ e. refl;
     })
     (λ f. beside (number d) whole)
 
@@ -105,10 +105,10 @@ unfolding packElement
 bytes-none {w} d =
     pick-by (λ (x : List ℕ). Piece x (w ++ []) true) (goesAsBytes []) (λ g. absurd (let h = go-digits [] g .0 in omega arith))
     (λ f.
-    record
-    { least = rw (append-nil (uleb 0), append-nil w) (omega (arith, length-last 0 (omega arith), spells-one d))
-    ; same = λ e g. absurd (false-true (sym g))
-    ; clear = λ e. let q = sym (append-nil w) ∙ e ∙ append-nil (uleb 0) in absurd (let z = spells-value d (rw (sym q) at (uleb-spells 0 (omega arith))) in omega arith)
+    record {
+      least = rw (append-nil (uleb 0), append-nil w) (omega (arith, length-last 0 (omega arith), spells-one d));
+      same = λ e g. absurd (false-true (sym g));
+      clear = λ e. let q = sym (append-nil w) ∙ e ∙ append-nil (uleb 0) in absurd (let z = spells-value d (rw (sym q) at (uleb-spells 0 (omega arith))) in omega arith);
     })
 
 pub bytes-piece : (p : List ℕ) {w : List ℕ} → IsBytes p → Spells (2 * length p + 1) w → Piece (packElement (hexes p)) (w ++ p) (eqb (length p) 0)

@@ -71,11 +71,11 @@ pub record Number (max : ℕ) (n : ℕ) (l : List ℕ) : Type 0 where
 
 -- a well-formed text behind its length
 pub data Sized (s : List ℕ) (p : Part) : List ℕ → Type 0 where
-  sized : {t w : List ℕ} → textOf s p ≡ t → p .len ≡ length t → Utf8 t → Spells (length t) w → Sized s p (w ++ t)
+  sized : {t w : List ℕ} → textOf s p ≡ t → bytesOf s p ≡ t → p .len ≡ length t → Utf8 t → Spells (length t) w → Sized s p (w ++ t)
 
 pub sized-text : {s : List ℕ} {p : Part} {l : List ℕ} → Sized s p l
-    → (w : List ℕ) × (l ≡ w ++ textOf s p) × Utf8 (textOf s p) × Spells (length (textOf s p)) w × (length (textOf s p) ≡ p .len)
-sized-text (sized {t = t} {w = w} e n u g) = (w, rw e, rw e u, rw e g, rw e (sym n))
+    → (w : List ℕ) × (l ≡ w ++ textOf s p) × Utf8 (textOf s p) × Spells (length (textOf s p)) w × (length (textOf s p) ≡ p .len) × (textOf s p ≡ bytesOf s p)
+sized-text (sized {t = t} {w = w} e b n u g) = (w, rw e, rw e u, rw e g, rw e (sym n), e ∙ sym b)
 
 -- an element, with its text well-formed, beside its strict form
 pub record Laid (s : List ℕ) (p : Part) (l : List ℕ) : Type 0 where
@@ -99,7 +99,7 @@ module _ (s : List ℕ) (bytes : IsBytes s) where
       (λ p l f u q.
       let v = u .payload in
       let is = v .is in
-      reads (sized {w = w} (rw is (sym (v .bytes))) (rw is (sym (v .long))) (u .text) (rw (v .long) g)) (join r q)))
+      reads (sized {w = w} (rw is (sym (v .bytes))) (rw is (sym (v .bytes))) (rw is (sym (v .long))) (u .text) (rw (v .long) g)) (join r q)))
 
   pub element-reads : (at : ℕ) → Reads (Laid s) s at (elementAt s at)
   unfolding elementAt textOf isHollow
@@ -117,10 +117,10 @@ module _ (s : List ℕ) (bytes : IsBytes s) where
       let text : textOf s p ≡ hexes l = rw is (ap hexes (sym (v .bytes))) in
       let hollow : isHollow p ≡ eqb (length l) 0 = rw (is, v .long) in
       reads
-      (record
-      { element = rw text (as-bytes b (rw word at g))
-      ; text = rw text (utf8-ascii (digits-ascii (hexes-digits b)))
-      ; piece = rw (text, hollow) (bytes-piece l b (rw word at g))
+      (record {
+        element = rw text (as-bytes b (rw word at g));
+        text = rw text (utf8-ascii (digits-ascii (hexes-digits b)));
+        piece = rw (text, hollow) (bytes-piece l b (rw word at g));
       })
       (join r q)))
       (λ k.
@@ -152,11 +152,11 @@ module _ (s : List ℕ) (bytes : IsBytes s) where
       then-reads _ (elements-reads n e)
       (λ ps m f h q.
       reads
-      (record
-      { elements = Elements.more (g .element) (h .elements)
-      ; texts = also (g .text) (h .texts)
-      ; count = ap suc (h .count)
-      ; piece = beside (g .piece) (h .piece)
+      (record {
+        elements = Elements.more (g .element) (h .elements);
+        texts = also (g .text) (h .texts);
+        count = ap suc (h .count);
+        piece = beside (g .piece) (h .piece);
       })
       (join r q)))
 
@@ -230,15 +230,15 @@ module _ (s : List ℕ) (bytes : IsBytes s) where
       read-gives _ (number-reads 1_000 8 ec)
       (λ m lm em gm rm.
       gives
-      (record
-      { id = payload-span p r
-      ; pubkey = payload-span q u
-      ; sig = payload-span v w
-      ; ids = (payload-long p, payload-long q, payload-long v)
-      ; time = (lt, et, gt, rt)
-      ; kind = (ln, en, gn, rn)
-      ; content = (lc, ec, gc, rc)
-      ; count = (lm, gm, rm)
+      (record {
+        id = payload-span p r;
+        pubkey = payload-span q u;
+        sig = payload-span v w;
+        ids = (payload-long p, payload-long q, payload-long v);
+        time = (lt, et, gt, rt);
+        kind = (ln, en, gn, rn);
+        content = (lc, ec, gc, rc);
+        count = (lm, gm, rm);
       }))))))))
 
   -- what the whole input shows
@@ -258,30 +258,30 @@ module _ (s : List ℕ) (bytes : IsBytes s) where
       let count : Spells (length (map (map (textOf s)) ts)) (d .count .0) = rw n (d .count .1 .spells) in
       let behind = join (d .time .3) (join (d .kind .3) (join (q .1) (join (q .2) (join (d .count .2) r)))) in
       let all = whole-span (join (d .id) (join (d .pubkey) (join (d .sig) behind))) in
-      record
-      { lays =
-          subst (λ (x : List ℕ). Lays (eventOf s (record { head = h; tags = ts })) x) (sym all)
-          (Lays.lays (d .time .2 .spells) (d .kind .2 .spells) (c .3) count (g .tags))
-      ; valid =
-          record
-          { id32 = record { count = d .ids .0; each = all-take 32 bytes }
-          ; pubkey32 = record { count = d .ids .1; each = all-take 32 (all-drop 32 bytes) }
-          ; sig64 = record { count = d .ids .2; each = all-take 64 (all-drop 64 bytes) }
-          ; time = d .time .2 .within
-          ; kind16 = d .kind .2 .within
-          ; few = rw n (d .count .1 .within)
-          ; each = g .good
-          ; text = c .2
-          }
-      ; short = k
-      ; piece =
-          subst (λ (x : List ℕ). Piece (pack (eventOf s (record { head = h; tags = ts }))) x (hollowTags ts)) (sym all)
-          (beside (whole {l = take 32 s})
-          (beside (whole {l = take 32 (drop 32 s)})
-          (beside (whole {l = take 64 (drop 64 s)})
-          (beside (number (d .time .2 .spells))
-          (beside (number (d .kind .2 .spells))
-          (beside (number (c .3)) (beside (whole {l = textOf s (h .content)}) (beside (number count) (g .piece)))))))))
+      record {
+        lays =
+            subst (λ (x : List ℕ). Lays (eventOf s (record { head = h; tags = ts })) x) (sym all)
+            (Lays.lays (d .time .2 .spells) (d .kind .2 .spells) (c .3) count (g .tags));
+        valid =
+            record {
+              id32 = record { count = d .ids .0; each = all-take 32 bytes };
+              pubkey32 = record { count = d .ids .1; each = all-take 32 (all-drop 32 bytes) };
+              sig64 = record { count = d .ids .2; each = all-take 64 (all-drop 64 bytes) };
+              time = d .time .2 .within;
+              kind16 = d .kind .2 .within;
+              few = rw n (d .count .1 .within);
+              each = g .good;
+              text = c .2;
+            };
+        short = k;
+        piece =
+            subst (λ (x : List ℕ). Piece (pack (eventOf s (record { head = h; tags = ts }))) x (hollowTags ts)) (sym all)
+            (beside (whole {l = take 32 s})
+            (beside (whole {l = take 32 (drop 32 s)})
+            (beside (whole {l = take 64 (drop 64 s)})
+            (beside (number (d .time .2 .spells))
+            (beside (number (d .kind .2 .spells))
+            (beside (number (c .3)) (beside (whole {l = textOf s (h .content)}) (beside (number count) (g .piece)))))))));
       }
 
   pub packed-gives : Gives Sound (packedAt s)
@@ -309,6 +309,6 @@ pub sound : (s : List ℕ) → IsBytes s → (e : Event) → unpack s ≡ shown 
 unfolding unpack
 sound s bytes e h =
     let g =
-        then-gives {Q = Shows s} _ (packed-gives s bytes)
-        (λ p k. gives (record { lays = k .lays; valid = k .valid; short = k .short; least = k .piece .least })) in
+    then-gives {Q = Shows s} _ (packed-gives s bytes)
+    (λ p k. gives (record { lays = k .lays; valid = k .valid; short = k .short; least = k .piece .least })) in
     shown-gives (rw h at g)

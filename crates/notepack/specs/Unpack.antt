@@ -104,15 +104,15 @@ packedAt s =
 -- the event whose parts stand there
 unfoldable pub eventOf : List ℕ → Packed → Event
 eventOf s p =
-    record
-      { id = take 32 s
-      ; pubkey = take 32 (drop 32 s)
-      ; sig = take 64 (drop 64 s)
-      ; createdAt = p .head .«created_at»
-      ; kind = p .head .kind
-      ; tags = map (map (textOf s)) (p .tags)
-      ; content = textOf s (p .head .content)
-      }
+    record {
+      id = take 32 s;
+      pubkey = take 32 (drop 32 s);
+      sig = take 64 (drop 64 s);
+      createdAt = p .head .«created_at»;
+      kind = p .head .kind;
+      tags = map (map (textOf s)) (p .tags);
+      content = textOf s (p .head .content);
+    }
 
 -- the event that packed bytes show, or the refusal
 unfoldable pub unpack : List ℕ → Answer Event

@@ -1,7 +1,6 @@
 // Notepack: the form in which the box holds a record. One pass reads it, checks it and measures its strict form.
 use event::Refusal;
 use varint::VarintRead;
-
 ghost use Prim.Native.Nat.{_≤_, _<_, _+_, _-_, _^_};
 ghost use mathlib.Core.Path.{_≡_};
 ghost use lib.ListN.{length};
@@ -322,7 +321,9 @@ fn numbers(s: &[u8]) -> HeadRead
         NumberRead::Number(n, next) => Counted { n, next },
         NumberRead::Refused(r) => return HeadRead::Refused(r),
     };
-    let kind = first.next.number(s, event::MAX_KIND, event::KIND_OUT_OF_RANGE);
+    let kind = first
+        .next
+        .number(s, event::MAX_KIND, event::KIND_OUT_OF_RANGE);
     let second = match kind {
         NumberRead::Number(n, next) => Counted { n, next },
         NumberRead::Refused(r) => return HeadRead::Refused(r),
@@ -371,7 +372,12 @@ fn head_len(h: Head) -> usize
     ensures { λ r. ⌜ r ≡ headLen h ⌝ }
 {
     let content = h.content;
-    128 + varint::varint_len(h.created_at) + varint::varint_len(h.kind) + varint::varint_len(content.len as u64) + content.len + varint::varint_len(h.tag_count)
+    128
+        + varint::varint_len(h.created_at)
+        + varint::varint_len(h.kind)
+        + varint::varint_len(content.len as u64)
+        + content.len
+        + varint::varint_len(h.tag_count)
 }
 
 // The whole input, checked and measured in one pass: 1 first of all, 10 for a byte after the end.

@@ -39,9 +39,9 @@ again c =
     let n = c .before .before .element-len .ensures in
     let bytes = all-places s (λ i. omega (arith, c .before .before .before .before .before .before .before .before .before .shared-slice-known .given i)) in
     let g = element-room s bytes (q .c .at) _ (q .sum) _ _ _ e f n (q .inv .1) in
-    let m = ap (λ (t : Tally). t .len) (c .more .ensures) in
-    ( elements-again s _ (q .left) (q .c .at) _ (q .sum) _ _ _ _ _ (q .inv .0) (c .before .before .before .before .before .before .before .loop-test .taken) e f n (c .before .is-hollow .ensures) (c .more .ensures)
-    , omega (arith, g, m)
+    let m = ap (λ (t : Tally). t .len) (c .more .ensures) in (
+      elements-again s _ (q .left) (q .c .at) _ (q .sum) _ _ _ _ _ (q .inv .0) (c .before .before .before .before .before .before .before .loop-test .taken) e f n (c .before .is-hollow .ensures) (c .more .ensures),
+      omega (arith, g, m),
     )
 
 returns : tie.Need-returns Inv-loop μ-loop

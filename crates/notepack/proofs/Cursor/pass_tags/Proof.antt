@@ -29,9 +29,9 @@ again c =
     let s = known .before .args .s .now in
     let e = called .pass-tag .ensures in
     let f = c .before .found .given .1 in
-    let bytes = all-places s (λ i. omega (arith, known .shared-slice-known .given i)) in
-    ( tags-again s _ (q .left) (q .c .at) (q .sum) _ _ _ (q .inv .0) (turn .loop-test .taken) e f
-    , tag-room s bytes (q .c .at) (q .sum) _ _ _ e f (q .inv .1)
+    let bytes = all-places s (λ i. omega (arith, known .shared-slice-known .given i)) in (
+      tags-again s _ (q .left) (q .c .at) (q .sum) _ _ _ (q .inv .0) (turn .loop-test .taken) e f,
+      tag-room s bytes (q .c .at) (q .sum) _ _ _ e f (q .inv .1),
     )
 
 returns : tie.Need-returns Inv-loop μ-loop
