@@ -48,42 +48,33 @@ pub fn put_varint(out: &mut Out, mut value: u64) {
     out.byte(value as u8);
 }
 
-const NO_DIGIT: u8 = 0xff;
-
-/// The value of a lowercase hex digit, or `NO_DIGIT`.
-const HEX_DIGIT: [u8; 256] = {
-    let mut table = [NO_DIGIT; 256];
-    let mut v = 0;
-    while v < 16 {
-        table[b"0123456789abcdef"[v] as usize] = v as u8;
-        v += 1;
-    }
-    table
-};
-
+/// Are they all of 0-9 a-f?
 #[inline]
 pub fn is_hex(bytes: &[u8]) -> bool {
-    bytes.iter().all(|&b| HEX_DIGIT[b as usize] != NO_DIGIT)
+    let digit = |b: u8| (b.wrapping_sub(b'0') < 10) | (b.wrapping_sub(b'a') < 6);
+    // most texts that are not hex show it at once; the rest goes without exits, as vector code
+    bytes.first().is_none_or(|&b| digit(b)) && bytes.iter().fold(true, |all, &b| all & digit(b))
 }
 
 /// The bytes that lowercase hex spells; false if a digit is none. `hex` is twice as long as `to`.
 #[inline]
 pub fn unhex(hex: &[u8], to: &mut [u8]) -> bool {
-    let mut seen = 0;
     for (pair, byte) in hex.chunks_exact(2).zip(to) {
-        let (high, low) = (HEX_DIGIT[pair[0] as usize], HEX_DIGIT[pair[1] as usize]);
-        seen |= high | low;
-        *byte = high << 4 | low & 15;
+        // both digits at once: letters have bit 6, and are 9 above their low four bits
+        let pair = u16::from_le_bytes([pair[0], pair[1]]);
+        let values = (pair & 0x0f0f) + 9 * (pair >> 6 & 0x0101);
+        *byte = (values << 4 | values >> 8) as u8;
     }
-    seen != NO_DIGIT
+    is_hex(hex)
 }
 
 #[inline]
 pub fn put_hex(out: &mut Out, bytes: &[u8]) {
-    const DIGITS: &[u8; 16] = b"0123456789abcdef";
     for (pair, &b) in out.take(2 * bytes.len()).chunks_exact_mut(2).zip(bytes) {
-        pair[0] = DIGITS[(b >> 4) as usize];
-        pair[1] = DIGITS[(b & 15) as usize];
+        // both digits at once: those above 9 are letters, 39 further on
+        let values = (b >> 4) as u16 | ((b & 15) as u16) << 8;
+        let letters = (values + 0x0606) >> 4 & 0x0101;
+        pair.copy_from_slice(&(values + 0x3030 + 39 * letters).to_le_bytes());
     }
 }
 
@@ -98,37 +89,71 @@ pub fn put_decimal(out: &mut Out, mut value: u64) {
     }
 }
 
-/// How many bytes there are before the first that is `special`. Blocks go without exits, so that they become vector code.
+/// A control byte, a quote or a backslash: what ends a run of plain bytes in a string.
 #[inline]
-pub fn run(s: &[u8], special: impl Fn(u8) -> bool) -> usize {
-    let mut at = 0;
+fn stops(b: u8) -> bool {
+    (b < 0x20) | (b == b'"') | (b == b'\\')
+}
+
+const ONES: u64 = 0x0101_0101_0101_0101;
+const TOPS: u64 = 0x8080_8080_8080_8080;
+
+/// The top bit of the lowest byte that stops is set, and none below it. (Borrows can set wrong ones above.)
+#[inline]
+fn stops_in(eight: u64) -> u64 {
+    let zero = |x: u64| x.wrapping_sub(ONES) & !x;
+    let low = eight.wrapping_sub(0x20 * ONES) & !eight;
+    (low | zero(eight ^ b'"' as u64 * ONES) | zero(eight ^ b'\\' as u64 * ONES)) & TOPS
+}
+
+/// How many bytes there are before the first that stops, and whether they are all ASCII.
+pub fn plain_run(s: &[u8]) -> (usize, bool) {
+    let (mut at, mut seen) = (0, 0);
+    // blocks without exits, which become vector code
     for block in s.chunks_exact(32) {
-        if block.iter().fold(false, |any, &b| any | special(b)) {
+        if block.iter().fold(false, |any, &b| any | stops(b)) {
             break;
         }
+        seen |= block.iter().fold(0, |any, &b| any | b);
         at += 32;
     }
-    while at < s.len() && !special(s[at]) {
+    let mut seen = seen as u64;
+    while let Some(eight) = s.get(at..at + 8) {
+        let eight = u64::from_le_bytes(eight.try_into().unwrap());
+        let found = stops_in(eight);
+        if found != 0 {
+            let bits = found.trailing_zeros() - 7;
+            seen |= eight & ((1 << bits) - 1);
+            return (at + bits as usize / 8, seen & TOPS == 0);
+        }
+        seen |= eight;
+        at += 8;
+    }
+    while at < s.len() && !stops(s[at]) {
+        seen |= s[at] as u64;
         at += 1;
     }
-    at
+    (at, seen & TOPS == 0)
 }
 
-/// An escape as a letter behind a backslash; 0 where the byte stands for itself.
-pub type Letters = fn(u8) -> u8;
-
+/// How many bytes are such.
 #[inline]
-pub fn escaped_len(text: &[u8], letter: impl Fn(u8) -> u8) -> usize {
-    text.len() + text.iter().filter(|&&b| letter(b) != 0).count()
+pub fn count(text: &[u8], such: impl Fn(u8) -> bool) -> usize {
+    // sums of few bytes fit a byte, and become vector code
+    text.chunks(128).map(|block| block.iter().map(|&b| such(b) as u8).sum::<u8>() as usize).sum()
 }
 
+/// The text with a backslash and a letter for each byte that has a letter. Only bytes that stop a plain run have one.
 #[inline]
 pub fn put_escaped(out: &mut Out, mut text: &[u8], letter: impl Fn(u8) -> u8) {
     loop {
-        let plain = run(text, |b| letter(b) != 0);
+        let plain = plain_run(text).0;
         out.put(&text[..plain]);
         let Some(&b) = text.get(plain) else { return };
-        out.put(&[b'\\', letter(b)]);
+        match letter(b) {
+            0 => out.byte(b),
+            letter => out.put(&[b'\\', letter]),
+        }
         text = &text[plain + 1..];
     }
 }

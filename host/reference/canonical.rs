@@ -2,7 +2,7 @@
 
 use crate::answer::*;
 use crate::bytes::*;
-use crate::notepack::{self, Item, Text};
+use crate::notepack::{self, Item, Packed, Text};
 
 #[inline]
 fn letter(b: u8) -> u8 {
@@ -18,12 +18,16 @@ fn letter(b: u8) -> u8 {
     }
 }
 
+/// The length of a text with its escapes.
+#[inline]
+fn escaped_len(text: &[u8]) -> usize {
+    text.len() + count(text, |b| (b == 0x22) | (b == 0x5c) | ((b >= 8) & (b <= 13) & (b != 11)))
+}
+
 pub fn write(bytes: &[u8], out: &mut [u8]) -> Answer<usize> {
     let packed = notepack::read(bytes)?;
-    // [0," 64 digits ", and , and , and ," and "]
-    let needed = 4 + 64 + 2 + decimal_len(packed.created_at) + 1 + decimal_len(packed.kind) + 1
-        + tags_len(&packed, |text| escaped_len(text, letter))
-        + 2 + escaped_len(packed.content(), letter) + 2;
+    let numbers = decimal_len(packed.created_at) + decimal_len(packed.kind);
+    let needed = b"[0,\"\",,,,\"\"]".len() + 64 + numbers + tags_len(&packed) + escaped_len(packed.content());
     let mut out = room(out, needed)?;
     out.put(b"[0,\"");
     put_hex(&mut out, packed.pubkey());
@@ -40,24 +44,24 @@ pub fn write(bytes: &[u8], out: &mut [u8]) -> Answer<usize> {
     Ok(needed)
 }
 
-/// The length of the tags as arrays of strings, and `text_len` for a text that isn't hex of raw bytes.
-#[inline]
-pub fn tags_len(packed: &notepack::Packed, text_len: impl Fn(&[u8]) -> usize) -> usize {
-    // the outer brackets, a comma between two tags
-    let mut length = 2 + (packed.tag_count as usize).saturating_sub(1);
+/// The length of the tags as arrays of strings.
+fn tags_len(packed: &Packed) -> usize {
+    // the outer brackets, less the comma that no tag follows
+    let mut length = 2 - (packed.tag_count > 0) as usize;
     for item in packed.items() {
         length += match item {
-            // brackets, two quotes for each text, a comma between two
-            Item::Tag(count) => 2 + 2 * count as usize + (count as usize - 1),
+            // brackets, two quotes for each text, a comma between two, and one between two tags
+            Item::Tag(count) => 2 + 3 * count as usize,
             Item::Text(Text { payload, raw: true, .. }) => 2 * payload.len(),
-            Item::Text(Text { payload, .. }) => text_len(payload),
+            Item::Text(Text { payload, .. }) => escaped_len(payload),
         };
     }
     length
 }
 
+/// The tags as arrays of strings; `put_text` puts a text that isn't raw.
 #[inline]
-pub fn put_tags(out: &mut Out, packed: &notepack::Packed, put_text: impl Fn(&mut Out, &[u8])) {
+pub fn put_tags(out: &mut Out, packed: &Packed, put_text: impl Fn(&mut Out, &[u8])) {
     let (mut tags, mut texts_left) = (0, 0);
     out.put(b"[");
     for item in packed.items() {

@@ -19,17 +19,30 @@ fn told(answer: Answer<u64>) -> KezAnswer {
 
 /// The bytes that a caller lends; a null pointer with length 0 is fine.
 unsafe fn lent<'a>(at: *const u8, length: usize) -> &'a [u8] {
-    if length == 0 { &[] } else { unsafe { std::slice::from_raw_parts(at, length) } }
+    if length == 0 {
+        &[]
+    } else {
+        unsafe { std::slice::from_raw_parts(at, length) }
+    }
 }
 
 unsafe fn lent_mut<'a>(at: *mut u8, length: usize) -> &'a mut [u8] {
-    if length == 0 { &mut [] } else { unsafe { std::slice::from_raw_parts_mut(at, length) } }
+    if length == 0 {
+        &mut []
+    } else {
+        unsafe { std::slice::from_raw_parts_mut(at, length) }
+    }
 }
 
 #[no_mangle]
 pub unsafe extern "C" fn kez_notepack_read(
-    packed: *const u8, packed_len: usize,
-    created_at: *mut u64, kind: *mut u64, content_at: *mut u64, content_len: *mut u64, tag_count: *mut u64,
+    packed: *const u8,
+    packed_len: usize,
+    created_at: *mut u64,
+    kind: *mut u64,
+    content_at: *mut u64,
+    content_len: *mut u64,
+    tag_count: *mut u64,
 ) -> KezAnswer {
     told(notepack::read(unsafe { lent(packed, packed_len) }).map(|p| {
         unsafe {
@@ -55,8 +68,13 @@ pub unsafe extern "C" fn kez_notepack_tag_len(packed: *const u8, packed_len: usi
 
 #[no_mangle]
 pub unsafe extern "C" fn kez_notepack_element(
-    packed: *const u8, packed_len: usize, tag: u64, element: u64,
-    at: *mut u64, len: *mut u64, is_bytes: *mut u64,
+    packed: *const u8,
+    packed_len: usize,
+    tag: u64,
+    element: u64,
+    at: *mut u64,
+    len: *mut u64,
+    is_bytes: *mut u64,
 ) -> KezAnswer {
     let found = notepack::read(unsafe { lent(packed, packed_len) }).and_then(|p| p.element(tag, element));
     told(found.map(|text| {
@@ -87,9 +105,7 @@ writing!(kez_nson_read, nson::read);
 writing!(kez_json_read, json::read);
 
 #[no_mangle]
-pub unsafe extern "C" fn kez_rivals(
-    first: *const u8, first_len: usize, second: *const u8, second_len: usize,
-) -> KezAnswer {
+pub unsafe extern "C" fn kez_rivals(first: *const u8, first_len: usize, second: *const u8, second_len: usize) -> KezAnswer {
     let (first, second) = unsafe { (lent(first, first_len), lent(second, second_len)) };
     told(match rivals::choose(first, second) {
         Ok(Choice::NotRivals) => Ok(0),

@@ -18,6 +18,15 @@ pub struct Event<'a> {
     pub texts: Vec<Cow<'a, [u8]>>,
 }
 
+/// Adds a part of the input to a text; a text of one part stays a part of the input.
+#[inline]
+pub fn add<'a>(text: &mut Cow<'a, [u8]>, part: &'a [u8]) {
+    match text {
+        Cow::Borrowed(_) => *text = Cow::Borrowed(part),
+        Cow::Owned(text) => text.extend_from_slice(part),
+    }
+}
+
 impl Event<'_> {
     pub fn empty() -> Self {
         Event {

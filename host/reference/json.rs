@@ -2,13 +2,34 @@
 
 use crate::answer::*;
 use crate::bytes::*;
-use crate::event::Event;
+use crate::event::{add, Event};
 use crate::notepack::{LIMIT, MAX_CREATED_AT, MAX_KIND, MAX_TAGS, MAX_TEXTS};
 use std::borrow::Cow;
 
 const MAX_DEPTH: usize = 16;
 
-const NAMES: [&[u8]; 7] = [b"id", b"pubkey", b"sig", b"created_at", b"kind", b"tags", b"content"];
+// the seven fields, as bits of a set
+const ID: u8 = 1;
+const PUBKEY: u8 = 2;
+const SIG: u8 = 4;
+const TIME: u8 = 8;
+const KIND_FIELD: u8 = 16;
+const TAGS: u8 = 32;
+const CONTENT: u8 = 64;
+const ALL: u8 = 127;
+
+fn field(name: &[u8]) -> u8 {
+    match name {
+        b"id" => ID,
+        b"pubkey" => PUBKEY,
+        b"sig" => SIG,
+        b"created_at" => TIME,
+        b"kind" => KIND_FIELD,
+        b"tags" => TAGS,
+        b"content" => CONTENT,
+        _ => 0,
+    }
+}
 
 struct Reader<'a> {
     s: &'a [u8],
@@ -74,15 +95,13 @@ impl<'a> Reader<'a> {
         self.at += 1;
         loop {
             let rest = &self.s[self.at..];
-            let plain = &rest[..run(rest, |b| b < 0x20 || b == b'"' || b == b'\\')];
-            if !is_utf8(plain) {
+            let (plain, ascii) = plain_run(rest);
+            let plain = &rest[..plain];
+            if !ascii && !is_utf8(plain) {
                 return refuse(NOT_UTF8, quote + 1);
             }
             self.at += plain.len();
-            match &mut text {
-                Cow::Borrowed(_) => text = Cow::Borrowed(plain),
-                Cow::Owned(text) => text.extend_from_slice(plain),
-            }
+            add(&mut text, plain);
             match self.peek() {
                 Some(b'"') => break,
                 Some(b'\\') => {
@@ -179,9 +198,7 @@ impl<'a> Reader<'a> {
         if !plain {
             return refuse(NOT_ALLOWED, start);
         }
-        let value = spelled
-            .iter()
-            .fold(0u64, |n, d| n.saturating_mul(10).saturating_add((d - b'0') as u64));
+        let value = spelled.iter().fold(0u64, |n, d| n.saturating_mul(10).saturating_add((d - b'0') as u64));
         if value > most {
             return refuse(number_of_refusal, start);
         }
@@ -279,41 +296,39 @@ impl<'a> Reader<'a> {
         }
     }
 
-    fn object(&mut self) -> Answer<Event<'a>> {
-        let mut e = Event::empty();
-        let mut seen = [false; NAMES.len()];
+    fn object(&mut self, e: &mut Event<'a>) -> Answer<()> {
+        let mut seen = 0;
         self.expect(b'{')?;
         if !self.closes_at_once(b'}') {
             loop {
                 self.token();
                 let start = self.at;
                 let name = self.string()?;
-                let field = NAMES.iter().position(|n| *n == &name[..]);
-                if let Some(field) = field {
-                    if std::mem::replace(&mut seen[field], true) {
-                        return refuse(TWICE, start);
-                    }
+                let field = field(&name);
+                if seen & field != 0 {
+                    return refuse(TWICE, start);
                 }
+                seen |= field;
                 self.expect(b':')?;
                 match field {
-                    Some(0) => self.hex(&mut e.id)?,
-                    Some(1) => self.hex(&mut e.pubkey)?,
-                    Some(2) => self.hex(&mut e.sig)?,
-                    Some(3) => e.created_at = self.count(MAX_CREATED_AT, CREATED_AT)?,
-                    Some(4) => e.kind = self.count(MAX_KIND, KIND)?,
-                    Some(5) => self.tags(&mut e)?,
-                    Some(_) => e.content = self.string()?,
-                    None => self.ignore(MAX_DEPTH)?,
+                    ID => self.hex(&mut e.id)?,
+                    PUBKEY => self.hex(&mut e.pubkey)?,
+                    SIG => self.hex(&mut e.sig)?,
+                    TIME => e.created_at = self.count(MAX_CREATED_AT, CREATED_AT)?,
+                    KIND_FIELD => e.kind = self.count(MAX_KIND, KIND)?,
+                    TAGS => self.tags(e)?,
+                    CONTENT => e.content = self.string()?,
+                    _ => self.ignore(MAX_DEPTH)?,
                 }
                 if !self.another(b'}', 0, u64::MAX)? {
                     break;
                 }
             }
         }
-        if seen.contains(&false) {
+        if seen != ALL {
             return refuse(MISSING, self.at - 1);
         }
-        Ok(e)
+        Ok(())
     }
 }
 
@@ -322,9 +337,10 @@ pub fn read(text: &[u8], out: &mut [u8]) -> Answer<usize> {
         return refuse(TOO_LONG, 0);
     }
     let mut r = Reader { s: text, at: 0 };
-    let event = r.object()?;
+    let mut e = Event::empty();
+    r.object(&mut e)?;
     if r.token().is_some() {
         return refuse(AFTER_THE_END, r.at);
     }
-    event.leave(out)
+    e.leave(out)
 }

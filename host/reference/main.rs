@@ -43,9 +43,10 @@ fn answer(line: &str) -> Option<String> {
         Some(told(f(&from, &mut out).map(|length| format!("ok {length} {}", hex(&out[..length])))))
     };
     Some(match words[..] {
-        ["read", s] => told(notepack::read(&bytes(s)?).map(|p| {
-            format!("ok {} {} {} {} {}", p.created_at, p.kind, p.content_at, p.content_len, p.tag_count)
-        })),
+        ["read", s] => told(
+            notepack::read(&bytes(s)?)
+                .map(|p| format!("ok {} {} {} {} {}", p.created_at, p.kind, p.content_at, p.content_len, p.tag_count)),
+        ),
         ["strict", s] => told(notepack::is_strict(&bytes(s)?).map(|yes| if yes { "yes" } else { "no" }.into())),
         ["content", s] => told(notepack::read(&bytes(s)?).map(|p| format!("ok {} {}", p.content_at, p.content_len))),
         ["element", s, tag, element] => {

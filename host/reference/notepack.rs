@@ -124,15 +124,25 @@ pub fn is_strict(bytes: &[u8]) -> Answer<bool> {
 
 /// The strict form into the lent buffer; its length.
 pub fn write(bytes: &[u8], out: &mut [u8]) -> Answer<usize> {
-    let mut needed = 128;
-    let packed = walk(bytes, |seen| {
-        needed += match seen {
-            Seen::Number(value, _) => varint_len(value),
-            Seen::Text(text, _) => text.strict_len(),
+    let (mut needed, mut as_it_is) = (128, true);
+    let packed = walk(bytes, |seen| match seen {
+        Seen::Number(value, spelled) => {
+            needed += varint_len(value);
+            as_it_is &= spelled == varint_len(value);
+        }
+        Seen::Text(text, spelled) => {
+            let length = text.strict_len();
+            needed += length;
+            // raw bytes of length 0 are the only other spelling as short as the strict one
+            as_it_is &= length == spelled + text.payload.len() && !(text.raw && text.payload.is_empty());
         }
     })?;
     needed += packed.content_len;
     let mut out = room(out, needed)?;
+    if as_it_is {
+        out.put(bytes);
+        return Ok(needed);
+    }
     out.put(&bytes[..128]);
     put_varint(&mut out, packed.created_at);
     put_varint(&mut out, packed.kind);
@@ -310,10 +320,7 @@ impl<'a> Iterator for Items<'a> {
 /// What the lister prints.
 pub fn list(bytes: &[u8]) -> String {
     match read(bytes) {
-        Ok(p) => format!(
-            "created_at {}\nkind {}\ncontent {}\ntags {}\n",
-            p.created_at, p.kind, p.content_len, p.tag_count
-        ),
+        Ok(p) => format!("created_at {}\nkind {}\ncontent {}\ntags {}\n", p.created_at, p.kind, p.content_len, p.tag_count),
         Err(r) => format!("refused {} at {}\n", r.number, r.place),
     }
 }

@@ -2,8 +2,8 @@
 
 use crate::answer::*;
 use crate::bytes::*;
-use crate::canonical::{put_tags, tags_len};
-use crate::event::Event;
+use crate::canonical::put_tags;
+use crate::event::{add, Event};
 use crate::notepack::{self, Item, Packed, LIMIT, MAX_KIND};
 use std::borrow::Cow;
 
@@ -18,7 +18,6 @@ const TAGS: &[u8] = b"\",\"tags\":";
 
 /// Where the size stands: everything before it has a fixed length.
 const SIZE_AT: usize = 318;
-const LONGEST_STRING: usize = 65_535;
 
 #[inline]
 fn letter(b: u8) -> u8 {
@@ -31,48 +30,70 @@ fn letter(b: u8) -> u8 {
 
 // The writer
 
-/// Lengths of an event that NSON can carry.
+/// The descriptors of an event that NSON can carry, and the length of the whole text.
 struct Carried {
-    /// descriptor bytes, without the size
-    descriptors: usize,
-    content: usize,
+    descriptors: [u8; MOST],
+    used: usize,
     whole: usize,
 }
 
-/// The escaped length of a text, if NSON can carry it.
-fn text_carried(text: &[u8]) -> Option<usize> {
-    let bad = text.iter().fold(false, |any, &b| any | (b < 0x20 && b != b'\n'));
-    let length = escaped_len(text, letter);
-    (!bad && length <= LONGEST_STRING).then_some(length)
+/// Descriptor bytes, without the size.
+const MOST: usize = 127;
+
+impl Carried {
+    fn add(&mut self, descriptor: &[u8]) -> Option<()> {
+        let end = self.used + descriptor.len();
+        self.descriptors.get_mut(self.used..end)?.copy_from_slice(descriptor);
+        self.used = end;
+        // each byte is two digits
+        self.whole += 2 * descriptor.len();
+        Some(())
+    }
+
+    /// A string of this length between its quotes, without them.
+    fn add_string(&mut self, length: usize) -> Option<()> {
+        self.whole += length;
+        self.add(&u16::try_from(length).ok()?.to_be_bytes())
+    }
+}
+
+/// The escaped length of a text, if each of its bytes can be spelled.
+fn escaped_len(text: &[u8]) -> Option<usize> {
+    let bad = count(text, |b| (b < 0x20) & (b != b'\n'));
+    let escapes = count(text, |b| (b == b'\n') | (b == b'"') | (b == b'\\'));
+    (bad == 0).then_some(text.len() + escapes)
 }
 
 fn carried(packed: &Packed) -> Option<Carried> {
     if !(1_000_000_000..=9_999_999_999).contains(&packed.created_at) {
         return None;
     }
-    let mut descriptors = 4;
+    let labels = KIND_LABEL.len() + CONTENT.len() + TAGS.len() + b"[]}".len();
+    let kind_chars = decimal_len(packed.kind);
+    let mut c = Carried { descriptors: [0; MOST], used: 0, whole: SIZE_AT + 2 + labels + kind_chars };
+    c.add(&[kind_chars as u8])?;
+    c.add_string(escaped_len(packed.content())?)?;
+    c.add(&[u8::try_from(packed.tag_count).ok()?])?;
     for item in packed.items() {
         match item {
-            Item::Tag(count) => descriptors += 1 + 2 * count as usize,
-            Item::Text(text) if text.raw && 2 * text.payload.len() > LONGEST_STRING => return None,
-            Item::Text(text) if text.raw => {}
-            Item::Text(text) => {
-                text_carried(text.payload)?;
+            Item::Tag(count) => {
+                c.add(&[count as u8])?;
+                // brackets, two quotes for each text, a comma between two, and one between two tags
+                c.whole += 2 + 3 * count as usize;
             }
+            Item::Text(text) if text.raw => c.add_string(2 * text.payload.len())?,
+            Item::Text(text) => c.add_string(escaped_len(text.payload)?)?,
         }
     }
-    let content = text_carried(packed.content())?;
-    let tags = tags_len(packed, |text| escaped_len(text, letter));
-    let whole = SIZE_AT + 2 + 2 * descriptors + KIND_LABEL.len() + decimal_len(packed.kind)
-        + CONTENT.len() + content + TAGS.len() + tags + 1;
-    (descriptors <= 127 && whole <= LIMIT).then_some(Carried { descriptors, content, whole })
+    // there is no comma behind the last tag
+    c.whole -= (packed.tag_count > 0) as usize;
+    (c.whole <= LIMIT).then_some(c)
 }
 
 pub fn write(bytes: &[u8], out: &mut [u8]) -> Answer<usize> {
     let packed = notepack::read(bytes)?;
     let Some(carried) = carried(&packed) else { return refuse(NOT_CARRIED, 0) };
     let mut out = room(out, carried.whole)?;
-    let hex16 = |out: &mut Out, n: usize| put_hex(out, &(n as u16).to_be_bytes());
     out.put(ID);
     put_hex(&mut out, packed.id());
     out.put(PUBKEY);
@@ -82,17 +103,8 @@ pub fn write(bytes: &[u8], out: &mut [u8]) -> Answer<usize> {
     out.put(TIME);
     put_decimal(&mut out, packed.created_at);
     out.put(NSON);
-    let kind_chars = decimal_len(packed.kind);
-    put_hex(&mut out, &[2 * carried.descriptors as u8, kind_chars as u8]);
-    hex16(&mut out, carried.content);
-    put_hex(&mut out, &[packed.tag_count as u8]);
-    for item in packed.items() {
-        match item {
-            Item::Tag(count) => put_hex(&mut out, &[count as u8]),
-            Item::Text(text) if text.raw => hex16(&mut out, 2 * text.payload.len()),
-            Item::Text(text) => hex16(&mut out, escaped_len(text.payload, letter)),
-        }
-    }
+    put_hex(&mut out, &[2 * carried.used as u8]);
+    put_hex(&mut out, &carried.descriptors[..carried.used]);
     out.put(KIND_LABEL);
     put_decimal(&mut out, packed.kind);
     out.put(CONTENT);
@@ -161,19 +173,16 @@ impl<'a> Reader<'a> {
         let start = self.at;
         let rest = &self.s[start..];
         let counted = &rest[..length.min(rest.len())];
-        let mut text = Cow::Borrowed(&counted[..0]);
+        let mut text = Cow::Borrowed(&[][..]);
         let mut at = 0;
         loop {
-            let plain = &counted[at..][..run(&counted[at..], |b| b < 0x20 || b == b'"' || b == b'\\')];
-            if !is_utf8(plain) {
+            let (plain, ascii) = plain_run(&counted[at..]);
+            let plain = &counted[at..at + plain];
+            if !ascii && !is_utf8(plain) {
                 return refuse(NOT_UTF8, start);
             }
             at += plain.len();
-            // a string without escapes stays a part of the input
-            match &mut text {
-                Cow::Borrowed(_) => text = Cow::Borrowed(plain),
-                Cow::Owned(text) => text.extend_from_slice(plain),
-            }
+            add(&mut text, plain);
             let byte = match (counted.get(at), counted.get(at + 1)) {
                 (None, _) if counted.len() < length => return refuse(COUNTS, start),
                 (None, _) => break,
@@ -194,58 +203,72 @@ fn number(digits: &[u8]) -> u64 {
     digits.iter().fold(0, |n, d| 10 * n + (d - b'0') as u64)
 }
 
-/// The counts of the nson field, checked against its size alone.
-struct Descriptors {
-    kind_chars: usize,
-    content: usize,
-    /// for each tag the number of its items
-    tags: Vec<usize>,
-    items: Vec<usize>,
+/// The descriptors as bytes, checked against the size alone; then taken one after the other.
+struct Counts {
+    bytes: [u8; MOST],
+    used: usize,
+    taken: usize,
+    items: usize,
 }
 
-fn descriptors(r: &mut Reader) -> Answer<Descriptors> {
-    let mut size = [0];
-    r.hex(&mut size)?;
-    let end = r.at + size[0] as usize;
-    // a descriptor of `N` bytes and where it stands
-    fn next<const N: usize>(r: &mut Reader, end: usize) -> Answer<(usize, usize)> {
+impl Counts {
+    /// Reads a descriptor of `N` bytes: its value and where it stands.
+    fn read<const N: usize>(&mut self, r: &mut Reader, end: usize) -> Answer<(usize, usize)> {
         let start = r.at;
         if start + 2 * N > end {
             return refuse(COUNTS, SIZE_AT);
         }
         let mut bytes = [0; N];
         r.hex(&mut bytes)?;
-        Ok((bytes.iter().fold(0, |n, &b| n << 8 | b as usize), start))
+        // a size of at most 255 digits has room for so many bytes
+        self.bytes[self.used..self.used + N].copy_from_slice(&bytes);
+        self.used += N;
+        Ok((value(&bytes), start))
     }
-    let (kind_chars, place) = next::<1>(r, end)?;
+
+    fn take<const N: usize>(&mut self) -> usize {
+        let start = self.taken;
+        self.taken += N;
+        value(&self.bytes[start..self.taken])
+    }
+}
+
+fn value(big_endian: &[u8]) -> usize {
+    big_endian.iter().fold(0, |n, &b| n << 8 | b as usize)
+}
+
+fn counts(r: &mut Reader) -> Answer<Counts> {
+    let mut size = [0];
+    r.hex(&mut size)?;
+    let end = r.at + size[0] as usize;
+    let mut counts = Counts { bytes: [0; MOST], used: 0, taken: 0, items: 0 };
+    let (kind_chars, place) = counts.read::<1>(r, end)?;
     if !(1..=5).contains(&kind_chars) {
         return refuse(COUNTS, place);
     }
-    let (content, _) = next::<2>(r, end)?;
-    let (tag_count, _) = next::<1>(r, end)?;
-    let (mut tags, mut items) = (Vec::new(), Vec::new());
-    for _ in 0..tag_count {
-        let (count, place) = next::<1>(r, end)?;
-        if count == 0 {
+    counts.read::<2>(r, end)?;
+    let (tags, _) = counts.read::<1>(r, end)?;
+    for _ in 0..tags {
+        let (items, place) = counts.read::<1>(r, end)?;
+        if items == 0 {
             return refuse(EMPTY_TAG, place);
         }
-        tags.push(count);
-        for _ in 0..count {
-            items.push(next::<2>(r, end)?.0);
+        for _ in 0..items {
+            counts.read::<2>(r, end)?;
         }
+        counts.items += items;
     }
     if r.at != end {
         return refuse(COUNTS, SIZE_AT);
     }
-    Ok(Descriptors { kind_chars, content, tags, items })
+    Ok(counts)
 }
 
-fn event(s: &[u8]) -> Answer<Event<'_>> {
+fn event<'a>(s: &'a [u8], e: &mut Event<'a>) -> Answer<()> {
     if s.len() > LIMIT {
         return refuse(TOO_LONG, 0);
     }
     let mut r = Reader { s, at: 0 };
-    let mut e = Event::empty();
     r.piece(ID, NOT_FIXED)?;
     r.hex(&mut e.id)?;
     r.piece(PUBKEY, NOT_FIXED)?;
@@ -255,38 +278,43 @@ fn event(s: &[u8]) -> Answer<Event<'_>> {
     r.piece(TIME, NOT_FIXED)?;
     e.created_at = r.time()?;
     r.piece(NSON, NOT_FIXED)?;
-    let counts = descriptors(&mut r)?;
+    let mut counts = counts(&mut r)?;
     r.piece(KIND_LABEL, COUNTS)?;
-    e.kind = r.kind(counts.kind_chars)?;
+    e.kind = r.kind(counts.take::<1>())?;
     r.piece(CONTENT, COUNTS)?;
-    e.content = r.string(counts.content)?;
+    e.content = r.string(counts.take::<2>())?;
     r.piece(TAGS, COUNTS)?;
     r.piece(b"[", COUNTS)?;
-    let mut lengths = counts.items.iter();
-    for (t, &count) in counts.tags.iter().enumerate() {
-        if t > 0 {
+    let tags = counts.take::<1>();
+    e.tags.reserve(tags);
+    e.texts.reserve(counts.items);
+    for tag in 0..tags {
+        if tag > 0 {
             r.piece(b",", COUNTS)?;
         }
         r.piece(b"[", COUNTS)?;
-        for (i, &length) in lengths.by_ref().take(count).enumerate() {
-            if i > 0 {
+        let items = counts.take::<1>();
+        for item in 0..items {
+            if item > 0 {
                 r.piece(b",", COUNTS)?;
             }
             r.piece(b"\"", COUNTS)?;
-            e.texts.push(r.string(length)?);
+            e.texts.push(r.string(counts.take::<2>())?);
             r.piece(b"\"", COUNTS)?;
         }
         r.piece(b"]", COUNTS)?;
+        e.tags.push(items);
     }
     r.piece(b"]", COUNTS)?;
     r.piece(b"}", COUNTS)?;
     if r.at < s.len() {
         return refuse(AFTER_THE_END, r.at);
     }
-    e.tags = counts.tags;
-    Ok(e)
+    Ok(())
 }
 
 pub fn read(text: &[u8], out: &mut [u8]) -> Answer<usize> {
-    event(text)?.leave(out)
+    let mut e = Event::empty();
+    event(text, &mut e)?;
+    e.leave(out)
 }

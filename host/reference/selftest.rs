@@ -71,12 +71,9 @@ pub fn run() -> bool {
     let room = |entry: &str, s: &[u8]| ask(format!("{entry} {} 70000", hex(s)));
     let left = |s: &[u8]| format!("ok {} {}", s.len(), hex(s));
 
-    for (n, value, spelled) in [
-        (1, 0, &b"\0"[..]),
-        (2, 127, b"\x7f"),
-        (3, 128, b"\x80\x01"),
-        (4, 1_720_000_000, b"\x80\xbc\x94\xb4\x06"),
-    ] {
+    for (n, value, spelled) in
+        [(1, 0, &b"\0"[..]), (2, 127, b"\x7f"), (3, 128, b"\x80\x01"), (4, 1_720_000_000, b"\x80\xbc\x94\xb4\x06")]
+    {
         same(&format!("({n}) read"), format!("{:?}", varint(spelled, 0)), format!("Ok(({value}, {}))", spelled.len()));
         same(&format!("({n}) length"), varint_len(value).to_string(), spelled.len().to_string());
         let s = packed(spelled, b"\0\0\0");
