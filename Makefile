@@ -1,5 +1,5 @@
 # Needs the Rattle toolchain (rt on the PATH) and gcc.
-.PHONY: demo test clean
+.PHONY: demo test compare bench clean
 
 # a sample record, read and written by what exists so far
 demo:
@@ -10,6 +10,14 @@ demo:
 # exactly what the gate runs
 test:
 	@.ci/run
+
+# the library's answers against an independent implementation: make compare [ORACLE=program] [COUNT=n] [SEED=n]
+compare:
+	@host/compare $(COUNT)
+
+# nanoseconds for a call, beside plain Rust and a memcpy: make bench [ORACLE=program]
+bench:
+	@host/bench
 
 clean:
 	rm -rf target
