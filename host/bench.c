@@ -82,12 +82,8 @@ typedef struct {
 
 static const entry entries[] = {
     {.name = "read", .symbol = "kez_notepack_read", .reads = kez_notepack_read},
-#ifdef KIND_strict
     {.name = "strict", .symbol = "kez_notepack_is_strict", .asks = kez_notepack_is_strict},
-#endif
-#ifdef KIND_pack
     {.name = "pack", .symbol = "kez_notepack_write", .writes = kez_notepack_write},
-#endif
 #ifdef KIND_canonical
     {.name = "canonical", .symbol = "kez_canonical_write", .writes = kez_canonical_write},
 #endif

@@ -36,7 +36,7 @@ build_library() {
     case ${LIB:-} in
         '')
             archive=target/staticlib/libkezubimoryu.a
-            quietly rt staticlib kezubimoryu
+            ! stale "$archive" crates crates.txt || quietly rt staticlib kezubimoryu
             ;;
         reference)
             archive=$built/libreference.a

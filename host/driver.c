@@ -2,7 +2,7 @@
  * It also watches what it lends: inputs keep their bytes, a refusal leaves every buffer and number as it was, success
  * leaves the bytes behind the written length as they were, and nothing around a buffer is touched. An input ends where
  * its page ends, so that a read past it is seen. Whatever goes wrong is the answer `broken ..`.
- * Built with -DKIND_.. for each kind of host/kinds. */
+ * Built with -DKIND_.. for each kind of host/kinds; notepack's are always there. */
 #define _GNU_SOURCE
 #define KEZ_ALL
 #include "kezubimoryu.h"
@@ -179,15 +179,22 @@ static kez_answer read_packed(const input *in)
     return a;
 }
 
-/* Each of these prints its answer, or nothing where something is broken; 0: no such request. */
+/* A kind of request: the words behind its name, and who prints its answer (nothing where something is broken; 0: no such
+ * request). Kinds that write into a lent buffer name their entry. */
+typedef struct kind {
+    const char *name;
+    int words;
+    int (*answer)(const struct kind *, char **words);
+    kez_answer (*write)(const uint8_t *, size_t, uint8_t *, size_t);
+} kind;
 
-static int do_read(const char *kind, char **words)
+static int do_read(const kind *k, char **words)
 {
     if (!lend(&first, words[0]))
         return 0;
     kez_answer a = read_packed(&first);
     uint64_t created_at = *number(0), event_kind = *number(1), at = *number(2), len = *number(3), tags = *number(4);
-    if (!strcmp(kind, "lister")) {
+    if (!strcmp(k->name, "lister")) {
         check_answer(a);
         if (!broken && a.refusal)
             printf("refused %" PRIu64 " at %" PRIu64 "\\n", a.refusal, a.value);
@@ -195,7 +202,7 @@ static int do_read(const char *kind, char **words)
             printf("created_at %" PRIu64 "\\nkind %" PRIu64 "\\ncontent %" PRIu64 "\\ntags %" PRIu64 "\\n",
                    created_at, event_kind, len, tags);
     } else if (!told_refusal(a)) {
-        if (!strcmp(kind, "content"))
+        if (!strcmp(k->name, "content"))
             printf("ok %" PRIu64 " %" PRIu64, at, len);
         else
             printf("ok %" PRIu64 " %" PRIu64 " %" PRIu64 " %" PRIu64 " %" PRIu64, created_at, event_kind, at, len, tags);
@@ -203,10 +210,9 @@ static int do_read(const char *kind, char **words)
     return 1;
 }
 
-#ifdef KIND_strict
-static int do_strict(const char *kind, char **words)
+static int do_strict(const kind *k, char **words)
 {
-    (void)kind;
+    (void)k;
     if (!lend(&first, words[0]))
         return 0;
     kez_answer a = kez_notepack_is_strict(first.at, first.len);
@@ -217,12 +223,10 @@ static int do_strict(const char *kind, char **words)
         printf(a.value ? "yes" : "no");
     return 1;
 }
-#endif
 
-#ifdef KIND_element
-static int do_element(const char *kind, char **words)
+static int do_element(const kind *k, char **words)
 {
-    (void)kind;
+    (void)k;
     uint64_t tag, element;
     if (!lend(&first, words[0]) || !parsed(words[1], &tag) || !parsed(words[2], &element))
         return 0;
@@ -240,17 +244,14 @@ static int do_element(const char *kind, char **words)
         printf("ok %" PRIu64 " %" PRIu64 " %" PRIu64, *number(0), *number(1), *number(2));
     return 1;
 }
-#endif
 
-typedef kez_answer writer(const uint8_t *, size_t, uint8_t *, size_t);
-
-static int do_write(writer *write, char **words)
+static int do_write(const kind *k, char **words)
 {
     uint64_t room;
     if (!lend(&first, words[0]) || !parsed(words[1], &room) || room > MOST)
         return 0;
     uint8_t *out = lend_room(room);
-    kez_answer a = write(first.at, first.len, out, room);
+    kez_answer a = k->write(first.at, first.len, out, room);
     check_input(&first);
     if (!a.refusal && a.value > room)
         wrong("has written more than there is room for");
@@ -270,33 +271,10 @@ static int do_write(writer *write, char **words)
     return 1;
 }
 
-#define WRITES(name, entry)                          \
-    static int do_##name(const char *kind, char **words) \
-    {                                                \
-        (void)kind;                                  \
-        return do_write(entry, words);               \
-    }
-
-#ifdef KIND_pack
-WRITES(pack, kez_notepack_write)
-#endif
-#ifdef KIND_canonical
-WRITES(canonical, kez_canonical_write)
-#endif
-#ifdef KIND_nson_write
-WRITES(nson_write, kez_nson_write)
-#endif
-#ifdef KIND_nson_read
-WRITES(nson_read, kez_nson_read)
-#endif
-#ifdef KIND_json_read
-WRITES(json_read, kez_json_read)
-#endif
-
 #ifdef KIND_rivals
-static int do_rivals(const char *kind, char **words)
+static int do_rivals(const kind *k, char **words)
 {
-    (void)kind;
+    (void)k;
     if (!lend(&first, words[0]) || !lend(&second, words[1]))
         return 0;
     kez_answer a = kez_rivals(first.at, first.len, second.at, second.len);
@@ -322,37 +300,27 @@ static int do_rivals(const char *kind, char **words)
 }
 #endif
 
-static const struct {
-    const char *kind;
-    int words;
-    int (*answer)(const char *kind, char **words);
-} kinds[] = {
-    {"read", 1, do_read},
-    {"content", 1, do_read},
-    {"lister", 1, do_read},
-#ifdef KIND_strict
-    {"strict", 1, do_strict},
-#endif
-#ifdef KIND_pack
-    {"pack", 2, do_pack},
-#endif
-#ifdef KIND_element
-    {"element", 3, do_element},
-#endif
+static const kind kinds[] = {
+    {"read", 1, do_read, NULL},
+    {"content", 1, do_read, NULL},
+    {"lister", 1, do_read, NULL},
+    {"strict", 1, do_strict, NULL},
+    {"element", 3, do_element, NULL},
+    {"pack", 2, do_write, kez_notepack_write},
 #ifdef KIND_canonical
-    {"canonical", 2, do_canonical},
+    {"canonical", 2, do_write, kez_canonical_write},
 #endif
 #ifdef KIND_nson_write
-    {"nson_write", 2, do_nson_write},
+    {"nson_write", 2, do_write, kez_nson_write},
 #endif
 #ifdef KIND_nson_read
-    {"nson_read", 2, do_nson_read},
+    {"nson_read", 2, do_write, kez_nson_read},
 #endif
 #ifdef KIND_json_read
-    {"json_read", 2, do_json_read},
+    {"json_read", 2, do_write, kez_json_read},
 #endif
 #ifdef KIND_rivals
-    {"rivals", 2, do_rivals},
+    {"rivals", 2, do_rivals, NULL},
 #endif
 };
 
@@ -365,8 +333,8 @@ static int answer(char *line)
     if (rest)
         return 0;
     for (size_t i = 0; i < sizeof kinds / sizeof *kinds; i++)
-        if (!strcmp(kinds[i].kind, words[0]))
-            return kinds[i].words == count - 1 && kinds[i].answer(words[0], words + 1);
+        if (!strcmp(kinds[i].name, words[0]))
+            return kinds[i].words == count - 1 && kinds[i].answer(&kinds[i], words + 1);
     return 0;
 }
 
@@ -385,7 +353,7 @@ int main(void)
         if (line[len - 1] == '\n')
             line[len - 1] = 0;
         broken = NULL;
-        alarm(20);
+        alarm(5);
         volatile int known = 1;
         if (!sigsetjmp(out_of_the_call, 1))
             known = answer(line);

@@ -1,4 +1,6 @@
-/* Tests of the notepack entries over the library's archive. The last line is 'N passed, M failed'. */
+/* Tests of the C entries over the library's archive; those of host/kinds that are not notepack's, by the paper's examples.
+ * The last line is 'N passed, M failed'. Built with -DKIND_.. as the driver. */
+#define KEZ_ALL
 #include "kezubimoryu.h"
 
 #include <stdio.h>
@@ -164,23 +166,31 @@ static void reads(const bytes *b, uint64_t created_at, uint64_t kind, uint64_t a
     CHECK(!memcmp(numbers, wanted, sizeof wanted), "%zu bytes have other numbers", b->len);
 }
 
-/* The strict form, and whether the input is that; room just enough, more, one byte short, none. */
+typedef kez_answer writer(const uint8_t *, size_t, uint8_t *, size_t);
+
+/* What an entry writes: room just enough, more, one byte short, none. */
+static void writes(writer *entry, const bytes *b, const bytes *form)
+{
+    const size_t rooms[] = {form->len, form->len + 1, sizeof room};
+    for (int i = 0; i < 3; i++) {
+        lend();
+        CHECK(is(entry(b->at, b->len, room, rooms[i]), 0, form->len), "%zu bytes", b->len);
+        CHECK(!memcmp(room, form->at, form->len), "of %zu bytes something else is written", b->len);
+        CHECK(untouched_from(form->len), "bytes behind the written ones changed");
+    }
+    lend();
+    CHECK(is(entry(b->at, b->len, room, form->len - 1), 11, form->len), "%zu bytes", b->len);
+    CHECK(is(entry(b->at, b->len, room, 0), 11, form->len), "%zu bytes", b->len);
+    CHECK(is(entry(b->at, b->len, NULL, 0), 11, form->len), "%zu bytes", b->len);
+    CHECK(untouched(), "without room something was written");
+}
+
+/* The strict form, and whether the input is that. */
 static void strict_form(const bytes *b, const bytes *form)
 {
     uint64_t yes = b->len == form->len && !memcmp(b->at, form->at, b->len);
     CHECK(is(kez_notepack_is_strict(b->at, b->len), 0, yes), "%zu bytes", b->len);
-    const size_t rooms[] = {form->len, form->len + 1, sizeof room};
-    for (int i = 0; i < 3; i++) {
-        lend();
-        CHECK(is(kez_notepack_write(b->at, b->len, room, rooms[i]), 0, form->len), "%zu bytes", b->len);
-        CHECK(!memcmp(room, form->at, form->len), "%zu bytes have another strict form", b->len);
-        CHECK(untouched_from(form->len), "bytes behind the written ones changed");
-    }
-    lend();
-    CHECK(is(kez_notepack_write(b->at, b->len, room, form->len - 1), 11, form->len), "%zu bytes", b->len);
-    CHECK(is(kez_notepack_write(b->at, b->len, room, 0), 11, form->len), "%zu bytes", b->len);
-    CHECK(is(kez_notepack_write(b->at, b->len, NULL, 0), 11, form->len), "%zu bytes", b->len);
-    CHECK(untouched(), "without room something was written");
+    writes(kez_notepack_write, b, form);
 }
 
 /* Element `element` of tag `tag` stands there, with this b. */
@@ -391,6 +401,242 @@ static void limits(void)
     refused(b.at, b.len, 1, 0);
 }
 
+/* The other formats, as soon as they are among the kinds */
+
+#if defined KIND_canonical || defined KIND_nson_write || defined KIND_nson_read || defined KIND_json_read
+static void refuses(writer *entry, const bytes *b, uint64_t refusal, uint64_t place)
+{
+    lend();
+    kez_answer a = entry(b->at, b->len, room, sizeof room);
+    CHECK(is(a, refusal, place), "%d at %d, not %d at %d", (int)a.refusal, (int)a.value, (int)refusal, (int)place);
+    CHECK(is(entry(b->at, b->len, NULL, 0), refusal, place), "without room");
+    CHECK(untouched(), "a refusal changed what was lent");
+}
+#endif
+
+#ifdef KIND_canonical
+static void canonical(void)
+{
+    static bytes b, text;
+    text.len = 0;
+    PUT(&text, "[0,\"");
+    fill(&text, '1', 64);
+    PUT(&text, "\",1720000000,0,[[\"e\",\"");
+    fill(&text, 'a', 64);
+    PUT(&text, "\",\"wss://relay.example.com\"],[\"p\",\"");
+    fill(&text, 'b', 64);
+    PUT(&text, "\"]],\"hello\"]");
+    CHECK(text.len == 265, "%zu", text.len);
+    writes(kez_canonical_write, &vector, &text);
+    for (size_t len = 0; len < vector.len; len += 59) {
+        b = vector;
+        b.len = len;
+        refuses(kez_canonical_write, &b, 2, read_it(b.at, b.len).value);
+    }
+    /* seven bytes have escapes, in content and texts alike; no other control byte has one */
+    static const char raw[] = "\n\"\\\r\t\b\f\x01\x1f\x7f/", spelled[] = "\\n\\\"\\\\\\r\\t\\b\\f\x01\x1f\x7f/";
+    start(&b);
+    PUT(&b, "\x00\x01\x0b");
+    PUT(&b, raw);
+    PUT(&b, "\x01\x01\x16");
+    PUT(&b, raw);
+    text.len = 0;
+    PUT(&text, "[0,\"");
+    fill(&text, '0', 64);
+    PUT(&text, "\",0,1,[[\"");
+    PUT(&text, spelled);
+    PUT(&text, "\"]],\"");
+    PUT(&text, spelled);
+    PUT(&text, "\"]");
+    writes(kez_canonical_write, &b, &text);
+}
+#endif
+
+#if defined KIND_nson_write || defined KIND_nson_read || defined KIND_json_read
+
+/* zero id, pubkey and sig, created_at 1,000,000,000, kind 1, content a"b: packed, and as NSON with this nson field */
+static void a_b(bytes *packed, bytes *text, const char *nson)
+{
+    start(packed);
+    put_varint(packed, 1000000000);
+    PUT(packed, "\x01\x03""a\"b\x00");
+    text->len = 0;
+    PUT(text, "{\"id\":\"");
+    fill(text, '0', 64);
+    PUT(text, "\",\"pubkey\":\"");
+    fill(text, '0', 64);
+    PUT(text, "\",\"sig\":\"");
+    fill(text, '0', 128);
+    PUT(text, "\",\"created_at\":1000000000,\"nson\":\"");
+    put(text, nson, strlen(nson));
+    PUT(text, "\",\"kind\":1,\"content\":\"a\\\"b\",\"tags\":[]}");
+}
+
+/* The event of document 003. */
+static void document_003(bytes *packed, bytes *text)
+{
+    static const char digits[] = "0123456789abcdef",
+        id[] = "57ff66490a6a2af3992accc26ae95f3f60c6e5f84ed0ddf6f59c534d3920d3d2"
+               "79be667ef9dcbbac55a06295ce870b07029bfcdb2dce28d959f2815b16f81798"
+               "504d142aed7fa7e0f6dab5bcd7eed63963b0277a8e11bbcb03b94531beb4b95a"
+               "12f1438668b02746bd5362161bc782068e6b71494060975414e793f9e19f57ea",
+        e[] = "b6de44a9dd47d1c000f795ea0453046914f44ba7d5e369608b04867a575ea83e",
+        p[] = "c26f7b252cea77a5b94f42b1a4771021be07d4df766407e47738605f7e3ab774";
+    packed->len = 0;
+    const char *hex[] = {id, e, p};
+    for (int i = 0; i < 3; i++) {
+        if (i == 1) {
+            put_varint(packed, 1683762317);
+            PUT(packed, "\x01\x0bhello world\x02\x03\x02""e\x41");
+        } else if (i == 2) {
+            PUT(packed, "\x0areply\x04\x02p\x41");
+        }
+        for (const char *h = hex[i]; *h; h += 2)
+            fill(packed, (uint8_t)((strchr(digits, h[0]) - digits) << 4 | (strchr(digits, h[1]) - digits)), 1);
+    }
+    PUT(packed, "\x00\x28wss://relay.damus.io");
+    text->len = 0;
+    PUT(text, "{\"id\":\"");
+    put(text, id, 64);
+    PUT(text, "\",\"pubkey\":\"");
+    put(text, id + 64, 64);
+    PUT(text, "\",\"sig\":\"");
+    put(text, id + 128, 128);
+    PUT(text, "\",\"created_at\":1683762317,\"nson\":\"2801000b0203000100400005040001004000000014\",\"kind\":1,"
+              "\"content\":\"hello world\",\"tags\":[[\"e\",\"");
+    put(text, e, 64);
+    PUT(text, "\",\"reply\"],[\"p\",\"");
+    put(text, p, 64);
+    PUT(text, "\",\"\",\"wss://relay.damus.io\"]]}");
+}
+#endif
+
+#ifdef KIND_nson_write
+/* So many tags of so many texts: written as NSON and shown again by both readers, or 17. */
+static void carried(uint8_t tags, uint8_t texts, int fits)
+{
+    static bytes b, text;
+    start(&b);
+    put_varint(&b, 1000000000);
+    PUT(&b, "\x01\x00");
+    fill(&b, tags, 1);
+    for (int i = 0; i < tags; i++) {
+        fill(&b, texts, 1);
+        for (int j = 0; j < texts; j++)
+            PUT(&b, "\x02x");
+    }
+    if (!fits) {
+        refuses(kez_nson_write, &b, 17, 0);
+        return;
+    }
+    kez_answer a = kez_nson_write(b.at, b.len, text.at, sizeof text.at);
+    CHECK(!a.refusal, "%d tags of %d texts", tags, texts);
+    text.len = a.value;
+#ifdef KIND_nson_read
+    writes(kez_nson_read, &text, &b);
+#endif
+#ifdef KIND_json_read
+    writes(kez_json_read, &text, &b);
+#endif
+}
+
+static void nson_write(void)
+{
+    static bytes b, text;
+    a_b(&b, &text, "0801000400");
+    CHECK(text.len == 366, "%zu", text.len);
+    writes(kez_nson_write, &b, &text);
+    document_003(&b, &text);
+    writes(kez_nson_write, &b, &text);
+    carried(41, 1, 1);
+    carried(42, 1, 0);
+    carried(1, 61, 1);
+    carried(1, 62, 0);
+    b.len = 140;
+    refuses(kez_nson_write, &b, 2, 134);
+}
+#endif
+
+#ifdef KIND_nson_read
+static void nson_read(void)
+{
+    static bytes b, text;
+    document_003(&b, &text);
+    writes(kez_nson_read, &text, &b);
+    a_b(&b, &text, "0801000400");
+    writes(kez_nson_read, &text, &b);
+    a_b(&b, &text, "0801000300");
+    refuses(kez_nson_read, &text, 13, 353);
+    a_b(&b, &text, "0801000200");
+    refuses(kez_nson_read, &text, 14, 350);
+    a_b(&b, &text, "0801000500");
+    refuses(kez_nson_read, &text, 13, 350);
+    text.len = 0;
+    refuses(kez_nson_read, &text, 12, 0);
+}
+#endif
+
+#ifdef KIND_json_read
+static void json_read(void)
+{
+    static bytes b, text;
+    document_003(&b, &text);
+    writes(kez_json_read, &text, &b);
+    /* the nson field is ignored, whatever it says */
+    a_b(&b, &text, "0801000500");
+    writes(kez_json_read, &text, &b);
+    text.len--;
+    refuses(kez_json_read, &text, 14, text.len);
+    PUT(&text, ",\"kind\"");
+    refuses(kez_json_read, &text, 16, text.len - 6);
+    text.len = 0;
+    refuses(kez_json_read, &text, 14, 0);
+    PUT(&text, " {}");
+    refuses(kez_json_read, &text, 15, 2);
+    for (size_t depth = 16; depth <= 17; depth++) {
+        text.len = 0;
+        PUT(&text, "{\"x\":");
+        fill(&text, '[', depth);
+        fill(&text, ']', depth);
+        PUT(&text, "}");
+        refuses(kez_json_read, &text, depth == 16 ? 15 : 18, depth == 16 ? text.len - 1 : 5 + 16);
+    }
+}
+#endif
+
+#ifdef KIND_rivals
+static void rivals(void)
+{
+    static bytes a, b;
+    a = b = vector; /* kind 0 */
+#define CHOICE is(kez_rivals(a.at, a.len, b.at, b.len), 0, wanted)
+    uint64_t wanted = 1;
+    CHECK(CHOICE, "a full tie");
+    b.at[129]++;
+    wanted = 2;
+    CHECK(CHOICE, "the second is later");
+    b.at[0] = 1;
+    CHECK(CHOICE, "the second is later, with a higher id");
+    b.at[129]--;
+    wanted = 1;
+    CHECK(CHOICE, "the first has the lower id");
+    a.at[0] = 2;
+    wanted = 2;
+    CHECK(CHOICE, "the second has the lower id");
+    b.at[32] ^= 1;
+    wanted = 0;
+    CHECK(CHOICE, "another pubkey");
+    b.at[32] ^= 1;
+    a.at[133] = b.at[133] = 1;
+    CHECK(CHOICE, "a kind without a key");
+    a.len = 130;
+    b.len = 10;
+    CHECK(is(kez_rivals(a.at, a.len, b.at, b.len), 4, 128), "both refused");
+    CHECK(is(kez_rivals(vector.at, vector.len, b.at, b.len), 2, 0), "the second refused");
+    CHECK(is(kez_rivals(NULL, 0, NULL, 0), 2, 0), "nothing at all");
+}
+#endif
+
 static void sentences(void)
 {
     for (uint64_t i = 0; i <= 20; i++)
@@ -409,6 +655,21 @@ int main(void)
     varint_faults();
     limits();
     sentences();
+#ifdef KIND_canonical
+    canonical();
+#endif
+#ifdef KIND_nson_write
+    nson_write();
+#endif
+#ifdef KIND_nson_read
+    nson_read();
+#endif
+#ifdef KIND_json_read
+    json_read();
+#endif
+#ifdef KIND_rivals
+    rivals();
+#endif
     printf("%d passed, %d failed\n", passed, failed);
     return failed != 0;
 }

@@ -187,8 +187,11 @@ fn nson_boundaries(g: &mut Requests) {
             }
         }
         for size in 0..=255 {
-            let text = Nson { size, ..true_text.clone() };
-            g.any(&["nson_read"], &text.spelled(), &e);
+            let mut bytes = Nson { size, ..true_text.clone() }.spelled();
+            g.any(&["nson_read"], &bytes, &e);
+            // the input ends about where the size says the descriptors do
+            bytes.truncate(319 + size + g.dice.below(3));
+            g.any(&["nson_read"], &bytes, &e);
         }
         // more hex than the size says
         for extra in ["0", "00", "0000", "ff"] {
