@@ -3,8 +3,13 @@
 
 # a sample record, read and written by what exists so far
 demo:
-	@rt check examples > target.log 2>&1 || { cat target.log; rm -f target.log; exit 1; }
+	@rt check examples lister > target.log 2>&1 || { cat target.log; rm -f target.log; exit 1; }
 	@rm -f target.log
+	@echo "samples/record.notepack, $$(wc -c < samples/record.notepack) bytes, as the lister reads it:"
+	@target/bin/lister < samples/record.notepack
+	@echo; echo "and with its last byte cut off:"
+	@head -c 236 samples/record.notepack | target/bin/lister
+	@echo; echo "document 01's examples of varints and elements:"
 	@target/bin/examples
 
 # exactly what the gate runs
