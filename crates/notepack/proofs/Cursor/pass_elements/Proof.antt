@@ -52,7 +52,9 @@ returns c =
     elements-refused (turn .before .before .before .args .s .now) _ (q .left) (q .c .at) (q .sum) (called .element .result) _ _ (q .inv .0) (turn .loop-test .taken) (called .element .ensures) (ap partRead (c .before .found2 .given .1))
 
 returns-2 : tie.Need-returns-2 Inv-loop μ-loop
-returns-2 c = let q = c .before .loop in elements-done (c .before .before .before .args .s .now) _ (q .left) (q .c .at) (q .sum) (q .inv .0) (c .loop-test .left)
+returns-2 c =
+    let at-args = c .before .before .before in
+    let q = c .before .loop in elements-done (at-args .args .s .now) _ (q .left) (q .c .at) (q .sum) (q .inv .0) (c .loop-test .left)
 
 pub pass-elements-spec : {M : Type 1} → statement M
 pass-elements-spec =
