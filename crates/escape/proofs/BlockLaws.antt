@@ -6,7 +6,7 @@ use mathlib.Core.Bool.{Bool, true, false}
 use mathlib.Core.List.{List, [], _∷_, _++_, append-nil}
 use native.Mathlib.Omega.{arith}
 use lib.ListN.{length, getD, take, drop, length-append, length-take, length-drop, take-append-drop}
-use lib.Seq.{drop-drop, drop-append-le, length-take-le, getD-take, getD-drop, take-length, drop-length}
+use lib.Seq.{drop-drop, drop-append-le, take-all, length-take-le, getD-take, getD-drop, take-length, drop-length}
 use lib.Dec.{eqb}
 use Rattle.scan.specs.Choice.{pick}
 use Rattle.scan.proofs.Step.{rest-none, rest-more, pick-by}
@@ -24,6 +24,10 @@ rest-block t i e h =
     let j : i + (e - i) ≡ e = omega arith in
     let d = drop-drop (e - i) i t ∙ ap (λ (k : ℕ). drop k t) j in
     sym (take-append-drop (e - i) (drop i t)) ∙ ap (λ (r : List ℕ). take (e - i) (drop i t) ++ r) d
+
+-- general: a part that goes to the end
+pub rest-whole : (t : List ℕ) (i : ℕ) → take (length t - i) (drop i t) ≡ drop i t
+rest-whole t i = take-all (length t - i) (drop i t) (omega (arith, length-drop i t))
 
 -- ---- the length
 
@@ -58,6 +62,14 @@ length-block f s i e n h k q =
     let block = take (e - i) (drop i s) in
     let r = ap (λ (l : List ℕ). length (escaped f l)) (rest-block s i e h) ∙ ap length (escaped-append f block (drop e s)) ∙ length-append (escaped f block) (escaped f (drop e s)) in
     omega (arith, r, length-take (e - i) (drop i s), length-drop i s)
+
+-- the last block's length
+pub length-last : (f : ℕ → List ℕ) (s : List ℕ) (i n : ℕ) → i ≤ length s → n + length (take (length s - i) (drop i s)) ≡ length (escaped f (take (length s - i) (drop i s)))
+    → length (escaped f (drop i s)) ≡ n + (length s - i)
+unfolding escaped
+length-last f s i n h q =
+    let z : length (escaped f (drop (length s) s)) ≡ 0 = rw (rest-none s (length s) (omega arith)) refl in
+    omega (arith, length-block f s i (length s) n h (omega arith) q)
 
 -- ---- the run
 
@@ -116,7 +128,8 @@ module _ (all : Bool) where
     block-length : length (take k (drop i s)) ≡ k
     block-length = length-take-le k (drop i s) (omega (arith, length-drop i s))
 
-    run-inside : m ≤ k
+    -- the run ends within the block
+    pub run-inside : m ≤ k
     run-inside = omega (arith, block-length, run-within all (take k (drop i s)))
 
     -- the run of the block, and the rest of the text

@@ -58,12 +58,14 @@ wide {d′ = d′} {o = o} {left = left} x y l w h room =
     let first = puts (d′, o) x .0 in
     let at-x = place d′ o x room in
     let stored = ap (λ (b : Buffer). b .0) (w .is ∙ sym (puts-append (d′, o) x y) ∙ ap (λ (b : Buffer). puts b y) at-x) in
-    record { is =
-        ap (λ (k : List ℕ). puts (k, p) left) stored
-        ∙ over first p y left h
-        ∙ sym (ap (λ (b : Buffer). puts b left) at-x)
-        ∙ puts-append (d′, o) x left
-        ∙ l .is }
+    record {
+      is =
+          ap (λ (k : List ℕ). puts (k, p) left) stored
+          ∙ over first p y left h
+          ∙ sym (ap (λ (b : Buffer). puts b left) at-x)
+          ∙ puts-append (d′, o) x left
+          ∙ l .is;
+    }
 
 -- two bytes stored where there is room for both
 pub two-bytes : {d : List ℕ} {at : ℕ} {all d′ : List ℕ} {o v w : ℕ} {left : List ℕ}

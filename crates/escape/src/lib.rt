@@ -2,8 +2,7 @@
 ghost use Prim.Native.Nat.{_+_, _*_, _≤_, min};
 ghost use mathlib.Core.Path.{_≡_};
 ghost use lib.ListN.{length};
-ghost use lib.Dec.{leb};
-ghost use Rattle.scan.specs.Choice.{pick, both};
+ghost use Rattle.scan.specs.Choice.{pick};
 ghost use Rattle.store.specs.Store.{Wrote};
 ghost use Rattle.escape.specs.Escape.{canonicalByte, nsonByte, escaped, isControl, controls, nsonText};
 ghost use Rattle.escape.specs.Block.{byteOf, isEscaped, letterOf, runOf};
@@ -169,16 +168,6 @@ fn put_rest(all: bool, out: &mut [u8], at: usize, s: &[u8]) -> usize
     put_each(all, out, at, s)
 }
 
-// Whether a block is left, and room for it and an escape.
-fn has_block(left: usize, room: usize) -> bool
-    ensures { λ r. ⌜ r ≡ both (leb 64 left) (leb 66 room) ⌝ }
-{
-    if 64 <= left {
-        return 66 <= room;
-    }
-    false
-}
-
 // Block by block. A block is copied whole; what stands behind its first escape is then written over.
 fn put_escaped(all: bool, out: &mut [u8], at: usize, s: &[u8]) -> usize
     ensures { λ r. ⌜ Wrote (now (out .entry)) at (escaped (byteOf all) (now (s .entry))) (now (out .exit)) r ⌝ }
@@ -188,7 +177,11 @@ fn put_escaped(all: bool, out: &mut [u8], at: usize, s: &[u8]) -> usize
     }
     let mut i = 0;
     let mut o = at;
-    while has_block(s.len() - i, out.len() - o) {
+    while s.len() - i >= 64 {
+        // no room for a block and an escape
+        if out.len() - o < 66 {
+            return put_rest(all, out, o, &s[i..]);
+        }
         let e = i + 64;
         store::put_bytes(out, o, &s[i..e]);
         let m = plain_run(all, &s[i..e]) as usize;

@@ -1,98 +1,59 @@
+-- `escaped_len` adds block by block. The invariant: the sum and the length of what is left, escaped, make the whole.
+-- Each turn is `length-block`; the whole is at most twice as long as the text, so no sum wraps.
+use Prim.Native.Nat.{_+_, _-_, _≤_}
+use mathlib.Core.Path.{_≡_}
+use native.Mathlib.Omega.{arith}
+use borrow.Author.Needs.{needs}
+use lib.ListN.{length, drop, length-take, length-drop}
+use Rattle.escape.specs.Escape.{escaped}
+use Rattle.escape.specs.Block.{byteOf}
+use Rattle.escape.proofs.ByteLaws.{escaping}
+use Rattle.escape.proofs.TextLaws.{length-least, length-most}
+use Rattle.escape.proofs.BlockLaws.{length-block, length-last}
 use Rattle.escape.proofs.escaped_len.Statement.{statement}
 use Rattle.escape.proofs.escaped_len.Tie as tie
-use Rattle.escape.proofs.escaped_len.Reads as reads
-use Rattle.escape.proofs.escaped_len.Lts as lts
-use Rattle.escape.proofs.escapes.Reads as escapes-reads
 
 abbrev Inv-loop : tie.InvT-loop
-Inv-loop all s i₀ n₀ i n = ?
+Inv-loop all s i₀ n₀ i n = (i ≤ length s) × (n + length (escaped (byteOf all) (drop i s)) ≡ length (escaped (byteOf all) s))
 
 abbrev μ-loop : tie.MeasureT-loop
-μ-loop all s i₀ n₀ i n = ?
+μ-loop all s i₀ n₀ i n = length s - i
 
--- src/lib.rt:84:5
-loop-holds : tie.Need-loop-holds Inv-loop μ-loop
-loop-holds c = ?
-
--- src/lib.rt:84:11
-sub-loop : tie.Need-sub-loop Inv-loop μ-loop
-sub-loop c = ?
-
--- src/lib.rt:85:17
-add-e : tie.Need-add-e Inv-loop μ-loop
-add-e c = ?
-
--- src/lib.rt:86:33
-sub-escapes : tie.Need-sub-escapes Inv-loop μ-loop
-sub-escapes c = ?
-
--- src/lib.rt:86:33
-part-escapes-start : tie.Need-part-escapes-start Inv-loop μ-loop
-part-escapes-start c = ?
-
--- src/lib.rt:86:33
-part-escapes-end : tie.Need-part-escapes-end Inv-loop μ-loop
-part-escapes-end c = ?
-
--- src/lib.rt:86:20
-escapes-requires : tie.Need-escapes-requires Inv-loop μ-loop
-escapes-requires c κs = ?
-
--- src/lib.rt:86:20
-cast-n : tie.Need-cast-n Inv-loop μ-loop
-cast-n c = ?
-
--- src/lib.rt:86:14
-add-n : tie.Need-add-n Inv-loop μ-loop
-add-n c = ?
-
--- src/lib.rt:86:9
 add-n-2 : tie.Need-add-n-2 Inv-loop μ-loop
-add-n-2 c = ?
+add-n-2 c =
+    let q = c .before .before .before .loop in
+    let a = c .before .before .before .before .before .args in
+    let f = byteOf (a .all) in
+    let e = length-block f (a .s .now) (q .i) (q .i + 128) (c .escapes .result) (omega arith) (omega arith) (c .escapes .ensures) in
+    omega (arith, e, length-most f (escaping (a .all)) (a .s .now))
 
--- src/lib.rt:84:5
-loop-less : tie.Need-loop-less Inv-loop μ-loop
-loop-less c = ?
+again : tie.Need-loop-again Inv-loop μ-loop
+again c =
+    let q = c .before .before .before .loop in
+    let a = c .before .before .before .before .before .args in
+    let e = length-block (byteOf (a .all)) (a .s .now) (q .i) (q .i + 128) (c .escapes .result) (omega arith) (omega arith) (c .escapes .ensures) in
+    (omega arith, omega (arith, e))
 
--- src/lib.rt:84:5
-loop-again : tie.Need-loop-again Inv-loop μ-loop
-loop-again c = ?
-
--- src/lib.rt:89:10
-sub-result : tie.Need-sub-result Inv-loop μ-loop
-sub-result c = ?
-
--- src/lib.rt:89:5
 add-result : tie.Need-add-result Inv-loop μ-loop
-add-result c = ?
+add-result c =
+    let a = c .before .before .before .args in
+    let f = byteOf (a .all) in
+    let least = length-least f (escaping (a .all)) (drop (c .before .loop .i) (a .s .now)) in
+    omega (arith, least, length-most f (escaping (a .all)) (a .s .now), length-drop (c .before .loop .i) (a .s .now))
 
--- src/lib.rt:89:38
-sub-escapes-2 : tie.Need-sub-escapes-2 Inv-loop μ-loop
-sub-escapes-2 c = ?
-
--- src/lib.rt:89:38
-part-escapes-start-2 : tie.Need-part-escapes-start-2 Inv-loop μ-loop
-part-escapes-start-2 c = ?
-
--- src/lib.rt:89:38
-part-escapes-end-2 : tie.Need-part-escapes-end-2 Inv-loop μ-loop
-part-escapes-end-2 c = ?
-
--- src/lib.rt:89:25
-escapes-requires-2 : tie.Need-escapes-requires-2 Inv-loop μ-loop
-escapes-requires-2 c κs = ?
-
--- src/lib.rt:89:25
-cast-result : tie.Need-cast-result Inv-loop μ-loop
-cast-result c = ?
-
--- src/lib.rt:89:5
 add-result-2 : tie.Need-add-result-2 Inv-loop μ-loop
-add-result-2 c = ?
+add-result-2 c =
+    let a = c .before .before .before .before .before .args in
+    let f = byteOf (a .all) in
+    let e = length-last f (a .s .now) (c .before .before .before .loop .i) (c .escapes2 .result) (omega arith) (c .escapes2 .ensures) in
+    omega (arith, e, length-most f (escaping (a .all)) (a .s .now))
 
--- src/lib.rt:78:1
 returns : tie.Need-returns Inv-loop μ-loop
-returns c = ?
+returns c =
+    let a = c .before .before .before .before .before .args in
+    let f = byteOf (a .all) in
+    let e = length-last f (a .s .now) (c .before .before .before .loop .i) (c .escapes2 .result) (omega arith) (c .escapes2 .ensures) in
+    (omega (arith, e), omega (arith, e, length-most f (escaping (a .all)) (a .s .now)))
 
 pub escaped-len-spec : {M : Type 1} → statement M
 escaped-len-spec =
@@ -100,24 +61,24 @@ escaped-len-spec =
     (tie.spec
     Inv-loop
     μ-loop
-    loop-holds
-    sub-loop
-    add-e
-    sub-escapes
-    part-escapes-start
-    part-escapes-end
-    escapes-requires
-    cast-n
-    add-n
+    (λ c. (omega arith, omega arith))
+    (λ c. omega arith)
+    (λ c. omega arith)
+    (λ c. omega arith)
+    (λ c. omega arith)
+    (λ c. omega arith)
+    (λ c κs. simp (length-take, length-drop) (omega arith))
+    (λ c. omega arith)
+    (λ c. omega arith)
     add-n-2
-    loop-less
-    loop-again
-    sub-result
+    (λ c. omega arith)
+    again
+    (λ c. omega arith)
     add-result
-    sub-escapes-2
-    part-escapes-start-2
-    part-escapes-end-2
-    escapes-requires-2
-    cast-result
+    (λ c. omega arith)
+    (λ c. omega arith)
+    (λ c. omega arith)
+    (λ c κs. simp (length-take, length-drop) (omega arith))
+    (λ c. omega arith)
     add-result-2
     returns)

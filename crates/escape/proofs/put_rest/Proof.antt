@@ -1,53 +1,26 @@
+-- `put_rest` writes a short text whole where all of it is a run, and else byte after byte.
+-- `run-whole`: a text that is all run stands as it is.
+use mathlib.Core.Path.{sym, _∙_}
 use borrow.Author.Needs.{needs}
+use Rattle.escape.proofs.BlockLaws.{run-whole}
 use Rattle.escape.proofs.put_rest.Statement.{statement}
 use Rattle.escape.proofs.put_rest.Tie as tie
-use Rattle.escape.proofs.put_rest.Reads as reads
-use Rattle.escape.proofs.put_rest.Lts as lts
-use Rattle.escape.proofs.plain_run.Reads as plain-run-reads
-use Rattle.escape.proofs.put_each.Reads as put-each-reads
-use Rattle.store.proofs.put_bytes.Reads as put-bytes-reads
 
--- src/lib.rt:165:12
-plain-run-requires : tie.Need-plain-run-requires
-plain-run-requires c κs = search needs
-
--- src/lib.rt:165:12
-cast-if2 : tie.Need-cast-if2
-cast-if2 c = search needs
-
--- src/lib.rt:166:13
-put-bytes-requires : tie.Need-put-bytes-requires
-put-bytes-requires c κs = search needs
-
--- src/lib.rt:166:13
-same-length : tie.Need-same-length
-same-length c = search needs
-
--- src/lib.rt:166:13
 returns : tie.Need-returns
-returns c = ?
-
--- src/lib.rt:169:5
-put-each-requires : tie.Need-put-each-requires
-put-each-requires c κs = search needs
-
--- src/lib.rt:161:1
-same-length-2 : tie.Need-same-length-2
-same-length-2 c = search needs
-
--- src/lib.rt:161:1
-returns-2 : tie.Need-returns-2
-returns-2 c = search needs
+returns c =
+    let tested = c .before .before .before .before in
+    let a = tested .before .before .before .before .before .args in
+    rw (run-whole (a .all) (a .s .now) (sym (tested .before .plain-run .ensures) ∙ tested .if2 .taken)) (c .before .before .put-bytes .ensures)
 
 pub put-rest-spec : {M : Type 1} → statement M
 put-rest-spec =
     tie.close
     (tie.spec
-    plain-run-requires
-    cast-if2
-    put-bytes-requires
-    same-length
+    (λ c κs. search needs)
+    (λ c. search needs)
+    (λ c κs. search needs)
+    (λ c. search needs)
     returns
-    put-each-requires
-    same-length-2
-    returns-2)
+    (λ c κs. search needs)
+    (λ c. search needs)
+    (λ c. search needs))
