@@ -128,8 +128,7 @@ module _ (all : Bool) where
     block-length : length (take k (drop i s)) ≡ k
     block-length = length-take-le k (drop i s) (omega (arith, length-drop i s))
 
-    -- the run ends within the block
-    pub run-inside : m ≤ k
+    run-inside : m ≤ k
     run-inside = omega (arith, block-length, run-within all (take k (drop i s)))
 
     -- the run of the block, and the rest of the text

@@ -4,7 +4,6 @@ use Prim.Native.Nat.{ℕ, _+_, _*_, _<_, _≤_}
 use mathlib.Core.Path.{_≡_, refl, sym, ap, _∙_}
 use mathlib.Core.Bool.{Bool, true, false}
 use mathlib.Core.List.{List, [], _∷_, _++_, append-assoc, append-nil}
-use mathlib.Core.Logic.{_⊎_, inl, inr, ⊎-elim}
 use native.Mathlib.Omega.{arith}
 use lib.ListN.{length, length-append}
 use borrow.Author.Tests.{ne-eqb}
@@ -58,10 +57,10 @@ form-high (letter c m h k) g = absurd (omega arith)
 
 -- ---- of one character
 
-abbrev Ascii : ℕ → Type 0
+abbrev pub Ascii : ℕ → Type 0
 Ascii b = b < 0x80
 
-abbrev High : ℕ → Type 0
+abbrev pub High : ℕ → Type 0
 High b = 0x80 ≤ b
 
 high : {l h b : ℕ} → 0x80 ≤ l → Octet l h b → High b
@@ -71,16 +70,20 @@ tail : {b : ℕ} → Tail b → High b
 tail t = high (omega arith) t
 
 -- a character is one byte of ASCII, or has none
-char-side : {c : List ℕ} → Char c → All Ascii c ⊎ All High c
-char-side (one (octet {b = b} l h)) = inl (also {b = b} (omega arith) none)
-char-side (two p q) = inr (also (high (omega arith) p) (also (tail q) none))
-char-side (three-E0 p q) = inr (also {b = 0xE0} (omega arith) (also (high (omega arith) p) (also (tail q) none)))
-char-side (three-E1 p q r) = inr (also (high (omega arith) p) (also (tail q) (also (tail r) none)))
-char-side (three-ED p q) = inr (also {b = 0xED} (omega arith) (also (high (omega arith) p) (also (tail q) none)))
-char-side (three-EE p q r) = inr (also (high (omega arith) p) (also (tail q) (also (tail r) none)))
-char-side (four-F0 p q r) = inr (also {b = 0xF0} (omega arith) (also (high (omega arith) p) (also (tail q) (also (tail r) none))))
-char-side (four-F1 p q r t) = inr (also (high (omega arith) p) (also (tail q) (also (tail r) (also (tail t) none))))
-char-side (four-F4 p q r) = inr (also {b = 0xF4} (omega arith) (also (high (omega arith) p) (also (tail q) (also (tail r) none))))
+pub data Side : List ℕ → Type 0 where
+  ascii : {b : ℕ} → Ascii b → Side (b ∷ [])
+  above : {c : List ℕ} → All High c → Side c
+
+pub char-side : {c : List ℕ} → Char c → Side c
+char-side (one (octet {b = b} l h)) = ascii {b = b} (omega arith)
+char-side (two p q) = above (also (high (omega arith) p) (also (tail q) none))
+char-side (three-E0 p q) = above (also {b = 0xE0} (omega arith) (also (high (omega arith) p) (also (tail q) none)))
+char-side (three-E1 p q r) = above (also (high (omega arith) p) (also (tail q) (also (tail r) none)))
+char-side (three-ED p q) = above (also {b = 0xED} (omega arith) (also (high (omega arith) p) (also (tail q) none)))
+char-side (three-EE p q r) = above (also (high (omega arith) p) (also (tail q) (also (tail r) none)))
+char-side (four-F0 p q r) = above (also {b = 0xF0} (omega arith) (also (high (omega arith) p) (also (tail q) (also (tail r) none))))
+char-side (four-F1 p q r t) = above (also (high (omega arith) p) (also (tail q) (also (tail r) (also (tail t) none))))
+char-side (four-F4 p q r) = above (also {b = 0xF4} (omega arith) (also (high (omega arith) p) (also (tail q) (also (tail r) none))))
 
 -- ---- of a text, for every escaping
 
@@ -119,16 +122,31 @@ module _ (f : ℕ → List ℕ) (e : Escaping f) where
   escaped-high none = refl
   escaped-high (also {b = b} p r) = rw (form-high (e b) p, escaped-high r)
 
-  escaped-ascii : {t : List ℕ} → All Ascii t → All Ascii (escaped f t)
+  escaped-side : {c : List ℕ} → Side c → Utf8 c → Utf8 (escaped f c)
   unfolding escaped
-  escaped-ascii none = none
-  escaped-ascii (also {b = b} p r) = all-append (form-all (e b) p (λ a h. h)) (escaped-ascii r)
-
-  escaped-char : {c : List ℕ} → Char c → Utf8 (escaped f c)
-  escaped-char {c} g = ⊎-elim (λ a. utf8-ascii (escaped-ascii a)) (λ h. rw (escaped-high {t = c} h) (utf8-char g)) (char-side g)
+  escaped-side (ascii {b = b} h) u = rw (append-nil (f b)) (utf8-ascii (form-all (e b) h (λ a k. k)))
+  escaped-side (above {c = c} h) u = rw (escaped-high {t = c} h) u
 
   -- UTF-8 is escaped as UTF-8
   pub escaped-utf8 : {t : List ℕ} → Utf8 t → Utf8 (escaped f t)
   unfolding escaped
   escaped-utf8 Utf8.none = Utf8.none
-  escaped-utf8 (char {c = c} {l = l} g u) = rw (escaped-append f c l) (utf8-append (escaped-char g) (escaped-utf8 u))
+  escaped-utf8 (char {c = c} {l = l} g u) = rw (escaped-append f c l) (utf8-append (escaped-side (char-side g) (utf8-char g)) (escaped-utf8 u))
+
+-- ---- the two
+
+-- a text is read back from the canonical text
+pub canonical-plain : (t : List ℕ) → plain (escaped canonicalByte t) ≡ t
+canonical-plain = plain-escaped canonicalByte canonical-escaping
+
+-- two different texts never have the same form in the canonical text
+pub canonical-injective : (s t : List ℕ) → escaped canonicalByte s ≡ escaped canonicalByte t → s ≡ t
+canonical-injective = escaped-injective canonicalByte canonical-escaping
+
+-- a text is read back from NSON
+pub nson-plain : (t : List ℕ) → plain (escaped nsonByte t) ≡ t
+nson-plain = plain-escaped nsonByte nson-escaping
+
+-- two different texts never have the same form in NSON
+pub nson-injective : (s t : List ℕ) → escaped nsonByte s ≡ escaped nsonByte t → s ≡ t
+nson-injective = escaped-injective nsonByte nson-escaping

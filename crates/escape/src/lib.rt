@@ -145,6 +145,7 @@ fn lesser(a: u8, b: u8) -> u8
 fn plain_run(all: bool, block: &[u8]) -> u8
     requires { ⌜ length (now block) ≤ 64 ⌝ }
     ensures { λ r. ⌜ r ≡ runOf all (now (block .entry)) ⌝ }
+    ensures { λ r. ⌜ r ≤ 64 ⌝ }
 {
     let n = block.len() as u8;
     let mut i = 0;

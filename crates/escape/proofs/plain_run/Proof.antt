@@ -39,4 +39,4 @@ plain-run-spec =
     (λ c. omega arith)
     (λ c. omega arith)
     again
-    (λ c. search run-done))
+    (λ c. (search run-done, omega arith)))

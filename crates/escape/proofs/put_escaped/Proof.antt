@@ -9,7 +9,7 @@ use Rattle.store.proofs.Laws.{Left, start, also, full, finish, kept}
 use Rattle.escape.specs.Escape.{escaped}
 use Rattle.escape.specs.Block.{byteOf}
 use Rattle.escape.proofs.OverLaws.{two-bytes}
-use Rattle.escape.proofs.BlockLaws.{rest-whole, run-inside, run-written, run-letter}
+use Rattle.escape.proofs.BlockLaws.{rest-whole, run-written, run-letter}
 use Rattle.escape.proofs.put_escaped.Statement.{statement}
 use Rattle.escape.proofs.put_escaped.Tie as tie
 
@@ -20,55 +20,40 @@ Inv-loop all out₀ at s i₀ o₀ out i o =
 abbrev μ-loop : tie.MeasureT-loop
 μ-loop all out₀ at s i₀ o₀ out i o = length s - i
 
+-- too little room for a block
 returns-2 : tie.Need-returns-2 Inv-loop μ-loop
 returns-2 c =
     let q = c .before .before .before .before .before .before .before .loop in
     finish (q .inv .3) (rw (rest-whole _ (q .i)) at (c .before .before .put-rest .ensures))
 
+-- a block that is all run
 again : tie.Need-loop-again Inv-loop μ-loop
 again c =
-    let q = c .before .before .before .before .before .before .before .before .before .before .loop in
-    let a = c .before .before .before .before .before .before .before .before .before .before .before .before .before .before .args in
-    let w = c .before .before .before .before .before .put-bytes .ensures in
-    let l = run-written (a .all) (a .s .now) (q .i) (q .i + 64 - q .i) 64 (omega arith) (rw (c .if3 .taken) at (c .before .plain-run .ensures)) (q .inv .3) w (omega arith) in
+    let stored = c .before .before .before .before .before in
+    let q = stored .before .before .before .before .before .loop in
+    let a = stored .before .before .before .before .before .before .before .before .before .args in
+    let w = stored .put-bytes .ensures in
+    let is = rw (c .if3 .taken) at (c .before .plain-run .ensures .0) in
+    let l = run-written (a .all) (a .s .now) (q .i) (q .i + 64 - q .i) 64 (omega arith) is (q .inv .3) w (omega arith) in
     (omega arith, omega (arith, kept w), kept w ∙ q .inv .2, l)
 
--- the escape stands within the buffer, and its byte within s: the run is shorter than the block
-write : tie.Need-slice-write-out Inv-loop μ-loop
-write c =
-    let q = c .before .before .before .before .before .before .before .before .before .before .loop in
-    let a = c .before .before .before .before .before .before .before .before .before .before .before .before .before .before .args in
-    omega (arith, run-inside (a .all) (a .s .now) (q .i) (q .i + 64 - q .i) _ (omega arith) (c .before .plain-run .ensures), kept (c .before .before .before .before .before .put-bytes .ensures))
-
-read : tie.Need-shared-slice-read-letter-of Inv-loop μ-loop
-read c =
-    let q = c .before .before .before .before .before .before .before .before .before .before .before .loop in
-    let a = c .before .before .before .before .before .before .before .before .before .before .before .before .before .before .before .args in
-    omega (arith, run-inside (a .all) (a .s .now) (q .i) (q .i + 64 - q .i) _ (omega arith) (c .before .before .plain-run .ensures))
-
-write-2 : tie.Need-slice-write-out-2 Inv-loop μ-loop
-write-2 c =
-    let q = c .before .before .before .before .before .before .before .before .before .before .before .before .loop in
-    let a = c .before .before .before .before .before .before .before .before .before .before .before .before .before .before .before .before .args in
-    let h = run-inside (a .all) (a .s .now) (q .i) (q .i + 64 - q .i) _ (omega arith) (c .before .before .before .plain-run .ensures) in
-    let n = kept (c .before .before .before .before .before .before .before .put-bytes .ensures) in
-    simp length-set (omega arith)
-
+-- a block with an escape
 again-2 : tie.Need-loop-again-2 Inv-loop μ-loop
 again-2 c =
-    let q = c .before .before .before .before .before .before .before .before .before .before .before .before .loop in
-    let a = c .before .before .before .before .before .before .before .before .before .before .before .before .before .before .before .before .args in
-    let w = c .before .before .before .before .before .before .before .put-bytes .ensures in
+    let stored = c .before .before .before .before .before .before .before in
+    let q = stored .before .before .before .before .before .loop in
+    let a = stored .before .before .before .before .before .before .before .before .before .args in
+    let w = stored .put-bytes .ensures in
     let k = q .i + 64 - q .i in
-    let m = c .before .before .before .plain-run .result in
     let fits : q .i + k ≤ length (a .s .now) = omega arith in
-    let is = c .before .before .before .plain-run .ensures in
-    let h = run-inside (a .all) (a .s .now) (q .i) k m fits is in
+    let m = c .before .before .before .plain-run .result in
+    let is = c .before .before .before .plain-run .ensures .0 in
     let l = run-written (a .all) (a .s .now) (q .i) k m fits is (q .inv .3) w (omega arith) in
     let e = run-letter (a .all) (a .s .now) (q .i) k m fits is (λ z. c .before .before .if3 .left (omega arith)) in
     let n = kept w in
     (omega arith, simp length-set (omega arith), simp length-set (n ∙ q .inv .2), rw (c .letter-of .ensures) (two-bytes (omega arith) (also e l)))
 
+-- no block is left
 returns-3 : tie.Need-returns-3 Inv-loop μ-loop
 returns-3 c =
     let q = c .before .before .before .before .before .before .loop in
@@ -105,11 +90,11 @@ put-escaped-spec =
     again
     (λ c. omega arith)
     (λ c. omega arith)
-    write
-    read
+    (λ c. omega (arith, kept (c .before .before .before .before .before .put-bytes .ensures)))
+    (λ c. omega arith)
     (λ c κs. search needs)
     (λ c. omega arith)
-    write-2
+    (λ c. simp length-set (omega (arith, kept (c .before .before .before .before .before .before .before .put-bytes .ensures))))
     (λ c. omega arith)
     (λ c. omega arith)
     (λ c. omega arith)

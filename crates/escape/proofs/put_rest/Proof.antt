@@ -10,7 +10,7 @@ returns : tie.Need-returns
 returns c =
     let tested = c .before .before .before .before in
     let a = tested .before .before .before .before .before .args in
-    rw (run-whole (a .all) (a .s .now) (sym (tested .before .plain-run .ensures) ∙ tested .if2 .taken)) (c .before .before .put-bytes .ensures)
+    rw (run-whole (a .all) (a .s .now) (sym (tested .before .plain-run .ensures .0) ∙ tested .if2 .taken)) (c .before .before .put-bytes .ensures)
 
 pub put-rest-spec : {M : Type 1} → statement M
 put-rest-spec =
