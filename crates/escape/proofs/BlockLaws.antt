@@ -7,7 +7,6 @@ use mathlib.Core.List.{List, [], _∷_, _++_, append-nil}
 use native.Mathlib.Omega.{arith}
 use lib.ListN.{length, getD, take, drop, length-append, length-take, length-drop, take-append-drop}
 use lib.Seq.{drop-drop, drop-append-le, take-all, length-take-le, getD-take, getD-drop, take-length, drop-length}
-use lib.Dec.{eqb}
 use Rattle.scan.specs.Choice.{pick}
 use Rattle.scan.proofs.Step.{rest-none, rest-more, pick-by}
 use Rattle.store.specs.Store.{Wrote}
@@ -73,6 +72,7 @@ length-last f s i n h q =
 
 -- ---- the run
 
+-- the run ends within the block
 pub run-within : (all : Bool) (x : List ℕ) → runOf all x ≤ length x
 unfolding runOf
 run-within all [] = omega arith

@@ -1,20 +1,18 @@
 -- What each of the two byte functions makes of a byte: the byte itself, or a backslash and a letter that means the byte.
 -- By the tests of the definitions, one after the other. `Escaping f` is all that the laws of texts ask of a byte function.
 use Prim.Native.Nat.{ℕ, _+_, _<_, _≤_}
-use mathlib.Core.Path.{_≡_, refl, sym, ap, _∙_}
+use mathlib.Core.Path.{_≡_, refl, sym, _∙_}
 use mathlib.Core.Bool.{Bool, true, false}
 use mathlib.Core.List.{List, [], _∷_}
 use mathlib.Core.Logic.{dite}
 use native.Mathlib.Omega.{arith}
 use native.Mathlib.Decide.{decLt, ℕ-discrete}
-use lib.ListN.{length}
 use lib.Dec.{eqb}
-use borrow.Author.Tests.{eqb-true, eqb-false, eq-eqb, ne-eqb, le-leb, lt-leb}
+use borrow.Author.Tests.{eqb-true, eqb-false, ne-eqb, le-leb, lt-leb}
 use Rattle.scan.specs.Choice.{pick}
 use Rattle.scan.specs.Place.{within}
 use Rattle.scan.proofs.Step.{pick-by}
 use Rattle.escape.specs.Escape.{behind, nsonByte, canonicalByte, meaning}
-use Rattle.escape.specs.Quoted.{NsonBare, nson-bare, NsonLetter, letter-n, letter-quote, letter-backslash, CanonicalBare, canonical-bare, CanonicalLetter, letter-nson, letter-r, letter-t, letter-b, letter-f}
 use Rattle.escape.specs.Block.{byteOf, isEscaped, letterOf}
 
 -- what a byte becomes: itself, or a backslash and a letter that means it
@@ -50,6 +48,7 @@ canonical-escaping b =
     pick-by (Form b) (eqb b 0x08) (λ t. to-letter b 0x08 0x62 t refl (omega arith) (omega arith))
     (λ n. pick-by (Form b) (eqb b 0x0C) (λ t. to-letter b 0x0C 0x66 t refl (omega arith) (omega arith)) (λ n. nson-escaping b))))
 
+-- and so both, by the code's flag
 pub escaping : (all : Bool) → Escaping (byteOf all)
 escaping true = canonical-escaping
 escaping false = nson-escaping

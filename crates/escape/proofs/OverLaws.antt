@@ -8,7 +8,7 @@ use native.Mathlib.Omega.{arith}
 use native.Mathlib.Decide.{decLt}
 use lib.ListN.{length, set, length-set}
 use lib.Seq.{set-set, set-comm}
-use Rattle.store.specs.Store.{Buffer, put, puts, Wrote}
+use Rattle.store.specs.Store.{Buffer, puts, Wrote}
 use Rattle.store.proofs.Laws.{Left, byte, length-puts, puts-append, put-room, puts-full, puts-eq}
 
 -- a store before the place where writing goes on

@@ -1,8 +1,8 @@
 -- What stands between quotes is the escaped form of the text that it stands for, and that text is UTF-8 where it is.
 -- By induction on the quoted text; each step is a bare byte or a letter behind a backslash.
 use Prim.Native.Nat.{ℕ, zero, suc, _+_, _<_, _≤_}
-use mathlib.Core.Path.{_≡_, refl, sym, ap, _∙_}
-use mathlib.Core.Bool.{Bool, true, false}
+use mathlib.Core.Path.{_≡_, refl}
+use mathlib.Core.Bool.{true}
 use mathlib.Core.List.{List, [], _∷_, _++_}
 use native.Mathlib.Omega.{arith}
 use lib.ListN.{length, length-append}
@@ -13,7 +13,7 @@ use Rattle.utf8.proofs.WidthLaws.{char-length}
 use Rattle.utf8.proofs.Laws.{utf8-rest, utf8-char}
 use Rattle.escape.specs.Escape.{behind, nsonByte, canonicalByte, escaped, meaning, plainFrom, plain, Carried, newline, other, nsonText}
 use Rattle.escape.specs.Quoted.{Quoted, none, bare, escape, NsonBare, nson-bare, NsonLetter, letter-n, letter-quote, letter-backslash, CanonicalBare, canonical-bare, CanonicalLetter, letter-nson, letter-r, letter-t, letter-b, letter-f}
-use Rattle.escape.proofs.TextLaws.{Ascii, High, Side, ascii, above, char-side}
+use Rattle.escape.proofs.TextLaws.{High, Side, ascii, above, char-side}
 use Rattle.escape.proofs.QuotedLaws.{nson-text}
 
 -- what a byte function makes of bare bytes, and of what the letters stand for

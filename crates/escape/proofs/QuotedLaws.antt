@@ -1,15 +1,14 @@
 -- An escaped text may stand between quotes, and the first bare quote ends it. What NSON can carry is a property of each byte.
 -- By the tests of the byte functions, and induction on the text.
-use Prim.Native.Nat.{ℕ, _+_, _<_, _≤_}
-use mathlib.Core.Path.{_≡_, refl, sym, ap, _∙_}
-use mathlib.Core.Bool.{Bool, true, false}
+use Prim.Native.Nat.{ℕ, _+_, _≤_}
+use mathlib.Core.Path.{_≡_, refl, sym}
+use mathlib.Core.Bool.{true}
 use mathlib.Core.List.{List, [], _∷_, _++_}
 use mathlib.Core.Logic.{_↔_, dite}
 use native.Mathlib.Omega.{arith}
 use native.Mathlib.Decide.{decLt, ℕ-discrete}
-use lib.Dec.{eqb, ltb}
+use lib.Dec.{eqb}
 use borrow.Author.Tests.{eqb-true, eqb-false, eq-eqb, ne-eqb, lt-ltb, le-ltb}
-use Rattle.scan.specs.Choice.{pick}
 use Rattle.scan.specs.Span.{All, also}
 use Rattle.scan.proofs.Step.{pick-by}
 use Rattle.escape.specs.Escape.{behind, nsonByte, canonicalByte, escaped, Carried, newline, other, isControl, controls, nsonText}

@@ -2,16 +2,16 @@
 -- By induction on the text; each step is the form of one byte.
 use Prim.Native.Nat.{ℕ, _+_, _*_, _<_, _≤_}
 use mathlib.Core.Path.{_≡_, refl, sym, ap, _∙_}
-use mathlib.Core.Bool.{Bool, true, false}
+use mathlib.Core.Bool.{false}
 use mathlib.Core.List.{List, [], _∷_, _++_, append-assoc, append-nil}
 use native.Mathlib.Omega.{arith}
 use lib.ListN.{length, length-append}
 use borrow.Author.Tests.{ne-eqb}
-use Rattle.scan.specs.Span.{All, none, also, Byte, IsBytes}
+use Rattle.scan.specs.Span.{All, none, also, IsBytes}
 use Rattle.scan.proofs.AllLaws.{all-append}
 use Rattle.utf8.specs.Utf8.{Octet, octet, Tail, Char, one, two, three-E0, three-E1, three-ED, three-EE, four-F0, four-F1, four-F4, Utf8, char}
 use Rattle.utf8.proofs.Laws.{utf8-append, utf8-char, utf8-ascii}
-use Rattle.escape.specs.Escape.{nsonByte, canonicalByte, escaped, meaning, plainFrom, plain}
+use Rattle.escape.specs.Escape.{nsonByte, canonicalByte, escaped, plainFrom, plain}
 use Rattle.escape.proofs.ByteLaws.{Form, itself, letter, Escaping, nson-escaping, canonical-escaping}
 
 -- ---- with no condition
