@@ -11,16 +11,16 @@ use Rattle.checked.specs.Table.{CheckedExamples}
 pub checked-examples : CheckedExamples
 unfolding ulebIn uleb spelled varintAt shortestAt within valueOf unhex allDigits goesAsBytes packElement
 checked-examples =
-    record
-      { example-1 = refl
-      ; example-2 = refl
-      ; example-3 = refl
-      ; example-4 = refl
-      ; example-5 = refl
-      ; example-6 = refl
-      ; example-7 = (refl, refl)
-      ; example-8 = refl
-      ; example-9 = refl
-      ; example-10 = refl
-      ; example-11 = refl
-      }
+    record {
+      example-1 = refl;
+      example-2 = refl;
+      example-3 = refl;
+      example-4 = refl;
+      example-5 = refl;
+      example-6 = refl;
+      example-7 = (refl, refl);
+      example-8 = refl;
+      example-9 = refl;
+      example-10 = refl;
+      example-11 = refl;
+    }

@@ -4,7 +4,6 @@ use libc::STDIN_FILENO;
 use libc::STDOUT_FILENO;
 use notepack::Head;
 use notepack::HeadRead;
-
 ghost use Rattle.store.specs.Store.{Wrote};
 ghost use Rattle.notepack.specs.Views.{numbersOf};
 ghost use Rattle.lister.specs.Listing.{numbersText, refusalText, listing};

@@ -24,25 +24,31 @@ abbrev μ-loop : tie.MeasureT-loop
 -- the sum fits, since the tally is no longer than the input
 room : tie.Need-more-requires Inv-loop μ-loop
 room c κs =
-    let q = c .before .before .before .before .before .before .before .loop in
-    let s = c .before .before .before .before .before .before .before .before .before .args .s .now in
-    let bytes = all-places s (λ i. omega (arith, c .before .before .before .before .before .before .before .before .shared-slice-known .given i)) in
-    let g = element-room s bytes (q .c .at) _ (q .sum) _ _ _ (c .before .before .before .before .before .element .ensures) (c .before .before .before .found .given .1) (c .before .element-len .ensures) (q .inv .1) in
-    omega (arith, g, c .before .before .before .before .before .before .before .before .before .good)
+    let told = c .before .before .before in
+    let called = told .before .before in
+    let q = called .before .before .loop in
+    let known = called .before .before .before in
+    let s = known .before .args .s .now in
+    let bytes = all-places s (λ i. omega (arith, known .shared-slice-known .given i)) in
+    let g = element-room s bytes (q .c .at) _ (q .sum) _ _ _ (called .element .ensures) (told .found .given .1) (c .before .element-len .ensures) (q .inv .1) in
+    omega (arith, g, known .before .good)
 
 again : tie.Need-loop-again Inv-loop μ-loop
 again c =
-    let q = c .before .before .before .before .before .before .before .before .loop in
-    let s = c .before .before .before .before .before .before .before .before .before .before .args .s .now in
-    let e = c .before .before .before .before .before .before .element .ensures in
-    let f = c .before .before .before .before .found .given .1 in
+    let told = c .before .before .before .before in
+    let called = told .before .before in
+    let turn = called .before in
+    let q = turn .before .loop in
+    let known = turn .before .before in
+    let s = known .before .args .s .now in
+    let e = called .element .ensures in
+    let f = told .found .given .1 in
     let n = c .before .before .element-len .ensures in
-    let bytes = all-places s (λ i. omega (arith, c .before .before .before .before .before .before .before .before .before .shared-slice-known .given i)) in
+    let bytes = all-places s (λ i. omega (arith, known .shared-slice-known .given i)) in
     let g = element-room s bytes (q .c .at) _ (q .sum) _ _ _ e f n (q .inv .1) in
-    let m = ap (λ (t : Tally). t .len) (c .more .ensures) in (
-      elements-again s _ (q .left) (q .c .at) _ (q .sum) _ _ _ _ _ (q .inv .0) (c .before .before .before .before .before .before .before .loop-test .taken) e f n (c .before .is-hollow .ensures) (c .more .ensures),
-      omega (arith, g, m),
-    )
+    let m = ap (λ (t : Tally). t .len) (c .more .ensures) in
+    let hollow = c .before .is-hollow .ensures in
+    (elements-again s _ (q .left) (q .c .at) _ (q .sum) _ _ _ _ _ (q .inv .0) (turn .loop-test .taken) e f n hollow (c .more .ensures), omega (arith, g, m))
 
 returns : tie.Need-returns Inv-loop μ-loop
 returns c =
