@@ -7,7 +7,7 @@ use mathlib.Core.List.{List, [], _∷_, _++_, map}
 use mathlib.Core.Logic.{dite}
 use native.Mathlib.Omega.{arith}
 use native.Mathlib.Decide.{decLt}
-use lib.ListN.{length, take}
+use lib.ListN.{length, take, drop}
 use lib.Dec.{ltb, leb, eqb}
 use borrow.Author.Tests.{lt-ltb, le-ltb}
 use Rattle.scan.specs.Choice.{pick, Answer, shown, refused, Read, read, andThen, many}
@@ -197,3 +197,55 @@ pub walk-pieces : (s : List ℕ) → IsBytes s → (w : Walked) → walkAt s ≡
 walk-pieces s bytes w e =
     let p = walked-packed s w e in
     subst (λ (h : Head). Pieces s h) (sym (p .2)) (pieces-of s bytes (p .0) (p .1))
+
+-- ---- the event behind the numbers
+
+-- what the numbers of a packed event say of the event that it shows
+pub record Numbered (s : List ℕ) (h : Head) : Type 0 where
+  pub event : Event
+  pub shows : unpack s ≡ shown event
+  pub id : event .id ≡ take 32 s
+  pub pubkey : event .pubkey ≡ take 32 (drop 32 s)
+  pub time : event .createdAt ≡ h .«created_at»
+  pub kind : event .kind ≡ h .kind
+  pub content : event .content ≡ textOf s (h .content)
+  pub parts : Read (List (List Part))
+  pub reads : tagsAt (h .«tag_count») s (h .«tags_at») ≡ shown parts
+  pub tags : event .tags ≡ map (map (textOf s)) (parts .value)
+
+numbered-of : (s : List ℕ) (p : Packed) → packedAt s ≡ shown p → Numbered s (p .head)
+unfolding unpack eventOf
+numbered-of s p e =
+    let a = packed-apart s p e in
+    record {
+      event = eventOf s p;
+      shows = rw e;
+      id = refl;
+      pubkey = refl;
+      time = refl;
+      kind = refl;
+      content = refl;
+      parts = record { value = p .tags; next = a .0 };
+      reads = a .1;
+      tags = refl;
+    }
+
+-- The numbers that the reader tells are those of the event that the bytes show.
+pub numbers-event : (s : List ℕ) (h : Head) → numbersOf s ≡ shown h → Numbered s h
+unfolding numbersOf
+numbers-event s h e =
+    let p = then-shown (packedAt s) _ h e in
+    let q : p .0 .head ≡ h = cc in
+    subst (λ (k : Head). Numbered s k) q (numbered-of s (p .0) (p .1))
+
+-- where the reader refuses, so does `unpack`
+pub numbers-refused : (s : List ℕ) (n q : ℕ) → numbersOf s ≡ refused n q → unpack s ≡ refused n q
+unfolding numbersOf unpack
+numbers-refused s n q e = go (packedAt s) e
+  where
+    go : (r : Answer Packed) → andThen r (λ (p : Packed). shown (p .head)) ≡ refused n q → andThen r (λ (p : Packed). shown (eventOf s p)) ≡ refused n q
+    go (shown p) e = let z : _≡_ {A = ℕ} 0 1 = cc in absurd (omega arith)
+    go (refused m p) e =
+        let a : m ≡ n = cc in
+        let b : p ≡ q = cc in
+        rw (a, b)

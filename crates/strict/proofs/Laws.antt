@@ -76,7 +76,7 @@ module _ (s : List ℕ) where
 
   -- ---- what they write
 
-  elements-written : (n at : ℕ) (v : Read (List Part)) → elementsAt n s at ≡ shown v
+  pub elements-written : (n at : ℕ) (v : Read (List Part)) → elementsAt n s at ≡ shown v
       → (elementsText n s at ≡ packElements (map (textOf s) (v .value))) × (elementsEnd n s at ≡ v .next)
   unfolding elementsText elementsEnd many
   elements-written zero at v e = let f = read-same e in (ap (λ (l : List Part). packElements (map (textOf s) l)) (f .0), f .1)

@@ -1,0 +1,4 @@
+pub mod Rivals
+pub mod Texts
+pub mod Label
+pub mod Answers
