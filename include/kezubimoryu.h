@@ -56,6 +56,12 @@ kez_answer kez_notepack_element(const uint8_t *packed, size_t packed_len,
                                 uint64_t tag, uint64_t element,
                                 uint64_t *at, uint64_t *len, uint64_t *is_bytes);
 
+/* Which of two packed events is to be kept, if they have the same key: the later, then the one with the lower id, then the first.
+ * All refusals of the first input come before those of the second; the place is in the input that is refused.
+ * value: 0 not rivals, 1 keep the first, 2 keep the second */
+kez_answer kez_rivals(const uint8_t *first, size_t first_len,
+                      const uint8_t *second, size_t second_len);
+
 /* Not in the library yet: define KEZ_ALL once they are. */
 #ifdef KEZ_ALL
 
@@ -82,12 +88,6 @@ kez_answer kez_nson_read(const uint8_t *text, size_t text_len,
  * value: the length written */
 kez_answer kez_json_read(const uint8_t *text, size_t text_len,
                          uint8_t *out, size_t out_len);
-
-/* Which of two packed events is to be kept, if they have the same key: the later, then the one with the lower id, then the first.
- * All refusals of the first input come before those of the second; the place is in the input that is refused.
- * value: 0 not rivals, 1 keep the first, 2 keep the second */
-kez_answer kez_rivals(const uint8_t *first, size_t first_len,
-                      const uint8_t *second, size_t second_len);
 
 #endif /* KEZ_ALL */
 

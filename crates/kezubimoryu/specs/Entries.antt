@@ -1,6 +1,8 @@
 -- What the C entries answer and leave, in the words of the crates below. Assumes nothing.
 use Prim.Native.Nat.{ℕ}
 use mathlib.Core.Bool.{Bool}
+use Rattle.rivals.specs.declared.Kept.{Kept}
+use Rattle.rivals.specs.declared.Kept.the-variants.{First, Second, NotRivals}
 use Rattle.scan.specs.Choice.{pick, Answer, shown, refused, andThen}
 
 -- an answer that says nothing but that it is one
@@ -15,3 +17,9 @@ yesNo r = andThen r λ b. shown (pick b 1 0)
 abbrev pub told : {A : Type 0} → Answer A → (A → ℕ) → ℕ → ℕ
 told (shown a) f old = f a
 told (refused n p) f old = old
+
+-- not rivals is 0, keep the first 1, keep the second 2
+abbrev pub keptNumber : Kept → ℕ
+keptNumber NotRivals = 0
+keptNumber First = 1
+keptNumber Second = 2

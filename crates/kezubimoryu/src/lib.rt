@@ -3,17 +3,20 @@ use event::Refusal;
 use notepack::CountRead;
 use notepack::ElementRead;
 use notepack::HeadRead;
+use rivals::Kept;
+use rivals::RivalsRead;
 use strict::PackWrite;
 use strict::StrictRead;
 ghost use mathlib.Core.Path.{_≡_};
-ghost use Rattle.scan.specs.Choice.{pick};
+ghost use Rattle.scan.specs.Choice.{pick, andThen, shown};
 ghost use Rattle.event.specs.Answers.{twoNumbers};
 ghost use Rattle.store.specs.Entry.{writes, leaves};
 ghost use Rattle.notepack.specs.Strict.{pack};
 ghost use Rattle.notepack.specs.Unpack.{unpack};
 ghost use Rattle.notepack.specs.Views.{numbersOf, textsIn, elementOf};
 ghost use Rattle.strict.specs.Strict.{strict};
-ghost use Rattle.kezubimoryu.specs.Entries.{ok, yesNo, told};
+ghost use Rattle.rivals.specs.Rivals.{rivals};
+ghost use Rattle.kezubimoryu.specs.Entries.{ok, yesNo, told, keptNumber};
 
 // `kez_answer` of the header: refusal 0 and a value, or the number of refusal and its place.
 #[repr(C)]
@@ -132,5 +135,27 @@ pub extern "C" fn kez_notepack_element(
             shown(0)
         }
         ElementRead::Refused(r) => refused(r),
+    }
+}
+
+// Not rivals is 0, the first is 1, the second is 2.
+fn kept_number(k: Kept) -> u64
+    ensures { λ r. ⌜ r ≡ keptNumber k ⌝ }
+{
+    match k {
+        Kept::First => 1,
+        Kept::Second => 2,
+        Kept::NotRivals => 0,
+    }
+}
+
+#[no_mangle]
+pub extern "C" fn kez_rivals(first: &[u8], second: &[u8]) -> KezAnswer
+    ensures { λ a. ⌜ (a .refusal, a .value) ≡ twoNumbers (andThen (rivals (now (first .entry)) (now (second .entry))) (λ k. shown (keptNumber k))) ⌝ }
+{
+    let found = rivals::compare(first, second);
+    match found {
+        RivalsRead::Told(k) => shown(kept_number(k)),
+        RivalsRead::Refused(r) => refused(r),
     }
 }

@@ -1,0 +1,19 @@
+-- The entry answers the two numbers of `rivals`: not rivals is 0, the first 1, the second 2.
+-- By what its callee told, case by case.
+use borrow.Author.Needs.{needs}
+use Rattle.kezubimoryu.proofs.kez_rivals.Statement.{statement}
+use Rattle.kezubimoryu.proofs.kez_rivals.Tie as tie
+
+some : tie.Need-returns
+some c =
+    let told = c .before .before .before in
+    rw (c .shown .ensures, c .before .kept-number .ensures, ← told .before .before .compare .ensures, told .found .given .1)
+
+none : tie.Need-returns-2
+none c =
+    let told = c .before .before in
+    rw (c .refused .ensures, ← told .before .before .compare .ensures, told .found2 .given .1)
+
+pub kez-rivals-spec : {M : Type 1} → statement M
+kez-rivals-spec =
+    tie.close (tie.spec (λ c κs. search needs) (λ c. search needs) (λ c κs. search needs) (λ c κs. search needs) (λ c. search needs) (λ c κs. search needs) some none)
