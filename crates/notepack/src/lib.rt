@@ -34,6 +34,7 @@ pub struct Head {
 }
 
 // The strict length of what was read so far, and whether an element was raw and empty.
+// Where one comes from a call it is taken field by field: a copy of the whole, padding and all, waits for the stores before it.
 pub struct Tally {
     pub len: usize,
     pub hollow: bool,
@@ -150,7 +151,7 @@ impl Cursor {
         ensures { λ r. ⌜ partRead r ≡ contentAt (now (s .entry)) (self .at) ⌝ }
     {
         let at = self.at;
-        let found = varint::Cursor { at }.varint(s);
+        let found = varint::Cursor { at }.long_varint(s);
         match found {
             VarintRead::Value(n, behind) => Cursor { at: behind.at }.text(s, at, n),
             VarintRead::Refused(r) => PartRead::Refused(r),
@@ -199,7 +200,10 @@ impl Cursor {
         ensures { λ r. ⌜ pass r ≡ andThen (elementsAt count (now (s .entry)) (self .at)) (passElements (now (s .entry)) t) ⌝ }
     {
         let mut c = self;
-        let mut sum = t;
+        let mut sum = Tally {
+            len: t.len,
+            hollow: t.hollow,
+        };
         let mut left = count;
         while 0 < left {
             let found = c.element(s);
@@ -237,13 +241,19 @@ impl Cursor {
         ensures { λ r. ⌜ pass r ≡ andThen (tagsAt count (now (s .entry)) (self .at)) (passTags (now (s .entry)) t) ⌝ }
     {
         let mut c = self;
-        let mut sum = t;
+        let mut sum = Tally {
+            len: t.len,
+            hollow: t.hollow,
+        };
         let mut left = count;
         while 0 < left {
             let found = c.pass_tag(s, sum);
             match found {
                 Pass::Done(u, next) => {
-                    sum = u;
+                    sum = Tally {
+                        len: u.len,
+                        hollow: u.hollow,
+                    };
                     c = next;
                     left -= 1;
                 }
@@ -338,7 +348,11 @@ fn numbers(s: &[u8]) -> HeadRead
                 NumberRead::Number(tag_count, tags) => HeadRead::Found(Head {
                     created_at: first.n,
                     kind: second.n,
-                    content,
+                    content: Part {
+                        at: content.at,
+                        len: content.len,
+                        raw: content.raw,
+                    },
                     tag_count,
                     tags_at: tags.at,
                 }),
@@ -391,10 +405,11 @@ pub fn walk_packed(s: &[u8]) -> Walk
         });
     }
     let front = read_head(s);
-    match front {
-        HeadRead::Refused(r) => Walk::Refused(r),
-        HeadRead::Found(h) => walk_tags(s, h),
-    }
+    let h = match front {
+        HeadRead::Found(h) => h,
+        HeadRead::Refused(r) => return Walk::Refused(r),
+    };
+    walk_tags(s, h)
 }
 
 // The tags behind what stands in front of them, to the input's end.
@@ -412,7 +427,11 @@ fn walk_tags(s: &[u8], h: Head) -> Walk
         Pass::Refused(r) => Walk::Refused(r),
         Pass::Done(tally, c) => {
             if c.at == s.len() {
-                return Walk::Done(h, tally);
+                let t = Tally {
+                    len: tally.len,
+                    hollow: tally.hollow,
+                };
+                return Walk::Done(h, t);
             }
             Walk::Refused(Refusal {
                 number: event::AFTER_THE_END,

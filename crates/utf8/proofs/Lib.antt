@@ -3,3 +3,4 @@ pub mod WidthLaws
 pub mod Laws
 pub mod EncodeLaws
 pub mod BlockLaws
+pub mod MisfitLaws

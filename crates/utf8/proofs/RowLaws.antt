@@ -18,18 +18,20 @@ use Rattle.utf8.specs.Width.{isTail, secondLow, secondHigh, twoOf, three
 
 -- ---- a range of bytes as a test
 
-in-range : {low high b : ℕ} → Octet low high b → within low high b ≡ true
+-- a byte of a range passes its test
+pub in-range : {low high b : ℕ} → Octet low high b → within low high b ≡ true
 unfolding within
 in-range {low} {high} {b} (octet p q) = simp (le-leb low b p, le-leb b high q)
 
-to-range : (low high b : ℕ) → within low high b ≡ true → Octet low high b
+-- a byte that passes the test is of the range
+pub to-range : (low high b : ℕ) → within low high b ≡ true → Octet low high b
 unfolding within
 to-range low high b t = let u = pick-true (leb low b) (leb b high) t in octet (leb-true low b (u .0)) (leb-true b high (u .1))
 
 -- ---- accepts: each row of the grammar has its width
 
 -- behind every other first byte the second is a tail
-second : {a b : ℕ} → (a ≡ 0xE0 → ⊥) → (a ≡ 0xF0 → ⊥) → (a ≡ 0xED → ⊥) → (a ≡ 0xF4 → ⊥) → Tail b → Octet (secondLow a) (secondHigh a) b
+pub second : {a b : ℕ} → (a ≡ 0xE0 → ⊥) → (a ≡ 0xF0 → ⊥) → (a ≡ 0xED → ⊥) → (a ≡ 0xF4 → ⊥) → Tail b → Octet (secondLow a) (secondHigh a) b
 unfolding secondLow secondHigh
 second {a} p q r t u = simp (ne-eqb a 0xE0 p, ne-eqb a 0xF0 q, ne-eqb a 0xED r, ne-eqb a 0xF4 t) u
 
@@ -98,7 +100,8 @@ unfolding secondLow secondHigh
 plain {a} p q r t u = simp (ne-eqb a 0xE0 p, ne-eqb a 0xF0 q, ne-eqb a 0xED r, ne-eqb a 0xF4 t) at u
 
 module _ (a b c d : ℕ) where
-  char-three : 0xE0 ≤ a → a ≤ 0xEF → Octet (secondLow a) (secondHigh a) b → Tail c → Char (a ∷ b ∷ c ∷ [])
+  -- a first byte of three with its second and a tail is a character
+  pub char-three : 0xE0 ≤ a → a ≤ 0xEF → Octet (secondLow a) (secondHigh a) b → Tail c → Char (a ∷ b ∷ c ∷ [])
   unfolding secondLow secondHigh
   char-three p q t u =
       dite (ℕ-discrete a 0xE0) (λ e. rw e (three-E0 (rw e at t) u))
@@ -108,7 +111,8 @@ module _ (a b c d : ℕ) where
       let v = plain {a = a} n (omega arith) m (omega arith) t in
       dite (decLt a 0xED) (λ l. three-E1 (octet (omega arith) (omega arith)) v u) (λ g. three-EE (octet (omega (arith, g, m)) q) v u)))
 
-  char-four : 0xF0 ≤ a → a ≤ 0xF4 → Octet (secondLow a) (secondHigh a) b → Tail c → Tail d → Char (a ∷ b ∷ c ∷ d ∷ [])
+  -- a first byte of four with its second and two tails is a character
+  pub char-four : 0xF0 ≤ a → a ≤ 0xF4 → Octet (secondLow a) (secondHigh a) b → Tail c → Tail d → Char (a ∷ b ∷ c ∷ d ∷ [])
   unfolding secondLow secondHigh
   char-four p q t u v =
       dite (ℕ-discrete a 0xF0) (λ e. rw e (four-F0 (rw e at t) u v))

@@ -1,11 +1,14 @@
 // UTF-8 by RFC 3629: the check of a text, one sequence at a place, and the bytes of a scalar value.
-ghost use Prim.Native.Nat.{_+_, _-_, _≤_, min};
+ghost use Prim.Native.Nat.{_+_, _-_, _≤_};
 ghost use mathlib.Core.Path.{_≡_};
+ghost use mathlib.Core.List.{[], _∷_, _++_};
 ghost use lib.ListN.{length};
+ghost use lib.Dec.{ltb};
 ghost use Rattle.scan.specs.Place.{within};
 ghost use Rattle.store.specs.Store.{Wrote};
 ghost use Rattle.utf8.specs.Width.{secondLow, secondHigh, twoOf, threeOf, fourOf, widthOf, widthAt, isUtf8};
-ghost use Rattle.utf8.specs.Block.{highBytes, Passed, Walked};
+ghost use Rattle.utf8.specs.Block.{highest, Walked};
+ghost use Rattle.utf8.specs.Misfit.{misfit, misfits, misfitsFrom};
 ghost use Rattle.utf8.specs.Encode.{tailOf, encode};
 
 // The lowest second byte behind a first byte of three or four.
@@ -113,37 +116,100 @@ pub fn width_at(s: &[u8], at: usize) -> usize
     width_of(s[at], b, c, d)
 }
 
-// How many bytes of a block are not ASCII. No exit on the way, and a sum in a byte: a loop for vectors.
-fn high_bytes(block: &[u8]) -> u8
-    requires { ⌜ length (now block) ≤ 32 ⌝ }
-    ensures { λ r. ⌜ r ≡ highBytes (now (block .entry)) ⌝ }
+// The highest byte of a block, 0 where there is none. No exit on the way: a loop for vectors.
+fn highest(block: &[u8]) -> u8
+    ensures { λ r. ⌜ r ≡ highest (now (block .entry)) ⌝ }
 {
     let mut i = 0;
-    let mut n: u8 = 0;
+    let mut top: u8 = 0;
     while i < block.len() {
-        n += block[i] / 128;
+        let b = block[i];
+        if top < b {
+            top = b;
+        }
+        i += 1;
+    }
+    top
+}
+
+// Whether d can stand behind a, b, c: 0 if so, else 1.
+fn misfit(a: u8, b: u8, c: u8, d: u8) -> u8
+    ensures { λ r. ⌜ r ≡ misfit a b c d ⌝ }
+    ensures { λ r. ⌜ r ≤ 1 ⌝ }
+{
+    // a tail exactly if a first byte of two, three or four asks for one
+    if d / 128 == d / 192 + c / 192 + b / 224 + a / 240 {
+        if 0xF5 <= d {
+            return 1;
+        }
+        if d / 2 == 0x60 {
+            return 1;
+        }
+        if c < 0xE0 {
+            return 0;
+        }
+        if is_second(c, d) {
+            return 0;
+        }
+    }
+    1
+}
+
+// How many of the bytes behind the places at to e misfit, three on from each. No exit on the way: a loop for vectors.
+fn count_misfits(s: &[u8], at: usize, e: usize) -> u8
+    requires { ⌜ (at ≤ e) × ((e + 3 ≤ length (now s)) × (e ≤ at + 128)) ⌝ }
+    ensures { λ r. ⌜ r + misfitsFrom (now (s .entry)) e ≡ misfitsFrom (now (s .entry)) at ⌝ }
+{
+    let mut i = at;
+    let mut n: u8 = 0;
+    while i < e {
+        n += misfit(s[i], s[i + 1], s[i + 2], s[i + 3]);
         i += 1;
     }
     n
 }
 
-// Passes blocks of ASCII from a place on: whole ones of 32 bytes, and the rest if it is all ASCII.
-fn pass_ascii(s: &[u8], at: usize) -> usize
-    requires { ⌜ at ≤ length (now s) ⌝ }
-    ensures { λ r. ⌜ Passed (now (s .entry)) at r ⌝ }
+// The same. A block that is all ASCII has none.
+fn block_misfits(s: &[u8], at: usize, e: usize) -> u8
+    requires { ⌜ (at ≤ e) × ((e + 3 ≤ length (now s)) × (e ≤ at + 128)) ⌝ }
+    ensures { λ r. ⌜ r + misfitsFrom (now (s .entry)) e ≡ misfitsFrom (now (s .entry)) at ⌝ }
 {
-    let mut i = at;
-    while s.len() - i >= 32 {
-        let e = i + 32;
-        if high_bytes(&s[i..e]) != 0 {
-            return i;
+    let end = e + 3;
+    if highest(&s[at..end]) < 128 {
+        return 0;
+    }
+    count_misfits(s, at, e)
+}
+
+// How many of the first three bytes misfit, with nothing before them.
+fn first_misfits(s: &[u8]) -> u8
+    requires { ⌜ 3 ≤ length (now s) ⌝ }
+    ensures { λ r. ⌜ r + misfitsFrom (now (s .entry)) 0 ≡ misfits 0 0 0 (now (s .entry) ++ 0 ∷ []) ⌝ }
+{
+    misfit(0, 0, 0, s[0]) + misfit(0, 0, s[0], s[1]) + misfit(0, s[0], s[1], s[2])
+}
+
+// Whether a text is well-formed, by windows of four bytes: block after block, then the end.
+fn by_windows(s: &[u8]) -> bool
+    requires { ⌜ 3 ≤ length (now s) ⌝ }
+    ensures { λ r. ⌜ r ≡ isUtf8 (now (s .entry)) ⌝ }
+{
+    if first_misfits(s) != 0 {
+        return false;
+    }
+    let last = s.len() - 3;
+    let mut i = 0;
+    while last - i >= 128 {
+        let e = i + 128;
+        if block_misfits(s, i, e) != 0 {
+            return false;
         }
         i = e;
     }
-    if high_bytes(&s[i..]) != 0 {
-        return i;
+    if block_misfits(s, i, last) != 0 {
+        return false;
     }
-    s.len()
+    misfit(s[last], s[last + 1], s[last + 2], 0) == 0
 }
 
 // Passes sequence after sequence until at or past the place e, or until none stands.
@@ -162,28 +228,58 @@ fn pass_sequences(s: &[u8], at: usize, e: usize) -> usize
     i
 }
 
-// The end of the block of 32 bytes at a place, or the end of the n bytes.
-fn block_end(at: usize, n: usize) -> usize
-    requires { ⌜ at ≤ n ⌝ }
-    ensures { λ r. ⌜ r ≡ min (at + 32) n ⌝ }
+// Whether a text is well-formed, sequence by sequence.
+fn by_sequences(s: &[u8]) -> bool
+    ensures { λ r. ⌜ r ≡ isUtf8 (now (s .entry)) ⌝ }
 {
-    if n - at <= 32 { n } else { at + 32 }
+    let n = s.len();
+    pass_sequences(s, 0, n) == n
 }
 
-// Whether a text is well-formed. Blocks of ASCII are passed whole; the block that stops them goes sequence by sequence.
+// The same by the way that is quicker for its length.
+fn is_mixed(s: &[u8]) -> bool
+    ensures { λ r. ⌜ r ≡ isUtf8 (now (s .entry)) ⌝ }
+{
+    if s.len() < 32 {
+        return by_sequences(s);
+    }
+    by_windows(s)
+}
+
+// Whether a text of 32 bytes or less is all ASCII: at once if it is short, or by its first and its last 16 bytes.
+fn is_ascii(s: &[u8]) -> bool
+    requires { ⌜ length (now s) ≤ 32 ⌝ }
+    ensures { λ r. ⌜ r ≡ ltb (highest (now (s .entry))) 128 ⌝ }
+{
+    if s.len() < 16 {
+        return highest(s) < 128;
+    }
+    let m = s.len() - 16;
+    if highest(&s[..16]) < 128 {
+        return highest(&s[m..]) < 128;
+    }
+    false
+}
+
+// A short text is ASCII most often.
+fn is_short(s: &[u8]) -> bool
+    requires { ⌜ length (now s) ≤ 32 ⌝ }
+    ensures { λ r. ⌜ r ≡ isUtf8 (now (s .entry)) ⌝ }
+{
+    if is_ascii(s) {
+        return true;
+    }
+    is_mixed(s)
+}
+
+// Whether a text is well-formed.
 pub fn is_utf8(s: &[u8]) -> bool
     ensures { λ r. ⌜ r ≡ isUtf8 (now (s .entry)) ⌝ }
 {
-    let mut i = 0;
-    while i < s.len() {
-        let b = pass_ascii(s, i);
-        let e = block_end(b, s.len());
-        i = pass_sequences(s, b, e);
-        if i < e {
-            return false;
-        }
+    if s.len() <= 32 {
+        return is_short(s);
     }
-    true
+    is_mixed(s)
 }
 
 // 10xxxxxx with the lowest six bits of n.

@@ -153,3 +153,9 @@ module _ (s : List ℕ) (start v c i left : ℕ) where
   turn-over r e p h k q = rw q (sym (e ∙ rw (rest-more s i h, spelled-end left (getD s i 0) (drop (i + 1) s) p, lt-leb (getD s i 0) 1 k)))
 
 pub ruleset turns = (turn-start, turn-none, turn-again, turn-last, turn-cut, turn-tenth, turn-over)
+
+-- a first byte below 128 is the whole varint
+pub one-byte : (s : List ℕ) (at : ℕ) → at < length s → getD s at 0 < 128 → read (getD s at 0) (at + 1) ≡ varintAt s at
+one-byte s at h k =
+    let e : getD s at 0 ≡ 0 + 1 * getD s at 0 = omega arith in
+    ap (λ (n : ℕ). read n (at + 1)) e ∙ turn-last s at 0 1 at 9 (turn-start s at h) (omega arith) h k

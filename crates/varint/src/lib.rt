@@ -25,8 +25,21 @@ fn refuse(number: u8, place: usize) -> VarintRead
 }
 
 impl Cursor {
-    // The varint at the cursor.
+    // The varint at the cursor. Most are one byte, which is told at once.
     pub fn varint(self, s: &[u8]) -> VarintRead
+        ensures { λ r. ⌜ varintRead r ≡ varintAt (now (s .entry)) (self .at) ⌝ }
+    {
+        let at = self.at;
+        if at < s.len() {
+            if s[at] < 128 {
+                return VarintRead::Value(s[at] as u64, Cursor { at: at + 1 });
+            }
+        }
+        self.long_varint(s)
+    }
+
+    // The same, byte by byte: for a number that is seldom below 128.
+    pub fn long_varint(self, s: &[u8]) -> VarintRead
         ensures { λ r. ⌜ varintRead r ≡ varintAt (now (s .entry)) (self .at) ⌝ }
     {
         let start = self.at;

@@ -1,24 +1,18 @@
--- `content` reads a length and then that much text.
--- The same tests as the definition, in its order.
-use Rattle.notepack.specs.Unpack.{contentAt}
+-- `Cursor::content` reads its length and then its text, as `contentAt` does.
+-- Each return is the definition at the answers of the calls on the way.
 use borrow.Author.Needs.{needs}
+use Rattle.notepack.specs.Unpack.{contentAt}
 use Rattle.notepack.proofs.Cursor.content.Statement.{statement}
 use Rattle.notepack.proofs.Cursor.content.Tie as tie
 
-returns : tie.Need-returns
-unfolding contentAt
-returns c =
-    let at-found = c .before .before in
-    let at-varint = at-found .before .before in
-    simp (← at-varint .varint .ensures, at-found .found .given .1, ← c .text .ensures)
-
-returns-2 : tie.Need-returns-2
-unfolding contentAt
-returns-2 c =
-    let at-varint = c .before .before .before in
-    simp (← at-varint .varint .ensures, c .before .found2 .given .1)
-
 pub content-spec : {M : Type 1} → statement M
+unfolding contentAt
 content-spec =
     tie.close
-    (tie.spec (λ c κs. search needs) (λ c. search needs) (λ c κs. search needs) (λ c. search needs) returns returns-2)
+    (tie.spec
+    (λ c κs. search needs)
+    (λ c. search needs)
+    (λ c κs. search needs)
+    (λ c. search needs)
+    (λ c. simp (← c .before .before .before .before .long-varint .ensures, c .before .before .found .given .1, ← c .text .ensures))
+    (λ c. simp (← c .before .before .before .long-varint .ensures, c .before .found2 .given .1)))

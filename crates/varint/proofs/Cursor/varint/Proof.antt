@@ -1,48 +1,18 @@
--- `Cursor::varint` reads the varint. The invariant is one equation: the answer at the start is what was gathered, put in front of what the rest spells.
--- Each turn is one law of `turns`; `Held` keeps every sum and product in 64 bits.
-use native.Mathlib.Omega.{arith}
+-- `Cursor::varint` tells a varint of one byte at once; any other is its callee's answer.
+-- By `one-byte`, under the two tests.
 use borrow.Author.Needs.{needs}
-use Rattle.varint.proofs.Turn.{Held, held, Gathered, turns}
+use Rattle.varint.proofs.Turn.{one-byte}
 use Rattle.varint.proofs.Cursor.varint.Statement.{statement}
 use Rattle.varint.proofs.Cursor.varint.Tie as tie
-
-abbrev Inv-loop : tie.InvT-loop
-Inv-loop s start value₀ scale₀ i₀ left₀ value scale i left = Gathered s start value scale i left × Held value scale left
-
-abbrev μ-loop : tie.MeasureT-loop
-μ-loop s start value₀ scale₀ i₀ left₀ value scale i left = left
 
 pub varint-spec : {M : Type 1} → statement M
 varint-spec =
     tie.close
     (tie.spec
-    Inv-loop
-    μ-loop
-    (λ c κs. search needs)
-    (λ c. search turns)
-    (λ c. (search turns, search held))
-    (λ c κs. search needs)
-    (λ c. search turns)
     (λ c. search needs)
-    (λ c. omega (arith, c .shared-slice-known2 .given (c .before .before .before .loop .i)))
-    (λ c. search held)
-    (λ c. search held)
-    (λ c. omega arith)
-    (λ c. search turns)
-    (λ c. search (held, c .before .shared-slice-known2 .given (c .before .before .before .before .loop .i)))
-    (λ c. search (held, c .before .shared-slice-known2 .given (c .before .before .before .before .loop .i)))
-    (λ c. search held)
-    (λ c. omega arith)
-    (λ c. omega arith)
-    (λ c. omega arith)
-    (λ c. (search turns, search (held, c .before .shared-slice-known2 .given (c .before .before .before .before .loop .i))))
-    (λ c κs. search needs)
-    (λ c. search turns)
     (λ c. search needs)
-    (λ c. omega (arith, c .shared-slice-known3 .given (c .before .before .before .loop .i)))
-    (λ c. search held)
-    (λ c. search held)
-    (λ c. omega arith)
-    (λ c. search turns)
+    (λ c. search needs)
+    (λ c. search needs)
+    (λ c. one-byte _ _ (c .before .before .before .if1 .taken) (c .before .if2 .taken))
     (λ c κs. search needs)
-    (λ c. search turns))
+    (λ c. search needs))
