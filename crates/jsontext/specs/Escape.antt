@@ -22,8 +22,11 @@ unitOf a b c d =
     (pick (ltb (hexValue c) 16)
     (pick (ltb (hexValue d) 16) (((hexValue a * 16 + hexValue b) * 16 + hexValue c) * 16 + hexValue d) 0x10000) 0x10000) 0x10000) 0x10000
 
+-- the number that \uXXXX at a place says; 65,536 where none stands there
 unfoldable pub unitAt : List ℕ → ℕ → ℕ
-unitAt s at = unitOf (byteAt s at) (byteAt s (at + 1)) (byteAt s (at + 2)) (byteAt s (at + 3))
+unitAt s at =
+    pick (eqb (byteAt s at) 0x5C)
+    (pick (eqb (byteAt s (at + 1)) 0x75) (unitOf (byteAt s (at + 2)) (byteAt s (at + 3)) (byteAt s (at + 4)) (byteAt s (at + 5))) 0x10000) 0x10000
 
 -- An escape: how many bytes it takes, and the character that it stands for. No escape takes 0 bytes.
 abbrev pub escape : ℕ → ℕ → Escape
@@ -47,18 +50,15 @@ letterEscape b = pick (eqb b 0) noEscape (escape 2 b)
 unfoldable pub pairOf : ℕ → ℕ → Escape
 pairOf u v = pick (ltb v 0xDC00) noEscape (pick (ltb v 0xE000) (escape 12 (paired u v)) noEscape)
 
-unfoldable pub pairAt : List ℕ → ℕ → ℕ → Escape
-pairAt s at u = pick (eqb (byteAt s (at + 6)) 0x5C) (pick (eqb (byteAt s (at + 7)) 0x75) (pairOf u (unitAt s (at + 8))) noEscape) noEscape
-
 -- the escape at `at` whose four digits say u
 unfoldable pub unicodeAt : List ℕ → ℕ → ℕ → Escape
 unicodeAt s at u =
-    pick (ltb u 0xD800) (escape 6 u) (pick (ltb u 0xDC00) (pairAt s at u) (pick (ltb u 0xE000) noEscape (pick (ltb u 0x10000) (escape 6 u) noEscape)))
+    pick (ltb u 0xD800) (escape 6 u) (pick (ltb u 0xDC00) (pairOf u (unitAt s (at + 6))) (pick (ltb u 0xE000) noEscape (pick (ltb u 0x10000) (escape 6 u) noEscape)))
 
 -- the escape whose backslash stands at `at`
 unfoldable pub escapeAt : List ℕ → ℕ → Escape
 escapeAt s at =
-    pick (eqb (byteAt s (at + 1)) 0x75) (unicodeAt s at (unitAt s (at + 2))) (letterEscape (letterOf (byteAt s (at + 1))))
+    pick (eqb (byteAt s (at + 1)) 0x75) (unicodeAt s at (unitAt s at)) (letterEscape (letterOf (byteAt s (at + 1))))
 
 -- the end of the bytes from a place on that are no backslash
 unfoldable pub isPlain : ℕ → Bool

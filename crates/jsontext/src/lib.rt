@@ -3,13 +3,14 @@ use event::Refusal;
 ghost use Prim.Native.Nat.{_+_, _-_, _*_, _^_, _≤_, _<_};
 ghost use mathlib.Core.Path.{_≡_};
 ghost use lib.ListN.{length, take, drop};
+ghost use Rattle.scan.specs.Choice.{refused};
 ghost use Rattle.scan.specs.Place.{standsAt};
 ghost use Rattle.store.specs.Store.{Wrote};
 ghost use Rattle.utf8.specs.Encode.{encode};
 ghost use Rattle.hex.specs.Hex.{unhex, allDigits, goesAsBytes};
 ghost use Rattle.event.specs.Event.{sameText};
 ghost use Rattle.jsontext.specs.Token.{isSpace, spaceAt, wordAt, isDigit, digitsOr, minusAt, signAt, intAt, fracAt, isE, expAt, numberFrom, unsignedFrom, numberAt};
-ghost use Rattle.jsontext.specs.Escape.{hexValue, unitOf, unitAt, letterOf, letterEscape, pairOf, pairAt, unicodeAt, escapeAt, plainAt, orItself, unescape};
+ghost use Rattle.jsontext.specs.Escape.{hexValue, unitOf, unitAt, letterOf, letterEscape, pairOf, unicodeAt, escapeAt, plainAt, orItself, unescape};
 ghost use Rattle.jsontext.specs.Half.{held, halfBehind};
 ghost use Rattle.jsontext.specs.Text.{stringAt};
 ghost use Rattle.jsontext.specs.Value.{itemAt, memberAt, valueAt, walkAt};
@@ -63,7 +64,7 @@ fn is_space(b: u8) -> bool
 
 // Text not allowed at a place.
 fn not_allowed(place: usize) -> Skip
-    ensures { λ r. ⌜ r ≡ Skip.Refused (record { number = 14; place = place }) ⌝ }
+    ensures { λ r. ⌜ skipRead r ≡ refused 14 place ⌝ }
 {
     Skip::Refused(Refusal {
         number: event::TEXT_NOT_ALLOWED,
@@ -203,7 +204,6 @@ const NO_UNIT: u32 = 0x10000;
 // The value of a hex digit in either case; 16 where the byte is none.
 fn hex_value(b: u8) -> u8
     ensures { λ r. ⌜ r ≡ hexValue b ⌝ }
-    ensures { λ r. ⌜ r ≤ 16 ⌝ }
 {
     if scan::is_within(0x41, 0x46, b) {
         return b - 0x37;
@@ -231,15 +231,21 @@ fn unit_of(a: u8, b: u8, c: u8, d: u8) -> u32
     NO_UNIT
 }
 
+// The number that \uXXXX at a place says; 65,536 where none stands there.
 fn unit_at(s: &[u8], at: usize) -> u32
-    requires { ⌜ at < 2 ^ 64 - 4 ⌝ }
+    requires { ⌜ at < 2 ^ 64 - 5 ⌝ }
     ensures { λ r. ⌜ r ≡ unitAt (now (s .entry)) at ⌝ }
 {
-    let a = scan::byte_at(s, at);
-    let b = scan::byte_at(s, at + 1);
-    let c = scan::byte_at(s, at + 2);
-    let d = scan::byte_at(s, at + 3);
-    unit_of(a, b, c, d)
+    if scan::byte_at(s, at) == 0x5C {
+        if scan::byte_at(s, at + 1) == 0x75 {
+            let a = scan::byte_at(s, at + 2);
+            let b = scan::byte_at(s, at + 3);
+            let c = scan::byte_at(s, at + 4);
+            let d = scan::byte_at(s, at + 5);
+            return unit_of(a, b, c, d);
+        }
+    }
+    NO_UNIT
 }
 
 // The character of a letter behind the backslash; 0 where it is none of the eight.
@@ -297,23 +303,6 @@ fn pair_of(u: u32, v: u32) -> Escape
     Escape { width: 0, scalar: 0 }
 }
 
-fn pair_at(s: &[u8], at: usize, u: u32) -> Escape
-    requires { ⌜ at < length (now s) ⌝ }
-    requires { ⌜ u < 0xDC00 ⌝ }
-    requires { ⌜ 0xD800 ≤ u ⌝ }
-    ensures { λ r. ⌜ r ≡ pairAt (now (s .entry)) at u ⌝ }
-{
-    let b = scan::byte_at(s, at + 6);
-    if b == 0x5C {
-        let c = scan::byte_at(s, at + 7);
-        if c == 0x75 {
-            let v = unit_at(s, at + 8);
-            return pair_of(u, v);
-        }
-    }
-    Escape { width: 0, scalar: 0 }
-}
-
 // The escape at a place whose four digits say u.
 fn unicode_at(s: &[u8], at: usize, u: u32) -> Escape
     requires { ⌜ at < length (now s) ⌝ }
@@ -323,7 +312,8 @@ fn unicode_at(s: &[u8], at: usize, u: u32) -> Escape
         return Escape { width: 6, scalar: u };
     }
     if u < 0xDC00 {
-        return pair_at(s, at, u);
+        let v = unit_at(s, at + 6);
+        return pair_of(u, v);
     }
     if u < 0xE000 {
         return Escape { width: 0, scalar: 0 };
@@ -341,7 +331,7 @@ fn escape_at(s: &[u8], at: usize) -> Escape
 {
     let c = scan::byte_at(s, at + 1);
     if c == 0x75 {
-        let u = unit_at(s, at + 2);
+        let u = unit_at(s, at);
         return unicode_at(s, at, u);
     }
     let b = letter_of(c);
@@ -349,7 +339,7 @@ fn escape_at(s: &[u8], at: usize) -> Escape
 }
 
 fn bad_string(number: u8, place: usize) -> StringRead
-    ensures { λ r. ⌜ r ≡ StringRead.Refused (record { number = number; place = place }) ⌝ }
+    ensures { λ r. ⌜ stringRead r ≡ refused number place ⌝ }
 {
     StringRead::Refused(Refusal { number, place })
 }

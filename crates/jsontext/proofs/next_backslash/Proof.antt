@@ -1,0 +1,30 @@
+-- `next_backslash` runs over the bytes that are no backslash. The invariant is one equation: the run from the start ends where the run from here ends.
+-- Each turn is one law of `plains`.
+use Prim.Native.Nat.{_-_}
+use mathlib.Core.Path.{_≡_, refl}
+use borrow.Author.Needs.{needs}
+use lib.ListN.{length}
+use Rattle.jsontext.specs.Escape.{plainAt}
+use Rattle.jsontext.proofs.Turn.{plains}
+use Rattle.jsontext.proofs.next_backslash.Statement.{statement}
+use Rattle.jsontext.proofs.next_backslash.Tie as tie
+
+abbrev Inv-loop : tie.InvT-loop
+Inv-loop t at i₀ i = plainAt t i₀ ≡ plainAt t i
+
+abbrev μ-loop : tie.MeasureT-loop
+μ-loop t at i₀ i = length t - i
+
+pub next-backslash-spec : {M : Type 1} → statement M
+next-backslash-spec =
+    tie.close
+    (tie.spec
+    Inv-loop
+    μ-loop
+    (λ c. refl)
+    (λ c. search needs)
+    (λ c. search needs)
+    (λ c. search needs)
+    (λ c. search plains)
+    (λ c. search plains)
+    (λ c. search plains))
