@@ -1,3 +1,5 @@
 pub mod Fits
 pub mod Turn
 pub mod EscapeLaws
+pub mod TokenLaws
+pub mod TextLaws
