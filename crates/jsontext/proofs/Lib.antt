@@ -3,3 +3,4 @@ pub mod Turn
 pub mod EscapeLaws
 pub mod TokenLaws
 pub mod TextLaws
+pub mod ValueSound
