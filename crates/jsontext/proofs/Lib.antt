@@ -4,3 +4,5 @@ pub mod EscapeLaws
 pub mod TokenLaws
 pub mod TextLaws
 pub mod ValueSound
+pub mod ValueComplete
+pub mod Unambiguous
