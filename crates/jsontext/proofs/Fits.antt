@@ -15,13 +15,18 @@ use borrow.Author.Tests.{eqb-false}
 use Rattle.scan.proofs.Step.{byte-none, false-true}
 
 -- a byte that is not 0 stands within the input
+pub byte-positive : (s : List ℕ) (i b n : ℕ) → b ≡ getD s i 0 → b ≡ n → 0 < n → i < length s
+byte-positive s i b n e f z =
+    dite (decLt i (length s)) (λ h. h) (λ g. let q = sym f ∙ e ∙ byte-none s i (omega (arith, g)) in absurd (omega arith))
+
 pub byte-place : (s : List ℕ) (i b n : ℕ) → b ≡ getD s i 0 → b ≡ n → eqb n 0 ≡ false → i < length s
-byte-place s i b n e f z =
-    let m = eqb-false n 0 z in
-    dite (decLt i (length s)) (λ h. h) (λ g. absurd (m (sym f ∙ e ∙ byte-none s i (omega (arith, g)))))
+byte-place s i b n e f z = let m = eqb-false n 0 z in byte-positive s i b n e f (omega (arith, m))
 
 pub next-fits : (s : List ℕ) (i b n : ℕ) → length s < 2 ^ 64 → b ≡ getD s i 0 → b ≡ n → eqb n 0 ≡ false → Fits w64 (i + 1)
 next-fits s i b n l e f z = let h = byte-place s i b n e f z in omega arith
+
+pub close-fits : (s : List ℕ) (i b n : ℕ) → length s < 2 ^ 64 → b ≡ getD s i 0 → b ≡ n → 0 < n → Fits w64 (i + 1)
+close-fits s i b n l e f z = let h = byte-positive s i b n e f z in omega arith
 
 -- a byte that passes a test that 0 does not pass
 pub flag-fits : (p : ℕ → Bool) (s : List ℕ) (i b : ℕ) (t : Bool) → length s < 2 ^ 64 → b ≡ getD s i 0 → t ≡ p b → t ≡ true → p 0 ≡ false → Fits w64 (i + 1)

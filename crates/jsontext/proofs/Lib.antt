@@ -3,6 +3,8 @@ pub mod Turn
 pub mod EscapeLaws
 pub mod TokenLaws
 pub mod TextLaws
+pub mod FirstByte
 pub mod ValueSound
 pub mod ValueComplete
 pub mod Unambiguous
+pub mod Walk

@@ -19,7 +19,8 @@ use Rattle.jsontext.specs.Text.{stringAt}
 use Rattle.jsontext.specs.Value.{valueAt}
 use Rattle.jsontext.proofs.TokenLaws.{Stop, stop-end, stop-bracket, stop-brace, space-accepts}
 use Rattle.jsontext.proofs.TextLaws.{string-accepts, quoted-part}
-use Rattle.jsontext.proofs.ValueComplete.{value-accepts, ws-stop, separator-accepts, separator-stop, First, first-at, begins-value, begins-items, begins-members, number-first, comma-solid, colon-solid, bracket-solid, brace-solid, not-space}
+use Rattle.jsontext.proofs.FirstByte.{First, first-at, begins-value, begins-items, begins-members, number-first}
+use Rattle.jsontext.proofs.ValueComplete.{value-accepts, ws-stop, separator-accepts, separator-stop, comma-solid, colon-solid, bracket-solid, brace-solid, not-space}
 
 -- ---- two at one place end alike
 

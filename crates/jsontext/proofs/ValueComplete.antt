@@ -18,69 +18,7 @@ use Rattle.jsontext.specs.Text.{stringAt}
 use Rattle.jsontext.specs.Value.{colonAt, memberAt, itemAt, afterItem, itemsAt, insideAt, valueBy, walkBy, valueAt, walkAt}
 use Rattle.jsontext.proofs.TokenLaws.{space-accepts, word-accepts, number-accepts, Stop, stop-comma, stop-space, stop-bracket, stop-brace}
 use Rattle.jsontext.proofs.TextLaws.{string-accepts}
-
--- ---- first bytes
-
--- the first byte of a value or a name is no white space and no closing bracket
-pub record First (b : ℕ) : Type 0 where
-  pub solid : isSpace b ≡ false
-  pub no-bracket : eqb b 0x5D ≡ false
-  pub no-brace : eqb b 0x7D ≡ false
-
-first-minus : First 0x2D
-unfolding isSpace
-first-minus = record { solid = refl; no-bracket = refl; no-brace = refl }
-
-first-quote : First 0x22
-unfolding isSpace
-first-quote = record { solid = refl; no-bracket = refl; no-brace = refl }
-
-first-digit : (b : ℕ) → 0x30 ≤ b → b ≤ 0x39 → First b
-unfolding isSpace
-first-digit b l h = record {
-  solid =
-    simp (ne-eqb b 0x20 (λ e. omega arith), ne-eqb b 0x0A (λ e. omega arith), ne-eqb b 0x0D (λ e. omega arith), ne-eqb b 0x09 (λ e. omega arith));
-  no-bracket = ne-eqb b 0x5D (λ e. omega arith);
-  no-brace = ne-eqb b 0x7D (λ e. omega arith);
-}
-
--- a list that begins with such a byte
-pub data Begins : List ℕ → Type 0 where
-  begins : {b : ℕ} {l : List ℕ} → First b → Begins (b ∷ l)
-
-begins-number : {l : List ℕ} → json.Number l → Begins l
-begins-number (json.Number.number json.no-minus json.zero f e) = begins (first-digit 0x30 (omega arith) (omega arith))
-begins-number (json.Number.number json.no-minus (json.digit1-9 {b = b} l h m) f e) = begins (first-digit b (omega arith) h)
-begins-number (json.Number.number json.minus i f e) = begins first-minus
-
-pub begins-value : {v : json.Json} {l : List ℕ} → json.Spells v l → Begins l
-unfolding isSpace
-begins-value json.is-false = begins (record { solid = refl; no-bracket = refl; no-brace = refl })
-begins-value json.is-null = begins (record { solid = refl; no-bracket = refl; no-brace = refl })
-begins-value json.is-true = begins (record { solid = refl; no-bracket = refl; no-brace = refl })
-begins-value (json.empty-object w) = begins (record { solid = refl; no-bracket = refl; no-brace = refl })
-begins-value (json.is-object w m x) = begins (record { solid = refl; no-bracket = refl; no-brace = refl })
-begins-value (json.empty-array w) = begins (record { solid = refl; no-bracket = refl; no-brace = refl })
-begins-value (json.is-array w i x) = begins (record { solid = refl; no-bracket = refl; no-brace = refl })
-begins-value (json.is-number n) = begins-number n
-begins-value (json.is-string (json.quoted g)) = begins first-quote
-
-begins-append : {l : List ℕ} → Begins l → (m : List ℕ) → Begins (l ++ m)
-begins-append (begins f) m = begins f
-
-pub begins-items : {i : json.Items} {l : List ℕ} → json.SpellsItems i l → Begins l
-begins-items (json.last-item g) = begins-value g
-begins-items (json.more-items g c r) = begins-append (begins-value g) _
-
-pub begins-member : {n : List ℕ} {v : json.Json} {l : List ℕ} → json.SpellsMember n v l → Begins l
-begins-member (json.is-member (json.quoted q) c g) = begins first-quote
-
-pub begins-members : {m : json.Members} {l : List ℕ} → json.SpellsMembers m l → Begins l
-begins-members (json.last-member g) = begins-member g
-begins-members (json.more-members g c r) = begins-append (begins-member g) _
-
-pub first-at : {s l : List ℕ} {a c : ℕ} → Begins l → Span s a l c → First (getD s a 0)
-first-at (begins f) (step h e r) = rw e f
+use Rattle.jsontext.proofs.FirstByte.{First, first-at, begins-value, begins-items, begins-members, number-first}
 
 -- ---- white space and separators
 
@@ -185,11 +123,6 @@ number-by X d s a b e l h f =
       ne-eqb b 0x66 (λ x. omega arith),
       ne-eqb b 0x6E (λ x. omega arith),
     ) f
-
-pub number-first : {s l : List ℕ} {a c : ℕ} → json.Number l → Span s a l c → (0x2D ≤ getD s a 0) × (getD s a 0 ≤ 0x39)
-number-first (json.Number.number json.no-minus json.zero f e) (step h q r) = (omega arith, omega arith)
-number-first (json.Number.number json.no-minus (json.digit1-9 l h m) f e) (step k q r) = (omega arith, omega arith)
-number-first (json.Number.number json.minus i f e) (step h q r) = (omega arith, omega arith)
 
 word-by : (X : Skipped) (d : ℕ) (s : List ℕ) (a : ℕ) (w : List ℕ) → valueBy (λ close at. walkAt d close s at) s a ≡ wordAt w s a → wordAt w s a ≡ X → valueAt d s a ≡ X
 word-by X d s a w e f = value-open d s a ∙ e ∙ f

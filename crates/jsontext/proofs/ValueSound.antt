@@ -9,6 +9,7 @@ use lib.ListN.{length, getD}
 use lib.Dec.{eqb}
 use Rattle.scan.specs.Choice.{pick, Answer, shown, refused, Read, read, andThen}
 use Rattle.scan.specs.Span.{Span, here, step}
+use Rattle.scan.proofs.Step.{pick-by}
 use Rattle.scan.proofs.SpanLaws.{join, bite}
 use Rattle.scan.proofs.Reading.{Reads, reads, fails, pick-reads, then-reads, from-reads}
 use Rattle.jsontext.specs.declared.Spelled.{Spelled}
@@ -18,6 +19,7 @@ use Rattle.jsontext.specs.Text.{stringAt}
 use Rattle.jsontext.specs.Value.{falseWord, nullWord, trueWord, colonAt, memberAt, itemAt, afterItem, itemsAt, insideAt, valueBy, walkBy, valueAt, walkAt}
 use Rattle.jsontext.proofs.TokenLaws.{Ends, ends, bind, space-consumes, word-consumes, number-consumes}
 use Rattle.jsontext.proofs.TextLaws.{StringAt, string-is, string-consumes}
+use Rattle.jsontext.proofs.FirstByte.{begins-value, begins-member, some-bytes}
 
 -- some value, member, with at most d arrays and objects inside one another
 pub data Some (d : ℕ) (x : Done) (l : List ℕ) : Type 0 where
@@ -170,3 +172,16 @@ value-reads {d} {s} {a} f = go (rw f at (value-consumes d s a))
   where
     go : {x : Done} {e : ℕ} → Reads (Some d) s a (read x e) → (v : json.Json) × (l : List ℕ) × json.Spells v l × Span s a l e × (json.nesting v ≤ d)
     go (reads {l = l} (some {v = v} g h) r) = (v, l, g, r, h)
+
+-- an item that is read over takes a byte or more, and ends within the input
+pub item-some : (close d : ℕ) (s : List ℕ) (a : ℕ) {e : ℕ} → itemAt close (valueAt d s) s a ≡ past e → (a < e) × (e ≤ length s)
+unfolding itemAt
+item-some close d s a {e} f =
+    pick-by (λ (x : Skipped). x ≡ past e → (a < e) × (e ≤ length s)) (eqb close 0x7D) (λ t f. member (rw f at (member-consumes d s (value-consumes d s) a)))
+    (λ t f. value (rw f at (value-consumes d s a))) f
+  where
+    value : {x : Done} {e : ℕ} → Reads (Some d) s a (read x e) → (a < e) × (e ≤ length s)
+    value (reads (some g h) r) = some-bytes (begins-value g) r
+
+    member : {x : Done} {e : ℕ} → Reads (SomeMember d) s a (read x e) → (a < e) × (e ≤ length s)
+    member (reads (some-member g h) r) = some-bytes (begins-member g) r

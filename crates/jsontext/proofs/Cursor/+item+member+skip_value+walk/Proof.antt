@@ -1,4 +1,13 @@
-use Prim.Native.Nat.{ℕ, _<_}
+use Rattle.jsontext.proofs.ValueComplete.{value-open}
+use borrow.Author.Needs.{needs}
+use borrow.Author.Tests.{eq-eqb, ne-eqb}
+use Rattle.jsontext.specs.Value.{colonAt, itemAt, memberAt, valueBy}
+use Prim.Native.Nat.{ℕ, _+_, _*_, _-_, _<_, _≤_}
+use mathlib.Core.Path.{refl}
+use native.Mathlib.Omega.{arith}
+use lib.ListN.{length}
+use Rattle.jsontext.proofs.Fits.{byte-positive, byte-place, next-fits, close-fits}
+use Rattle.jsontext.proofs.Walk.{InWalk, walk-again, walk-less, walks}
 use borrow.Fn.Kinds.{In}
 use borrow.Fn.PlainCycle.{Measures, is, falls, and}
 use Rattle.jsontext.proofs.Cursor.item.Reads as item
@@ -23,16 +32,16 @@ use Rattle.jsontext.proofs.Cursor.+item+member+skip_value+walk.{stateme
 use Rattle.jsontext.proofs.Cursor.+item+member+skip_value+walk.Tie.{close}
 
 abbrev μ-item : Measures 1 item-kinds.ps ℕ
-μ-item κs a = ?
+μ-item κs a = 4 * a .1 .1 .0 + 3
 
 abbrev μ-member : Measures 1 member-kinds.ps ℕ
-μ-member κs a = ?
+μ-member κs a = 4 * a .1 .1 .0 + 2
 
 abbrev μ-skip-value : Measures 1 skip-value-kinds.ps ℕ
-μ-skip-value κs a = ?
+μ-skip-value κs a = 4 * a .1 .1 .0 + 1
 
 abbrev μ-walk : Measures 1 walk-kinds.ps ℕ
-μ-walk κs a = ?
+μ-walk κs a = 4 * a .1 .1 .0
 
 abbrev item-at : ℕ → In 1 item-kinds.ps
 item-at t = and 1 item-kinds.ps (is 1 item-kinds.ps μ-item t) item.Pre
@@ -67,7 +76,7 @@ item-member-requires : (t : ℕ) → item-lts.Need-member-requires (
   skip-value-below t,
   skip-value.Post,
 ) (item-at t) item.Post
-item-member-requires t c κs = ?
+item-member-requires t c κs = search needs
 
 -- src/lib.rt:466:13
 item-returns : (t : ℕ) → item-lts.Need-returns (
@@ -76,7 +85,8 @@ item-returns : (t : ℕ) → item-lts.Need-returns (
   skip-value-below t,
   skip-value.Post,
 ) (item-at t) item.Post
-item-returns t c = ?
+unfolding itemAt
+item-returns t c = simp (eq-eqb _ _ (c .before .if1 .taken), ← c .member .ensures)
 
 -- src/lib.rt:468:9
 item-skip-value-requires : (t : ℕ) → item-lts.Need-skip-value-requires (
@@ -85,7 +95,7 @@ item-skip-value-requires : (t : ℕ) → item-lts.Need-skip-value-requires (
   skip-value-below t,
   skip-value.Post,
 ) (item-at t) item.Post
-item-skip-value-requires t c κs = ?
+item-skip-value-requires t c κs = search needs
 
 -- src/lib.rt:462:5
 item-returns-2 : (t : ℕ) → item-lts.Need-returns-2 (
@@ -94,7 +104,8 @@ item-returns-2 : (t : ℕ) → item-lts.Need-returns-2 (
   skip-value-below t,
   skip-value.Post,
 ) (item-at t) item.Post
-item-returns-2 t c = ?
+unfolding itemAt
+item-returns-2 t c = simp (ne-eqb _ _ (c .before .if1 .left), ← c .skip-value .ensures)
 
 -- src/lib.rt:475:13
 member-string-requires : (t : ℕ) → member-lts.Need-string-requires (
@@ -109,7 +120,7 @@ member-string-requires : (t : ℕ) → member-lts.Need-string-requires (
   not-allowed-reads.Asked,
   not-allowed-reads.Learnt,
 ) (member-at t) member.Post
-member-string-requires t c κs = ?
+member-string-requires t c κs = search needs
 
 -- src/lib.rt:477:33
 member-enum-known-name : (t : ℕ) → member-lts.Need-enum-known-name (
@@ -124,7 +135,7 @@ member-enum-known-name : (t : ℕ) → member-lts.Need-enum-known-name (
   not-allowed-reads.Asked,
   not-allowed-reads.Learnt,
 ) (member-at t) member.Post
-member-enum-known-name t c = ?
+member-enum-known-name t c = search needs
 
 -- src/lib.rt:478:21
 member-skip-space-requires : (t : ℕ) → member-lts.Need-skip-space-requires (
@@ -139,7 +150,7 @@ member-skip-space-requires : (t : ℕ) → member-lts.Need-skip-space-requires (
   not-allowed-reads.Asked,
   not-allowed-reads.Learnt,
 ) (member-at t) member.Post
-member-skip-space-requires t c κs = ?
+member-skip-space-requires t c κs = search needs
 
 -- src/lib.rt:480:21
 member-byte-at-requires : (t : ℕ) → member-lts.Need-byte-at-requires (
@@ -154,7 +165,7 @@ member-byte-at-requires : (t : ℕ) → member-lts.Need-byte-at-requires (
   not-allowed-reads.Asked,
   not-allowed-reads.Learnt,
 ) (member-at t) member.Post
-member-byte-at-requires t c κs = ?
+member-byte-at-requires t c κs = search needs
 
 -- src/lib.rt:482:46
 member-add-t13 : (t : ℕ) → member-lts.Need-add-t13 (
@@ -169,7 +180,7 @@ member-add-t13 : (t : ℕ) → member-lts.Need-add-t13 (
   not-allowed-reads.Asked,
   not-allowed-reads.Learnt,
 ) (member-at t) member.Post
-member-add-t13 t c = ?
+member-add-t13 t c = search next-fits
 
 -- src/lib.rt:482:25
 member-skip-space-requires-2 : (t : ℕ) → member-lts.Need-skip-space-requires-2 (
@@ -184,7 +195,7 @@ member-skip-space-requires-2 : (t : ℕ) → member-lts.Need-skip-space-requires
   not-allowed-reads.Asked,
   not-allowed-reads.Learnt,
 ) (member-at t) member.Post
-member-skip-space-requires-2 t c κs = ?
+member-skip-space-requires-2 t c κs = search needs
 
 -- src/lib.rt:483:21
 member-skip-value-requires : (t : ℕ) → member-lts.Need-skip-value-requires (
@@ -199,7 +210,7 @@ member-skip-value-requires : (t : ℕ) → member-lts.Need-skip-value-requires (
   not-allowed-reads.Asked,
   not-allowed-reads.Learnt,
 ) (member-at t) member.Post
-member-skip-value-requires t c κs = ?
+member-skip-value-requires t c κs = search needs
 
 -- src/lib.rt:483:21
 member-returns : (t : ℕ) → member-lts.Need-returns (
@@ -214,7 +225,8 @@ member-returns : (t : ℕ) → member-lts.Need-returns (
   not-allowed-reads.Asked,
   not-allowed-reads.Learnt,
 ) (member-at t) member.Post
-member-returns t c = ?
+unfolding memberAt colonAt
+member-returns t c = simp (← c .before .before .before .before .before .before .before .before .string .ensures, c .before .before .before .before .before .before .name .given .1, ← c .before .before .before .before .skip-space .ensures, ← c .before .before .before .byte-at .ensures, eq-eqb _ _ (c .before .before .if1 .taken), ← c .before .skip-space2 .ensures, ← c .skip-value .ensures)
 
 -- src/lib.rt:485:17
 member-not-allowed-requires : (t : ℕ) → member-lts.Need-not-allowed-requires (
@@ -229,7 +241,7 @@ member-not-allowed-requires : (t : ℕ) → member-lts.Need-not-allowed-requires
   not-allowed-reads.Asked,
   not-allowed-reads.Learnt,
 ) (member-at t) member.Post
-member-not-allowed-requires t c κs = ?
+member-not-allowed-requires t c κs = search needs
 
 -- src/lib.rt:487:33
 member-enum-known-name-2 : (t : ℕ) → member-lts.Need-enum-known-name-2 (
@@ -244,7 +256,7 @@ member-enum-known-name-2 : (t : ℕ) → member-lts.Need-enum-known-name-2 (
   not-allowed-reads.Asked,
   not-allowed-reads.Learnt,
 ) (member-at t) member.Post
-member-enum-known-name-2 t c = ?
+member-enum-known-name-2 t c = search needs
 
 -- src/lib.rt:472:5
 member-returns-2 : (t : ℕ) → member-lts.Need-returns-2 (
@@ -259,7 +271,8 @@ member-returns-2 : (t : ℕ) → member-lts.Need-returns-2 (
   not-allowed-reads.Asked,
   not-allowed-reads.Learnt,
 ) (member-at t) member.Post
-member-returns-2 t c = ?
+unfolding memberAt colonAt
+member-returns-2 t c = simp (← c .before .before .before .before .before .before .before .string .ensures, c .before .before .before .before .before .name .given .1, ← c .before .before .before .skip-space .ensures, ← c .before .before .byte-at .ensures, ne-eqb _ _ (c .before .if1 .left), ← c .not-allowed .ensures)
 
 -- src/lib.rt:472:5
 member-returns-3 : (t : ℕ) → member-lts.Need-returns-3 (
@@ -274,7 +287,8 @@ member-returns-3 : (t : ℕ) → member-lts.Need-returns-3 (
   not-allowed-reads.Asked,
   not-allowed-reads.Learnt,
 ) (member-at t) member.Post
-member-returns-3 t c = ?
+unfolding memberAt colonAt
+member-returns-3 t c = simp (← c .before .before .before .string .ensures, c .before .name2 .given .1)
 
 -- src/lib.rt:398:13
 skip-value-byte-at-requires : (t : ℕ) → skip-value-lts.Need-byte-at-requires (
@@ -289,7 +303,7 @@ skip-value-byte-at-requires : (t : ℕ) → skip-value-lts.Need-byte-at-requires
   number-reads.Asked,
   number-reads.Learnt,
 ) (skip-value-at t) skip-value.Post
-skip-value-byte-at-requires t c κs = ?
+skip-value-byte-at-requires t c κs = search needs
 
 -- src/lib.rt:400:17
 skip-value-string-requires : (t : ℕ) → skip-value-lts.Need-string-requires (
@@ -304,7 +318,7 @@ skip-value-string-requires : (t : ℕ) → skip-value-lts.Need-string-requires (
   number-reads.Asked,
   number-reads.Learnt,
 ) (skip-value-at t) skip-value.Post
-skip-value-string-requires t c κs = ?
+skip-value-string-requires t c κs = search needs
 
 -- src/lib.rt:402:37
 skip-value-enum-known-t : (t : ℕ) → skip-value-lts.Need-enum-known-t (
@@ -319,7 +333,7 @@ skip-value-enum-known-t : (t : ℕ) → skip-value-lts.Need-enum-known-t (
   number-reads.Asked,
   number-reads.Learnt,
 ) (skip-value-at t) skip-value.Post
-skip-value-enum-known-t t c = ?
+skip-value-enum-known-t t c = search needs
 
 -- src/lib.rt:403:37
 skip-value-enum-known-t-2 : (t : ℕ) → skip-value-lts.Need-enum-known-t-2 (
@@ -334,7 +348,7 @@ skip-value-enum-known-t-2 : (t : ℕ) → skip-value-lts.Need-enum-known-t-2 (
   number-reads.Asked,
   number-reads.Learnt,
 ) (skip-value-at t) skip-value.Post
-skip-value-enum-known-t-2 t c = ?
+skip-value-enum-known-t-2 t c = search needs
 
 -- src/lib.rt:401:13
 skip-value-returns : (t : ℕ) → skip-value-lts.Need-returns (
@@ -349,7 +363,8 @@ skip-value-returns : (t : ℕ) → skip-value-lts.Need-returns (
   number-reads.Asked,
   number-reads.Learnt,
 ) (skip-value-at t) skip-value.Post
-skip-value-returns t c = ?
+unfolding valueBy
+skip-value-returns t c = simp (value-open, ← c .before .before .before .before .before .byte-at .ensures, eq-eqb _ _ (c .before .before .before .before .if1 .taken), ← c .before .before .before .string .ensures, c .before .t .given .1)
 
 -- src/lib.rt:401:13
 skip-value-returns-2 : (t : ℕ) → skip-value-lts.Need-returns-2 (
@@ -364,7 +379,8 @@ skip-value-returns-2 : (t : ℕ) → skip-value-lts.Need-returns-2 (
   number-reads.Asked,
   number-reads.Learnt,
 ) (skip-value-at t) skip-value.Post
-skip-value-returns-2 t c = ?
+unfolding valueBy
+skip-value-returns-2 t c = simp (value-open, ← c .before .before .before .before .before .byte-at .ensures, eq-eqb _ _ (c .before .before .before .before .if1 .taken), ← c .before .before .before .string .ensures, c .before .t2 .given .1)
 
 -- src/lib.rt:407:13
 skip-value-walk-requires : (t : ℕ) → skip-value-lts.Need-walk-requires (
@@ -379,7 +395,7 @@ skip-value-walk-requires : (t : ℕ) → skip-value-lts.Need-walk-requires (
   number-reads.Asked,
   number-reads.Learnt,
 ) (skip-value-at t) skip-value.Post
-skip-value-walk-requires t c κs = ?
+skip-value-walk-requires t c κs = (search needs, (search byte-place, search needs))
 
 -- src/lib.rt:407:13
 skip-value-returns-3 : (t : ℕ) → skip-value-lts.Need-returns-3 (
@@ -394,7 +410,8 @@ skip-value-returns-3 : (t : ℕ) → skip-value-lts.Need-returns-3 (
   number-reads.Asked,
   number-reads.Learnt,
 ) (skip-value-at t) skip-value.Post
-skip-value-returns-3 t c = ?
+unfolding valueBy
+skip-value-returns-3 t c = simp (value-open, ← c .before .before .before .byte-at .ensures, ne-eqb _ _ (c .before .before .if1 .left), eq-eqb _ _ (c .before .if2 .taken), ← c .walk .ensures)
 
 -- src/lib.rt:410:13
 skip-value-walk-requires-2 : (t : ℕ) → skip-value-lts.Need-walk-requires-2 (
@@ -409,7 +426,7 @@ skip-value-walk-requires-2 : (t : ℕ) → skip-value-lts.Need-walk-requires-2 (
   number-reads.Asked,
   number-reads.Learnt,
 ) (skip-value-at t) skip-value.Post
-skip-value-walk-requires-2 t c κs = ?
+skip-value-walk-requires-2 t c κs = (search needs, (search byte-place, search needs))
 
 -- src/lib.rt:410:13
 skip-value-returns-4 : (t : ℕ) → skip-value-lts.Need-returns-4 (
@@ -424,7 +441,8 @@ skip-value-returns-4 : (t : ℕ) → skip-value-lts.Need-returns-4 (
   number-reads.Asked,
   number-reads.Learnt,
 ) (skip-value-at t) skip-value.Post
-skip-value-returns-4 t c = ?
+unfolding valueBy
+skip-value-returns-4 t c = simp (value-open, ← c .before .before .before .before .byte-at .ensures, ne-eqb _ _ (c .before .before .before .if1 .left), ne-eqb _ _ (c .before .before .if2 .left), eq-eqb _ _ (c .before .if3 .taken), ← c .walk2 .ensures)
 
 -- src/lib.rt:413:30
 skip-value-slice-aggregate-word : (t : ℕ) → skip-value-lts.Need-slice-aggregate-word (
@@ -439,7 +457,7 @@ skip-value-slice-aggregate-word : (t : ℕ) → skip-value-lts.Need-slice-aggreg
   number-reads.Asked,
   number-reads.Learnt,
 ) (skip-value-at t) skip-value.Post
-skip-value-slice-aggregate-word t c = ?
+skip-value-slice-aggregate-word t c = search needs
 
 -- src/lib.rt:413:13
 skip-value-word-requires : (t : ℕ) → skip-value-lts.Need-word-requires (
@@ -454,7 +472,7 @@ skip-value-word-requires : (t : ℕ) → skip-value-lts.Need-word-requires (
   number-reads.Asked,
   number-reads.Learnt,
 ) (skip-value-at t) skip-value.Post
-skip-value-word-requires t c κs = ?
+skip-value-word-requires t c κs = search needs
 
 -- src/lib.rt:413:13
 skip-value-returns-5 : (t : ℕ) → skip-value-lts.Need-returns-5 (
@@ -469,7 +487,8 @@ skip-value-returns-5 : (t : ℕ) → skip-value-lts.Need-returns-5 (
   number-reads.Asked,
   number-reads.Learnt,
 ) (skip-value-at t) skip-value.Post
-skip-value-returns-5 t c = ?
+unfolding valueBy
+skip-value-returns-5 t c = simp (value-open, ← c .before .before .before .before .before .before .byte-at .ensures, ne-eqb _ _ (c .before .before .before .before .before .if1 .left), ne-eqb _ _ (c .before .before .before .before .if2 .left), ne-eqb _ _ (c .before .before .before .if3 .left), eq-eqb _ _ (c .before .before .if4 .taken), ← c .word .ensures)
 
 -- src/lib.rt:416:30
 skip-value-slice-aggregate-word-2 : (t : ℕ) → skip-value-lts.Need-slice-aggregate-word-2 (
@@ -484,7 +503,7 @@ skip-value-slice-aggregate-word-2 : (t : ℕ) → skip-value-lts.Need-slice-aggr
   number-reads.Asked,
   number-reads.Learnt,
 ) (skip-value-at t) skip-value.Post
-skip-value-slice-aggregate-word-2 t c = ?
+skip-value-slice-aggregate-word-2 t c = search needs
 
 -- src/lib.rt:416:13
 skip-value-word-requires-2 : (t : ℕ) → skip-value-lts.Need-word-requires-2 (
@@ -499,7 +518,7 @@ skip-value-word-requires-2 : (t : ℕ) → skip-value-lts.Need-word-requires-2 (
   number-reads.Asked,
   number-reads.Learnt,
 ) (skip-value-at t) skip-value.Post
-skip-value-word-requires-2 t c κs = ?
+skip-value-word-requires-2 t c κs = search needs
 
 -- src/lib.rt:416:13
 skip-value-returns-6 : (t : ℕ) → skip-value-lts.Need-returns-6 (
@@ -514,7 +533,8 @@ skip-value-returns-6 : (t : ℕ) → skip-value-lts.Need-returns-6 (
   number-reads.Asked,
   number-reads.Learnt,
 ) (skip-value-at t) skip-value.Post
-skip-value-returns-6 t c = ?
+unfolding valueBy
+skip-value-returns-6 t c = simp (value-open, ← c .before .before .before .before .before .before .before .byte-at .ensures, ne-eqb _ _ (c .before .before .before .before .before .before .if1 .left), ne-eqb _ _ (c .before .before .before .before .before .if2 .left), ne-eqb _ _ (c .before .before .before .before .if3 .left), ne-eqb _ _ (c .before .before .before .if4 .left), eq-eqb _ _ (c .before .before .if5 .taken), ← c .word2 .ensures)
 
 -- src/lib.rt:419:30
 skip-value-slice-aggregate-word-3 : (t : ℕ) → skip-value-lts.Need-slice-aggregate-word-3 (
@@ -529,7 +549,7 @@ skip-value-slice-aggregate-word-3 : (t : ℕ) → skip-value-lts.Need-slice-aggr
   number-reads.Asked,
   number-reads.Learnt,
 ) (skip-value-at t) skip-value.Post
-skip-value-slice-aggregate-word-3 t c = ?
+skip-value-slice-aggregate-word-3 t c = search needs
 
 -- src/lib.rt:419:13
 skip-value-word-requires-3 : (t : ℕ) → skip-value-lts.Need-word-requires-3 (
@@ -544,7 +564,7 @@ skip-value-word-requires-3 : (t : ℕ) → skip-value-lts.Need-word-requires-3 (
   number-reads.Asked,
   number-reads.Learnt,
 ) (skip-value-at t) skip-value.Post
-skip-value-word-requires-3 t c κs = ?
+skip-value-word-requires-3 t c κs = search needs
 
 -- src/lib.rt:419:13
 skip-value-returns-7 : (t : ℕ) → skip-value-lts.Need-returns-7 (
@@ -559,7 +579,8 @@ skip-value-returns-7 : (t : ℕ) → skip-value-lts.Need-returns-7 (
   number-reads.Asked,
   number-reads.Learnt,
 ) (skip-value-at t) skip-value.Post
-skip-value-returns-7 t c = ?
+unfolding valueBy
+skip-value-returns-7 t c = simp (value-open, ← c .before .before .before .before .before .before .before .before .byte-at .ensures, ne-eqb _ _ (c .before .before .before .before .before .before .before .if1 .left), ne-eqb _ _ (c .before .before .before .before .before .before .if2 .left), ne-eqb _ _ (c .before .before .before .before .before .if3 .left), ne-eqb _ _ (c .before .before .before .before .if4 .left), ne-eqb _ _ (c .before .before .before .if5 .left), eq-eqb _ _ (c .before .before .if6 .taken), ← c .word3 .ensures)
 
 -- src/lib.rt:421:9
 skip-value-number-requires : (t : ℕ) → skip-value-lts.Need-number-requires (
@@ -574,7 +595,7 @@ skip-value-number-requires : (t : ℕ) → skip-value-lts.Need-number-requires (
   number-reads.Asked,
   number-reads.Learnt,
 ) (skip-value-at t) skip-value.Post
-skip-value-number-requires t c κs = ?
+skip-value-number-requires t c κs = search needs
 
 -- src/lib.rt:394:5
 skip-value-returns-8 : (t : ℕ) → skip-value-lts.Need-returns-8 (
@@ -589,13 +610,14 @@ skip-value-returns-8 : (t : ℕ) → skip-value-lts.Need-returns-8 (
   number-reads.Asked,
   number-reads.Learnt,
 ) (skip-value-at t) skip-value.Post
-skip-value-returns-8 t c = ?
+unfolding valueBy
+skip-value-returns-8 t c = simp (value-open, ← c .before .before .before .before .before .before .before .byte-at .ensures, ne-eqb _ _ (c .before .before .before .before .before .before .if1 .left), ne-eqb _ _ (c .before .before .before .before .before .if2 .left), ne-eqb _ _ (c .before .before .before .before .if3 .left), ne-eqb _ _ (c .before .before .before .if4 .left), ne-eqb _ _ (c .before .before .if5 .left), ne-eqb _ _ (c .before .if6 .left), ← c .number .ensures)
 
 abbrev walk-Inv-loop : walk-lts.InvT-loop
-walk-Inv-loop s depth close at i₀ i = ?
+walk-Inv-loop s depth close at i₀ i = InWalk s depth close at i × (1 ≤ depth)
 
 abbrev walk-μ-loop : walk-lts.MeasureT-loop
-walk-μ-loop s depth close at i₀ i = ?
+walk-μ-loop s depth close at i₀ i = length s - i
 
 -- src/lib.rt:432:13
 walk-returns : (t : ℕ) → walk-lts.Need-returns (
@@ -608,7 +630,7 @@ walk-returns : (t : ℕ) → walk-lts.Need-returns (
   not-allowed-reads.Asked,
   not-allowed-reads.Learnt,
 ) (walk-at t) walk.Post walk-Inv-loop walk-μ-loop
-walk-returns t c = ?
+walk-returns t c = search walks
 
 -- src/lib.rt:437:34
 walk-add-t16 : (t : ℕ) → walk-lts.Need-add-t16 (
@@ -621,7 +643,7 @@ walk-add-t16 : (t : ℕ) → walk-lts.Need-add-t16 (
   not-allowed-reads.Asked,
   not-allowed-reads.Learnt,
 ) (walk-at t) walk.Post walk-Inv-loop walk-μ-loop
-walk-add-t16 t c = ?
+walk-add-t16 t c = search needs
 
 -- src/lib.rt:437:13
 walk-skip-space-requires : (t : ℕ) → walk-lts.Need-skip-space-requires (
@@ -634,7 +656,7 @@ walk-skip-space-requires : (t : ℕ) → walk-lts.Need-skip-space-requires (
   not-allowed-reads.Asked,
   not-allowed-reads.Learnt,
 ) (walk-at t) walk.Post walk-Inv-loop walk-μ-loop
-walk-skip-space-requires t c κs = ?
+walk-skip-space-requires t c κs = search needs
 
 -- src/lib.rt:439:12
 walk-byte-at-requires : (t : ℕ) → walk-lts.Need-byte-at-requires (
@@ -647,7 +669,7 @@ walk-byte-at-requires : (t : ℕ) → walk-lts.Need-byte-at-requires (
   not-allowed-reads.Asked,
   not-allowed-reads.Learnt,
 ) (walk-at t) walk.Post walk-Inv-loop walk-μ-loop
-walk-byte-at-requires t c κs = ?
+walk-byte-at-requires t c κs = search needs
 
 -- src/lib.rt:440:44
 walk-add-t19 : (t : ℕ) → walk-lts.Need-add-t19 (
@@ -660,7 +682,7 @@ walk-add-t19 : (t : ℕ) → walk-lts.Need-add-t19 (
   not-allowed-reads.Asked,
   not-allowed-reads.Learnt,
 ) (walk-at t) walk.Post walk-Inv-loop walk-μ-loop
-walk-add-t19 t c = ?
+walk-add-t19 t c = search close-fits
 
 -- src/lib.rt:440:13
 walk-returns-2 : (t : ℕ) → walk-lts.Need-returns-2 (
@@ -673,7 +695,7 @@ walk-returns-2 : (t : ℕ) → walk-lts.Need-returns-2 (
   not-allowed-reads.Asked,
   not-allowed-reads.Learnt,
 ) (walk-at t) walk.Post walk-Inv-loop walk-μ-loop
-walk-returns-2 t c = ?
+walk-returns-2 t c = search walks
 
 -- src/lib.rt:442:9
 walk-loop-holds : (t : ℕ) → walk-lts.Need-loop-holds (
@@ -686,7 +708,7 @@ walk-loop-holds : (t : ℕ) → walk-lts.Need-loop-holds (
   not-allowed-reads.Asked,
   not-allowed-reads.Learnt,
 ) (walk-at t) walk.Post walk-Inv-loop walk-μ-loop
-walk-loop-holds t c = ?
+walk-loop-holds t c = (search walks, omega (arith, c .before .before .before .if1 .left))
 
 -- src/lib.rt:443:49
 walk-sub-item : (t : ℕ) → walk-lts.Need-sub-item (
@@ -699,7 +721,7 @@ walk-sub-item : (t : ℕ) → walk-lts.Need-sub-item (
   not-allowed-reads.Asked,
   not-allowed-reads.Learnt,
 ) (walk-at t) walk.Post walk-Inv-loop walk-μ-loop
-walk-sub-item t c = ?
+walk-sub-item t c = search needs
 
 -- src/lib.rt:443:17
 walk-item-requires : (t : ℕ) → walk-lts.Need-item-requires (
@@ -712,7 +734,7 @@ walk-item-requires : (t : ℕ) → walk-lts.Need-item-requires (
   not-allowed-reads.Asked,
   not-allowed-reads.Learnt,
 ) (walk-at t) walk.Post walk-Inv-loop walk-μ-loop
-walk-item-requires t c κs = ?
+walk-item-requires t c κs = search needs
 
 -- src/lib.rt:444:28
 walk-enum-known-read : (t : ℕ) → walk-lts.Need-enum-known-read (
@@ -725,7 +747,7 @@ walk-enum-known-read : (t : ℕ) → walk-lts.Need-enum-known-read (
   not-allowed-reads.Asked,
   not-allowed-reads.Learnt,
 ) (walk-at t) walk.Post walk-Inv-loop walk-μ-loop
-walk-enum-known-read t c = ?
+walk-enum-known-read t c = search needs
 
 -- src/lib.rt:445:17
 walk-enum-told : (t : ℕ) → walk-lts.Need-enum-told (
@@ -738,7 +760,7 @@ walk-enum-told : (t : ℕ) → walk-lts.Need-enum-told (
   not-allowed-reads.Asked,
   not-allowed-reads.Learnt,
 ) (walk-at t) walk.Post walk-Inv-loop walk-μ-loop
-walk-enum-told t c = ?
+walk-enum-told t c = search needs
 
 -- src/lib.rt:445:17
 walk-returns-3 : (t : ℕ) → walk-lts.Need-returns-3 (
@@ -751,7 +773,7 @@ walk-returns-3 : (t : ℕ) → walk-lts.Need-returns-3 (
   not-allowed-reads.Asked,
   not-allowed-reads.Learnt,
 ) (walk-at t) walk.Post walk-Inv-loop walk-μ-loop
-walk-returns-3 t c = ?
+walk-returns-3 t c = search walks
 
 -- src/lib.rt:447:17
 walk-skip-space-requires-2 : (t : ℕ) → walk-lts.Need-skip-space-requires-2 (
@@ -764,7 +786,7 @@ walk-skip-space-requires-2 : (t : ℕ) → walk-lts.Need-skip-space-requires-2 (
   not-allowed-reads.Asked,
   not-allowed-reads.Learnt,
 ) (walk-at t) walk.Post walk-Inv-loop walk-μ-loop
-walk-skip-space-requires-2 t c κs = ?
+walk-skip-space-requires-2 t c κs = search needs
 
 -- src/lib.rt:449:17
 walk-byte-at-requires-2 : (t : ℕ) → walk-lts.Need-byte-at-requires-2 (
@@ -777,7 +799,7 @@ walk-byte-at-requires-2 : (t : ℕ) → walk-lts.Need-byte-at-requires-2 (
   not-allowed-reads.Asked,
   not-allowed-reads.Learnt,
 ) (walk-at t) walk.Post walk-Inv-loop walk-μ-loop
-walk-byte-at-requires-2 t c κs = ?
+walk-byte-at-requires-2 t c κs = search needs
 
 -- src/lib.rt:451:48
 walk-add-t24 : (t : ℕ) → walk-lts.Need-add-t24 (
@@ -790,7 +812,7 @@ walk-add-t24 : (t : ℕ) → walk-lts.Need-add-t24 (
   not-allowed-reads.Asked,
   not-allowed-reads.Learnt,
 ) (walk-at t) walk.Post walk-Inv-loop walk-μ-loop
-walk-add-t24 t c = ?
+walk-add-t24 t c = let s = c .before .before .before .before .before .before .before .before .before .before .before .before .before .args .s .now in omega (arith, byte-positive s (c .before .before .skip-space2 .result .at) (c .before .byte-at2 .result) (c .before .before .before .before .before .before .before .before .before .before .before .before .before .args .close) (c .before .byte-at2 .ensures) (c .if3 .taken) (omega arith))
 
 -- src/lib.rt:451:17
 walk-returns-4 : (t : ℕ) → walk-lts.Need-returns-4 (
@@ -803,7 +825,7 @@ walk-returns-4 : (t : ℕ) → walk-lts.Need-returns-4 (
   not-allowed-reads.Asked,
   not-allowed-reads.Learnt,
 ) (walk-at t) walk.Post walk-Inv-loop walk-μ-loop
-walk-returns-4 t c = ?
+walk-returns-4 t c = search walks
 
 -- src/lib.rt:454:17
 walk-not-allowed-requires : (t : ℕ) → walk-lts.Need-not-allowed-requires (
@@ -816,7 +838,7 @@ walk-not-allowed-requires : (t : ℕ) → walk-lts.Need-not-allowed-requires (
   not-allowed-reads.Asked,
   not-allowed-reads.Learnt,
 ) (walk-at t) walk.Post walk-Inv-loop walk-μ-loop
-walk-not-allowed-requires t c κs = ?
+walk-not-allowed-requires t c κs = search needs
 
 -- src/lib.rt:454:17
 walk-returns-5 : (t : ℕ) → walk-lts.Need-returns-5 (
@@ -829,7 +851,7 @@ walk-returns-5 : (t : ℕ) → walk-lts.Need-returns-5 (
   not-allowed-reads.Asked,
   not-allowed-reads.Learnt,
 ) (walk-at t) walk.Post walk-Inv-loop walk-μ-loop
-walk-returns-5 t c = ?
+walk-returns-5 t c = search walks
 
 -- src/lib.rt:456:38
 walk-add-t22 : (t : ℕ) → walk-lts.Need-add-t22 (
@@ -842,7 +864,7 @@ walk-add-t22 : (t : ℕ) → walk-lts.Need-add-t22 (
   not-allowed-reads.Asked,
   not-allowed-reads.Learnt,
 ) (walk-at t) walk.Post walk-Inv-loop walk-μ-loop
-walk-add-t22 t c = ?
+walk-add-t22 t c = let s = c .before .before .before .before .before .before .before .before .before .before .before .before .before .before .args .s .now in omega (arith, byte-place s (c .before .before .before .skip-space2 .result .at) (c .before .before .byte-at2 .result) 0x2C (c .before .before .byte-at2 .ensures) (c .if4 .left) refl)
 
 -- src/lib.rt:456:17
 walk-skip-space-requires-3 : (t : ℕ) → walk-lts.Need-skip-space-requires-3 (
@@ -855,7 +877,7 @@ walk-skip-space-requires-3 : (t : ℕ) → walk-lts.Need-skip-space-requires-3 (
   not-allowed-reads.Asked,
   not-allowed-reads.Learnt,
 ) (walk-at t) walk.Post walk-Inv-loop walk-μ-loop
-walk-skip-space-requires-3 t c κs = ?
+walk-skip-space-requires-3 t c κs = search needs
 
 -- src/lib.rt:442:9
 walk-loop-less : (t : ℕ) → walk-lts.Need-loop-less (
@@ -868,7 +890,7 @@ walk-loop-less : (t : ℕ) → walk-lts.Need-loop-less (
   not-allowed-reads.Asked,
   not-allowed-reads.Learnt,
 ) (walk-at t) walk.Post walk-Inv-loop walk-μ-loop
-walk-loop-less t c = ?
+walk-loop-less t c = let p = c .before .before .before .before .before .before .before .before .before in let a = c .before .before .before .before .before .before .before .before .before .before .before .before .before .before .before .args in walk-less (a .s .now) (a .depth) (a .close) (a .self .at) (p .loop .i) _ (p .loop .inv .0) (c .before .before .before .before .before .before .before .before .item .ensures) _ (c .before .before .before .before .skip-space2 .result) (c .before .before .before .before .before .before .read .given .1) (c .before .before .before .before .skip-space2 .ensures) _ (c .before .before .before .byte-at2 .ensures) (c .skip-space3 .result) (c .before .if4 .left) (c .skip-space3 .ensures)
 
 -- src/lib.rt:442:9
 walk-loop-again : (t : ℕ) → walk-lts.Need-loop-again (
@@ -881,7 +903,7 @@ walk-loop-again : (t : ℕ) → walk-lts.Need-loop-again (
   not-allowed-reads.Asked,
   not-allowed-reads.Learnt,
 ) (walk-at t) walk.Post walk-Inv-loop walk-μ-loop
-walk-loop-again t c = ?
+walk-loop-again t c = let p = c .before .before .before .before .before .before .before .before .before in let a = c .before .before .before .before .before .before .before .before .before .before .before .before .before .before .before .args in (walk-again (a .s .now) (a .depth) (a .close) (a .self .at) (p .loop .i) _ (p .loop .inv .0) (c .before .before .before .before .before .before .before .before .item .ensures) _ (c .before .before .before .before .skip-space2 .result) (c .before .before .before .before .before .before .read .given .1) (c .before .before .before .before .skip-space2 .ensures) _ (c .before .before .before .byte-at2 .ensures) (c .skip-space3 .result) (c .before .before .if3 .left) (c .before .if4 .left) (c .skip-space3 .ensures), omega arith)
 
 pub +item+member+skip-value+walk-spec : {M : Type 1} → statement M
 +item+member+skip-value+walk-spec = close μ-item μ-member μ-skip-value μ-walk (λ t. item-lts.spec (
