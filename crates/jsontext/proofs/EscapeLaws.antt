@@ -193,7 +193,7 @@ letter-of json.Letter.carriage-return = refl
 letter-of json.Letter.tab = refl
 
 -- what a letter stands for is ASCII and not 0, and the letter is neither 0 nor u
-letter-small : {c b : ℕ} → json.Letter c b → (0 < b) × (b < 0x80) × (0 < c) × (c < 0x75)
+pub letter-small : {c b : ℕ} → json.Letter c b → (0 < b) × (b < 0x80) × (0 < c) × (c < 0x75)
 letter-small json.Letter.quotation-mark = (omega arith, omega arith, omega arith, omega arith)
 letter-small json.Letter.reverse-solidus = (omega arith, omega arith, omega arith, omega arith)
 letter-small json.Letter.solidus = (omega arith, omega arith, omega arith, omega arith)
@@ -219,7 +219,7 @@ unicode-is : {s : List ℕ} {a u : ℕ} → Scalar u → UnitAt s a u → u < 0x
 unicode-is g no-unit h = absurd (omega arith)
 unicode-is g (unit-is p k n r) h = escape-is (json.unicode p g) g r n (omega arith) (omega arith) (omega (arith, encode-length g .1))
 
-pair-scalar : (u v : ℕ) → u < 0xDC00 → v < 0xE000 → Scalar (json.paired u v)
+pub pair-scalar : (u v : ℕ) → u < 0xDC00 → v < 0xE000 → Scalar (json.paired u v)
 pair-scalar u v h k = above {n = json.paired u v} (omega arith) (omega arith)
 
 pair-is : {s : List ℕ} {a u v : ℕ} → 0xD800 ≤ u → u < 0xDC00 → 0xDC00 ≤ v → v < 0xE000 → UnitAt s a u → UnitAt s (a + 6) v → EscapeAt s a (escape 12 (json.paired u v))

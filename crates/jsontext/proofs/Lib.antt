@@ -7,4 +7,5 @@ pub mod FirstByte
 pub mod ValueSound
 pub mod ValueComplete
 pub mod Unambiguous
+pub mod Meaning
 pub mod Walk
