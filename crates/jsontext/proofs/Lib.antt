@@ -8,4 +8,5 @@ pub mod ValueSound
 pub mod ValueComplete
 pub mod Unambiguous
 pub mod Meaning
+pub mod Unescape
 pub mod Walk

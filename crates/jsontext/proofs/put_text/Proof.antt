@@ -1,69 +1,33 @@
+-- `put_text` writes the text. The invariant: what is left to write is the text from here on.
+-- A turn writes a run, by `unescape-run`, and what an escape stands for, by `turn-text`.
+use Prim.Native.Nat.{_-_, _≤_}
+use mathlib.Core.Path.{refl}
+use native.Mathlib.Omega.{arith}
+use borrow.Author.Needs.{needs}
+use lib.ListN.{length, drop}
+use Rattle.store.proofs.Laws.{Left, start, part, also, done, same, kept}
+use Rattle.jsontext.specs.Escape.{unescape}
+use Rattle.jsontext.proofs.Unescape.{unescape-run, unescape-end, turn-text, steps}
 use Rattle.jsontext.proofs.put_text.Statement.{statement}
 use Rattle.jsontext.proofs.put_text.Tie as tie
-use Rattle.jsontext.proofs.put_text.Reads as reads
-use Rattle.jsontext.proofs.put_text.Lts as lts
-use Rattle.jsontext.proofs.escape_or_itself.Reads as escape-or-itself-reads
-use Rattle.jsontext.proofs.next_backslash.Reads as next-backslash-reads
-use Rattle.store.proofs.put_part.Reads as put-part-reads
-use Rattle.utf8.proofs.put_scalar.Reads as put-scalar-reads
 
 abbrev Inv-loop : tie.InvT-loop
-Inv-loop out₀ at t i₀ o₀ out i o = ?
+Inv-loop out₀ at t i₀ o₀ out i o = Left out₀ at (unescape t) out o (unescape (drop i t))
 
 abbrev μ-loop : tie.MeasureT-loop
-μ-loop out₀ at t i₀ o₀ out i o = ?
+μ-loop out₀ at t i₀ o₀ out i o = length t - i
 
--- src/lib.rt:550:5
-loop-holds : tie.Need-loop-holds Inv-loop μ-loop
-loop-holds c = ?
+again : tie.Need-loop-again Inv-loop μ-loop
+again c =
+    let r = c .before .before .before .before .before .before .before .before .before .before .next-backslash in
+    let x = c .before .before .before .before .escape-or-itself in
+    let left = part (also (unescape-run _ _ (r .ensures)) (c .before .before .before .before .before .before .before .before .before .before .before .before .loop .inv)) (c .before .before .before .before .before .before .before .before .put-part .ensures) in
+    part (also (turn-text _ _ _ (x .result) (r .ensures) (c .before .before .before .before .before .if1 .left) (x .ensures)) left) (c .before .before .put-scalar .ensures)
 
--- src/lib.rt:551:13
-next-backslash-requires : tie.Need-next-backslash-requires Inv-loop μ-loop
-next-backslash-requires c κs = ?
-
--- src/lib.rt:552:43
-sub-put-part : tie.Need-sub-put-part Inv-loop μ-loop
-sub-put-part c = ?
-
--- src/lib.rt:552:9
-put-part-requires : tie.Need-put-part-requires Inv-loop μ-loop
-put-part-requires c κs = ?
-
--- src/lib.rt:554:13
-same-length : tie.Need-same-length Inv-loop μ-loop
-same-length c = ?
-
--- src/lib.rt:554:13
 returns : tie.Need-returns Inv-loop μ-loop
-returns c = ?
-
--- src/lib.rt:556:13
-escape-or-itself-requires : tie.Need-escape-or-itself-requires Inv-loop μ-loop
-escape-or-itself-requires c κs = ?
-
--- src/lib.rt:559:9
-put-scalar-requires : tie.Need-put-scalar-requires Inv-loop μ-loop
-put-scalar-requires c κs = ?
-
--- src/lib.rt:560:13
-add-i : tie.Need-add-i Inv-loop μ-loop
-add-i c = ?
-
--- src/lib.rt:550:5
-loop-less : tie.Need-loop-less Inv-loop μ-loop
-loop-less c = ?
-
--- src/lib.rt:550:5
-loop-again : tie.Need-loop-again Inv-loop μ-loop
-loop-again c = ?
-
--- src/lib.rt:545:1
-same-length-2 : tie.Need-same-length-2 Inv-loop μ-loop
-same-length-2 c = ?
-
--- src/lib.rt:545:1
-returns-2 : tie.Need-returns-2 Inv-loop μ-loop
-returns-2 c = ?
+returns c =
+    let left = part (also (unescape-run _ _ (c .before .before .before .before .before .next-backslash .ensures)) (c .before .before .before .before .before .before .before .loop .inv)) (c .before .before .before .put-part .ensures) in
+    done (also (unescape-end _ _ (c .if1 .taken)) left)
 
 pub put-text-spec : {M : Type 1} → statement M
 put-text-spec =
@@ -71,16 +35,16 @@ put-text-spec =
     (tie.spec
     Inv-loop
     μ-loop
-    loop-holds
-    next-backslash-requires
-    sub-put-part
-    put-part-requires
-    same-length
+    (λ c. start)
+    (λ c κs. search needs)
+    (λ c. search steps)
+    (λ c κs. search needs)
+    (λ c. kept (returns c))
     returns
-    escape-or-itself-requires
-    put-scalar-requires
-    add-i
-    loop-less
-    loop-again
-    same-length-2
-    returns-2)
+    (λ c κs. search needs)
+    (λ c κs. search needs)
+    (λ c. search steps)
+    (λ c. search steps)
+    again
+    (λ c. same (c .before .loop .inv))
+    (λ c. done (also (unescape-end _ _ (c .loop-test .left)) (c .before .loop .inv))))
