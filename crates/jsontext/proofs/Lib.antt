@@ -9,4 +9,5 @@ pub mod ValueComplete
 pub mod Unambiguous
 pub mod Meaning
 pub mod Unescape
+pub mod Parts
 pub mod Walk

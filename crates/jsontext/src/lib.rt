@@ -648,13 +648,13 @@ fn put_halves(out: &mut [u8], at: usize, half: u8, t: &[u8]) -> Half
     let mut h = half;
     while i < t.len() {
         let v = hex::value_of(t[i]) % 16;
+        i += 1;
         if h < 16 {
             o = store::put_byte(out, o, 16 * h + v);
             h = 16;
-        } else {
-            h = v;
+            continue;
         }
-        i += 1;
+        h = v;
     }
     Half { at: o, value: h }
 }

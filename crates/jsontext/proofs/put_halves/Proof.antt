@@ -1,59 +1,42 @@
+-- `put_halves` writes a byte for each two digits. The invariant: what is left to write are the bytes of the half that is read and of t from here on.
+-- A turn is `held-byte` and one byte written, or `held-half` and none.
+use Prim.Native.Nat.{_-_}
+use mathlib.Core.Path.{_≡_, refl, sym, ap, _∙_}
+use native.Mathlib.Omega.{arith}
+use borrow.Author.Needs.{needs}
+use lib.ListN.{length, drop}
+use Rattle.scan.proofs.Step.{rest-more, rest-none}
+use Rattle.store.proofs.Laws.{Left, start, one, also, done, same}
+use Rattle.hex.specs.Hex.{unhex}
+use Rattle.jsontext.specs.Half.{held, halfBehind}
+use Rattle.jsontext.proofs.Parts.{held-byte, held-half, held-end, behind-byte, behind-half, behind-end}
 use Rattle.jsontext.proofs.put_halves.Statement.{statement}
 use Rattle.jsontext.proofs.put_halves.Tie as tie
-use Rattle.jsontext.proofs.put_halves.Reads as reads
-use Rattle.jsontext.proofs.put_halves.Lts as lts
-use Rattle.hex.proofs.value_of.Reads as value-of-reads
-use Rattle.store.proofs.put_byte.Reads as put-byte-reads
 
 abbrev Inv-loop : tie.InvT-loop
-Inv-loop out₀ at half t i₀ o₀ h₀ out i o h = ?
+Inv-loop out₀ at half t i₀ o₀ h₀ out i o h =
+    Left out₀ at (unhex (held h₀ t)) out o (unhex (held h (drop i t))) × (halfBehind h₀ t ≡ halfBehind h (drop i t))
 
 abbrev μ-loop : tie.MeasureT-loop
-μ-loop out₀ at half t i₀ o₀ h₀ out i o h = ?
+μ-loop out₀ at half t i₀ o₀ h₀ out i o h = length t - i
 
--- src/lib.rt:659:5
-loop-holds : tie.Need-loop-holds Inv-loop μ-loop
-loop-holds c = ?
+-- the half that is read and a digit: a byte
+again : tie.Need-loop-again Inv-loop μ-loop
+again c =
+    let q = c .before .before .before .before .before .before .before .before .loop in
+    let k = c .before .before .before .before .if1 .taken in
+    let r = rest-more _ _ (c .before .before .before .before .before .before .before .loop-test .taken) in
+    let left = also (ap (λ l. unhex (held (q .h) l)) r ∙ held-byte (q .h) _ _ k) (q .inv .0) in
+    (one left (rw (c .before .before .before .before .before .value-of .ensures) at (c .before .before .put-byte .ensures)), q .inv .1 ∙ ap (halfBehind (q .h)) r ∙ behind-byte (q .h) _ _ k)
 
--- src/lib.rt:660:31
-shared-slice-read-value-of : tie.Need-shared-slice-read-value-of Inv-loop μ-loop
-shared-slice-read-value-of c = ?
-
--- src/lib.rt:660:17
-value-of-requires : tie.Need-value-of-requires Inv-loop μ-loop
-value-of-requires c κs = ?
-
--- src/lib.rt:662:41
-mul-put-byte : tie.Need-mul-put-byte Inv-loop μ-loop
-mul-put-byte c = ?
-
--- src/lib.rt:662:41
-add-put-byte : tie.Need-add-put-byte Inv-loop μ-loop
-add-put-byte c = ?
-
--- src/lib.rt:662:13
-put-byte-requires : tie.Need-put-byte-requires Inv-loop μ-loop
-put-byte-requires c κs = ?
-
--- src/lib.rt:667:9
-add-i : tie.Need-add-i Inv-loop μ-loop
-add-i c = ?
-
--- src/lib.rt:659:5
-loop-less : tie.Need-loop-less Inv-loop μ-loop
-loop-less c = ?
-
--- src/lib.rt:659:5
-loop-again : tie.Need-loop-again Inv-loop μ-loop
-loop-again c = ?
-
--- src/lib.rt:652:1
-same-length : tie.Need-same-length Inv-loop μ-loop
-same-length c = ?
-
--- src/lib.rt:652:1
-returns : tie.Need-returns Inv-loop μ-loop
-returns c = ?
+-- no half is read: the digit is the half
+again-2 : tie.Need-loop-again-2 Inv-loop μ-loop
+again-2 c =
+    let q = c .before .before .before .before .loop in
+    let k = c .if1 .left in
+    let r = rest-more _ _ (c .before .before .before .loop-test .taken) in
+    let v = c .before .value-of .ensures in
+    rw v (also (ap (λ l. unhex (held (q .h) l)) r ∙ held-half (q .h) _ _ k) (q .inv .0), q .inv .1 ∙ ap (halfBehind (q .h)) r ∙ behind-half (q .h) _ _ k)
 
 pub put-halves-spec : {M : Type 1} → statement M
 put-halves-spec =
@@ -61,14 +44,19 @@ put-halves-spec =
     (tie.spec
     Inv-loop
     μ-loop
-    loop-holds
-    shared-slice-read-value-of
-    value-of-requires
-    mul-put-byte
-    add-put-byte
-    put-byte-requires
-    add-i
-    loop-less
-    loop-again
-    same-length
-    returns)
+    (λ c. (start, refl))
+    (λ c. search needs)
+    (λ c κs. search needs)
+    (λ c. omega arith)
+    (λ c. omega arith)
+    (λ c. omega arith)
+    (λ c κs. search needs)
+    (λ c. omega arith)
+    again
+    (λ c. omega arith)
+    again-2
+    (λ c. same (c .before .loop .inv .0))
+    (λ c.
+    let q = c .before .loop in
+    let n = rest-none _ _ (c .loop-test .left) in
+    (done (also (ap (λ l. unhex (held (q .h) l)) n ∙ held-end (q .h)) (q .inv .0)), sym (q .inv .1 ∙ ap (halfBehind (q .h)) n ∙ behind-end (q .h)))))

@@ -1,74 +1,34 @@
+-- `text_digits` asks run by run and escape by escape. The invariant: the text is digits exactly if the text from here on is.
+-- A turn is `digits-run` and `digits-escape`.
+use Prim.Native.Nat.{_-_}
+use native.Mathlib.Omega.{arith}
+use borrow.Author.Needs.{needs}
+use borrow.Author.Tests.{not-true, not-false}
+use lib.ListN.{length}
+use Rattle.jsontext.proofs.Unescape.{run-slash, steps}
+use Rattle.jsontext.proofs.Parts.{InDigits, digits-start, digits-run, digits-run-off, digits-escape, digits-escape-off, digits-end}
 use Rattle.jsontext.proofs.text_digits.Statement.{statement}
 use Rattle.jsontext.proofs.text_digits.Tie as tie
-use Rattle.jsontext.proofs.text_digits.Reads as reads
-use Rattle.jsontext.proofs.text_digits.Lts as lts
-use Rattle.hex.proofs.all_digits.Reads as all-digits-reads
-use Rattle.jsontext.proofs.escape_or_itself.Reads as escape-or-itself-reads
-use Rattle.jsontext.proofs.next_backslash.Reads as next-backslash-reads
-use Rattle.jsontext.proofs.scalar_digits.Reads as scalar-digits-reads
-use Rattle.scan.proofs.part.Reads as part-reads
 
 abbrev Inv-loop : tie.InvT-loop
-Inv-loop t i₀ i = ?
+Inv-loop t i₀ i = InDigits t i
 
 abbrev μ-loop : tie.MeasureT-loop
-μ-loop t i₀ i = ?
+μ-loop t i₀ i = length t - i
 
--- src/lib.rt:579:5
-loop-holds : tie.Need-loop-holds Inv-loop μ-loop
-loop-holds c = ?
+again : tie.Need-loop-again Inv-loop μ-loop
+again c =
+    let q = c .before .before .before .before .before .before .before .next-backslash .ensures in
+    let h = c .before .before .before .if2 .left in
+    let v = digits-run (c .before .before .before .before .before .before .before .before .before .loop .inv) q (c .before .before .before .before .before .before .part .ensures) (c .before .before .before .before .before .all-digits .ensures) (not-false _ (c .before .before .before .before .if1 .left)) in
+    digits-escape v h (run-slash _ _ q h) (c .before .before .escape-or-itself .ensures) (c .before .scalar-digits .ensures) (not-false _ (c .if3 .left))
 
--- src/lib.rt:580:13
-next-backslash-requires : tie.Need-next-backslash-requires Inv-loop μ-loop
-next-backslash-requires c κs = ?
-
--- src/lib.rt:581:46
-sub-part : tie.Need-sub-part Inv-loop μ-loop
-sub-part c = ?
-
--- src/lib.rt:581:29
-part-requires : tie.Need-part-requires Inv-loop μ-loop
-part-requires c κs = ?
-
--- src/lib.rt:581:13
-all-digits-requires : tie.Need-all-digits-requires Inv-loop μ-loop
-all-digits-requires c κs = ?
-
--- src/lib.rt:582:13
-returns : tie.Need-returns Inv-loop μ-loop
-returns c = ?
-
--- src/lib.rt:585:13
-returns-2 : tie.Need-returns-2 Inv-loop μ-loop
-returns-2 c = ?
-
--- src/lib.rt:587:13
-escape-or-itself-requires : tie.Need-escape-or-itself-requires Inv-loop μ-loop
-escape-or-itself-requires c κs = ?
-
--- src/lib.rt:590:13
-scalar-digits-requires : tie.Need-scalar-digits-requires Inv-loop μ-loop
-scalar-digits-requires c κs = ?
-
--- src/lib.rt:591:13
 returns-3 : tie.Need-returns-3 Inv-loop μ-loop
-returns-3 c = ?
-
--- src/lib.rt:593:13
-add-i : tie.Need-add-i Inv-loop μ-loop
-add-i c = ?
-
--- src/lib.rt:579:5
-loop-less : tie.Need-loop-less Inv-loop μ-loop
-loop-less c = ?
-
--- src/lib.rt:579:5
-loop-again : tie.Need-loop-again Inv-loop μ-loop
-loop-again c = ?
-
--- src/lib.rt:575:1
-returns-4 : tie.Need-returns-4 Inv-loop μ-loop
-returns-4 c = ?
+returns-3 c =
+    let q = c .before .before .before .before .before .before .before .next-backslash .ensures in
+    let h = c .before .before .before .if2 .left in
+    let v = digits-run (c .before .before .before .before .before .before .before .before .before .loop .inv) q (c .before .before .before .before .before .before .part .ensures) (c .before .before .before .before .before .all-digits .ensures) (not-false _ (c .before .before .before .before .if1 .left)) in
+    digits-escape-off v h (run-slash _ _ q h) (c .before .before .escape-or-itself .ensures) (c .before .scalar-digits .ensures) (not-true _ (c .if3 .taken))
 
 pub text-digits-spec : {M : Type 1} → statement M
 text-digits-spec =
@@ -76,17 +36,17 @@ text-digits-spec =
     (tie.spec
     Inv-loop
     μ-loop
-    loop-holds
-    next-backslash-requires
-    sub-part
-    part-requires
-    all-digits-requires
-    returns
-    returns-2
-    escape-or-itself-requires
-    scalar-digits-requires
+    (λ c. digits-start _)
+    (λ c κs. search needs)
+    (λ c. search steps)
+    (λ c κs. search needs)
+    (λ c κs. search needs)
+    (λ c. digits-run-off (c .before .before .before .before .before .loop .inv) (c .before .before .before .next-backslash .ensures) (c .before .before .part .ensures) (c .before .all-digits .ensures) (not-true _ (c .if1 .taken)))
+    (λ c. digits-end (digits-run (c .before .before .before .before .before .before .loop .inv) (c .before .before .before .before .next-backslash .ensures) (c .before .before .before .part .ensures) (c .before .before .all-digits .ensures) (not-false _ (c .before .if1 .left))) (c .if2 .taken))
+    (λ c κs. search needs)
+    (λ c κs. search needs)
     returns-3
-    add-i
-    loop-less
-    loop-again
-    returns-4)
+    (λ c. search steps)
+    (λ c. search steps)
+    again
+    (λ c. digits-end (c .before .loop .inv) (c .loop-test .left)))

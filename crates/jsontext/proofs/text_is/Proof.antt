@@ -1,87 +1,34 @@
+-- `text_is` compares run by run and escape by escape. The invariant, `InName`: the text is the name exactly if the text from here on is the name from there on.
+-- A turn is `name-run` and `name-escape`.
+use Prim.Native.Nat.{_-_}
+use native.Mathlib.Omega.{arith}
+use borrow.Author.Needs.{needs}
+use borrow.Author.Tests.{not-true, not-false}
+use lib.ListN.{length}
+use Rattle.jsontext.proofs.Unescape.{run-slash, steps}
+use Rattle.jsontext.proofs.Parts.{InName, name-start, name-run, name-run-off, name-escape, name-escape-off, name-end}
 use Rattle.jsontext.proofs.text_is.Statement.{statement}
 use Rattle.jsontext.proofs.text_is.Tie as tie
-use Rattle.jsontext.proofs.text_is.Reads as reads
-use Rattle.jsontext.proofs.text_is.Lts as lts
-use Rattle.jsontext.proofs.escape_or_itself.Reads as escape-or-itself-reads
-use Rattle.jsontext.proofs.next_backslash.Reads as next-backslash-reads
-use Rattle.jsontext.proofs.scalar_stands.Reads as scalar-stands-reads
-use Rattle.scan.proofs.part.Reads as part-reads
-use Rattle.scan.proofs.stands_at.Reads as stands-at-reads
-use Rattle.utf8.proofs.scalar_len.Reads as scalar-len-reads
 
 abbrev Inv-loop : tie.InvT-loop
-Inv-loop t name i₀ j₀ i j = ?
+Inv-loop t name i₀ j₀ i j = InName t name i j
 
 abbrev μ-loop : tie.MeasureT-loop
-μ-loop t name i₀ j₀ i j = ?
+μ-loop t name i₀ j₀ i j = length t - i
 
--- src/lib.rt:613:5
-loop-holds : tie.Need-loop-holds Inv-loop μ-loop
-loop-holds c = ?
+again : tie.Need-loop-again Inv-loop μ-loop
+again c =
+    let q = c .before .before .before .before .before .before .before .before .next-backslash .ensures in
+    let h = c .before .before .before .before .if2 .left in
+    let v = name-run (c .before .before .before .before .before .before .before .before .before .before .loop .inv) q (c .before .before .before .before .before .before .before .part .ensures) (c .before .before .before .before .before .before .stands-at .ensures) (not-false _ (c .before .before .before .before .before .if1 .left)) in
+    name-escape v h (run-slash _ _ q h) (c .before .before .before .escape-or-itself .ensures) (c .before .before .scalar-stands .ensures) (not-false _ (c .before .if3 .left)) (c .scalar-len .ensures .0)
 
--- src/lib.rt:614:13
-next-backslash-requires : tie.Need-next-backslash-requires Inv-loop μ-loop
-next-backslash-requires c κs = ?
-
--- src/lib.rt:615:19
-sub-run : tie.Need-sub-run Inv-loop μ-loop
-sub-run c = ?
-
--- src/lib.rt:616:29
-part-requires : tie.Need-part-requires Inv-loop μ-loop
-part-requires c κs = ?
-
--- src/lib.rt:616:13
-stands-at-requires : tie.Need-stands-at-requires Inv-loop μ-loop
-stands-at-requires c κs = ?
-
--- src/lib.rt:617:13
-returns : tie.Need-returns Inv-loop μ-loop
-returns c = ?
-
--- src/lib.rt:619:9
-add-j : tie.Need-add-j Inv-loop μ-loop
-add-j c = ?
-
--- src/lib.rt:621:13
-returns-2 : tie.Need-returns-2 Inv-loop μ-loop
-returns-2 c = ?
-
--- src/lib.rt:623:13
-escape-or-itself-requires : tie.Need-escape-or-itself-requires Inv-loop μ-loop
-escape-or-itself-requires c κs = ?
-
--- src/lib.rt:626:13
-scalar-stands-requires : tie.Need-scalar-stands-requires Inv-loop μ-loop
-scalar-stands-requires c κs = ?
-
--- src/lib.rt:627:13
 returns-3 : tie.Need-returns-3 Inv-loop μ-loop
-returns-3 c = ?
-
--- src/lib.rt:629:14
-scalar-len-requires : tie.Need-scalar-len-requires Inv-loop μ-loop
-scalar-len-requires c κs = ?
-
--- src/lib.rt:629:9
-add-j-2 : tie.Need-add-j-2 Inv-loop μ-loop
-add-j-2 c = ?
-
--- src/lib.rt:630:13
-add-i : tie.Need-add-i Inv-loop μ-loop
-add-i c = ?
-
--- src/lib.rt:613:5
-loop-less : tie.Need-loop-less Inv-loop μ-loop
-loop-less c = ?
-
--- src/lib.rt:613:5
-loop-again : tie.Need-loop-again Inv-loop μ-loop
-loop-again c = ?
-
--- src/lib.rt:608:1
-returns-4 : tie.Need-returns-4 Inv-loop μ-loop
-returns-4 c = ?
+returns-3 c =
+    let q = c .before .before .before .before .before .before .before .next-backslash .ensures in
+    let h = c .before .before .before .if2 .left in
+    let v = name-run (c .before .before .before .before .before .before .before .before .before .loop .inv) q (c .before .before .before .before .before .before .part .ensures) (c .before .before .before .before .before .stands-at .ensures) (not-false _ (c .before .before .before .before .if1 .left)) in
+    name-escape-off v h (run-slash _ _ q h) (c .before .before .escape-or-itself .ensures) (c .before .scalar-stands .ensures) (not-true _ (c .if3 .taken))
 
 pub text-is-spec : {M : Type 1} → statement M
 text-is-spec =
@@ -89,20 +36,20 @@ text-is-spec =
     (tie.spec
     Inv-loop
     μ-loop
-    loop-holds
-    next-backslash-requires
-    sub-run
-    part-requires
-    stands-at-requires
-    returns
-    add-j
-    returns-2
-    escape-or-itself-requires
-    scalar-stands-requires
+    (λ c. name-start _ _)
+    (λ c κs. search needs)
+    (λ c. search steps)
+    (λ c κs. search needs)
+    (λ c κs. search needs)
+    (λ c. name-run-off (c .before .before .before .before .before .loop .inv) (c .before .before .before .next-backslash .ensures) (c .before .before .part .ensures) (c .before .stands-at .ensures) (not-true _ (c .if1 .taken)))
+    (λ c. omega (arith, name-run (c .before .before .before .before .before .loop .inv) (c .before .before .before .next-backslash .ensures) (c .before .before .part .ensures) (c .before .stands-at .ensures) (not-false _ (c .if1 .left))))
+    (λ c. name-end (name-run (c .before .before .before .before .before .before .loop .inv) (c .before .before .before .before .next-backslash .ensures) (c .before .before .before .part .ensures) (c .before .before .stands-at .ensures) (not-false _ (c .before .if1 .left))) (c .if2 .taken))
+    (λ c κs. search needs)
+    (λ c κs. search needs)
     returns-3
-    scalar-len-requires
-    add-j-2
-    add-i
-    loop-less
-    loop-again
-    returns-4)
+    (λ c κs. search needs)
+    (λ c. omega (arith, again c))
+    (λ c. search steps)
+    (λ c. search steps)
+    again
+    (λ c. name-end (c .before .loop .inv) (c .loop-test .left)))
