@@ -18,7 +18,7 @@ use Rattle.scan.proofs.Step.{pick-by, rest-none, rest-more, false-true, pick-tr
 use Rattle.scan.proofs.SpanLaws.{span-fits}
 use Rattle.scan.proofs.PlaceLaws.{stands-span}
 use Rattle.store.specs.Store.{Buffer, Wrote}
-use Rattle.store.proofs.Laws.{puts-eq}
+use Rattle.store.proofs.Laws.{Left, puts-eq}
 use Rattle.utf8.specs.Encode.{Scalar, below, above, encode}
 use Rattle.utf8.proofs.EncodeLaws.{encode-length, encode-none}
 use Rattle.hex.specs.Hex.{valueOf, digitOf, unhex, allDigits}
@@ -30,7 +30,7 @@ use Rattle.jsontext.specs.Half.{held, halfBehind}
 use Rattle.jsontext.specs.declared.Escape.{Escape}
 use Rattle.jsontext.specs.Escape.{escapeAt, plainAt, orItself, unescape}
 use Rattle.jsontext.proofs.Meaning.{unescape-escape}
-use Rattle.jsontext.proofs.Unescape.{run-inside, unescape-run, unescape-end, taken}
+use Rattle.jsontext.proofs.Unescape.{run-inside, unescape-run, unescape-end, taken, turn-text}
 
 -- ---- the bytes of a scalar value in an array of four
 
@@ -248,3 +248,21 @@ module _ {t name : List ℕ} {i j : ℕ} (v : InName t name i j) where
 
   pub name-end : length t ≤ i → eqb j (length name) ≡ sameText (unescape t) name
   name-end h = same-end name j (v .same ∙ ap (λ (m : List ℕ). sameText m (drop j name)) (unescape-end t i h)) (v .within)
+
+-- two digits for a byte, over a run and over an escape of a spelled string
+pub unhex-run : (t : List ℕ) (i h : ℕ) {e : ℕ} → e ≡ plainAt t i
+    → unhex (held h (unescape (drop i t)))
+    ≡ unhex (held h (take (e - i) (drop i t))) ++ unhex (held (halfBehind h (take (e - i) (drop i t))) (unescape (drop e t)))
+unhex-run t i h {e} q = ap (λ (l : List ℕ). unhex (held h l)) (unescape-run t i q) ∙ held-append h (take (e - i) (drop i t)) (unescape (drop e t))
+
+pub unhex-escape : (t : List ℕ) (i e h : ℕ) {x : Escape} → e ≡ plainAt t i → e < length t → x ≡ orItself (escapeAt t e)
+    → unhex (held h (unescape (drop e t))) ≡ unhex (held h (encode (x .scalar))) ++ unhex (held (halfBehind h (encode (x .scalar))) (unescape (drop (e + x .width) t)))
+unhex-escape t i e h {x} q l f =
+    ap (λ (l : List ℕ). unhex (held h l)) (turn-text t i e x q l f) ∙ held-append h (encode (x .scalar)) (unescape (drop (e + x .width) t))
+
+pub unhex-end : (t : List ℕ) (i h : ℕ) → length t ≤ i → unhex (held h (unescape (drop i t))) ≡ []
+unhex-end t i h l = ap (λ (m : List ℕ). unhex (held h m)) (unescape-end t i l) ∙ held-end h
+
+-- what is left, with another half of the same value
+pub with-half : {d : List ℕ} {at : ℕ} {all d′ : List ℕ} {o : ℕ} (h k : ℕ) (l : List ℕ) → k ≡ h → Left d at all d′ o (unhex (held h l)) → Left d at all d′ o (unhex (held k l))
+with-half h k l e v = rw e v

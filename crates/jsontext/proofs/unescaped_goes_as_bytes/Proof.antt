@@ -1,43 +1,22 @@
+-- `unescaped_goes_as_bytes` makes the tests of `goesAsBytes` on the text's length and asks `text_digits`.
+-- By what each call promises of the part of the input.
 use borrow.Author.Needs.{needs}
+use borrow.Author.Tests.{eq-eqb, ne-eqb}
+use Rattle.hex.specs.Hex.{goesAsBytes}
 use Rattle.jsontext.proofs.unescaped_goes_as_bytes.Statement.{statement}
 use Rattle.jsontext.proofs.unescaped_goes_as_bytes.Tie as tie
-use Rattle.jsontext.proofs.unescaped_goes_as_bytes.Reads as reads
-use Rattle.jsontext.proofs.unescaped_goes_as_bytes.Lts as lts
-use Rattle.jsontext.proofs.text_digits.Reads as text-digits-reads
-use Rattle.jsontext.proofs.unescaped_len.Reads as unescaped-len-reads
-use Rattle.scan.proofs.part.Reads as part-reads
-
--- src/lib.rt:717:9
-unescaped-len-requires : tie.Need-unescaped-len-requires
-unescaped-len-requires c κs = search needs
-
--- src/lib.rt:719:9
-returns : tie.Need-returns
-returns c = ?
-
--- src/lib.rt:722:28
-part-requires : tie.Need-part-requires
-part-requires c κs = search needs
-
--- src/lib.rt:722:9
-text-digits-requires : tie.Need-text-digits-requires
-text-digits-requires c κs = search needs
-
--- src/lib.rt:722:9
-returns-2 : tie.Need-returns-2
-returns-2 c = ?
-
--- src/lib.rt:714:1
-returns-3 : tie.Need-returns-3
-returns-3 c = ?
 
 pub unescaped-goes-as-bytes-spec : {M : Type 1} → statement M
+unfolding goesAsBytes
 unescaped-goes-as-bytes-spec =
     tie.close
     (tie.spec
-    unescaped-len-requires
-    returns
-    part-requires
-    text-digits-requires
-    returns-2
-    returns-3)
+    (λ c κs. search needs)
+    (λ c. simp (← c .before .unescaped-len .ensures .0, eq-eqb _ _ (c .if1 .taken)))
+    (λ c κs. search needs)
+    (λ c κs. search needs)
+    (λ c.
+    let d = c .before .before in
+    let digits = rw (c .before .part .ensures) at (c .text-digits .ensures) in
+    simp (← d .before .before .unescaped-len .ensures .0, ne-eqb _ _ (d .before .if1 .left), eq-eqb _ _ (d .if2 .taken), ← digits))
+    (λ c. simp (← c .before .before .unescaped-len .ensures .0, ne-eqb _ _ (c .before .if1 .left), ne-eqb _ _ (c .if2 .left))))
