@@ -3,3 +3,4 @@ pub mod SpanLaws
 pub mod PlaceLaws
 pub mod Reading
 pub mod AllLaws
+pub mod Many

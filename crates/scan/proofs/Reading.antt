@@ -72,3 +72,9 @@ pub read-gives : {A B : Type 0} {G : A → List ℕ → Type 0} {Q : B → Type 
     → Reads G s a r → ((x : A) (l : List ℕ) (e : ℕ) → G x l → Span s a l e → Gives Q (f (record { value = x; next = e }))) → Gives Q (andThen r f)
 read-gives f (reads {x = x} {l = l} {e = e} g r) k = k x l e g r
 read-gives f fails k = lacks
+
+-- two reads that are one have one value and one place
+pub read-same : {A : Type 0} {a b : A} {m n : ℕ} → read a m ≡ read b n → (a ≡ b) × (m ≡ n)
+read-same {A} {a} {b} {m} {n} e =
+    let f : _≡_ {A = Read A} (record { value = a; next = m }) (record { value = b; next = n }) = cc in
+    (ap (λ (r : Read A). r .value) f, ap (λ (r : Read A). r .next) f)

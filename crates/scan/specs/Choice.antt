@@ -1,16 +1,17 @@
 -- How a definition chooses and goes on: `pick` by a test, `Answer` for what a reader tells, `andThen` for one read after another. Assumes nothing.
-use Prim.Native.Nat.{ℕ}
+use Prim.Native.Nat.{ℕ, zero, suc}
 use mathlib.Core.Bool.{Bool, true, false}
+use mathlib.Core.List.{List, [], _∷_}
 
 -- the choice by a test
 abbrev pub pick : {A : Type 0} → Bool → A → A → A
 pick true a b = a
 pick false a b = b
 
--- both tests hold
-abbrev pub both : Bool → Bool → Bool
-both true b = b
-both false b = false
+-- one of two tests holds
+abbrev pub either : Bool → Bool → Bool
+either true b = true
+either false b = b
 
 -- What a reader tells: a value, or a refusal by its number and its place (document 01, "Numbers of refusal").
 pub data Answer (A : Type 0) : Type 0 where
@@ -30,3 +31,11 @@ read a next = shown (record { value = a; next = next })
 abbrev pub andThen : {A B : Type 0} → Answer A → (A → Answer B) → Answer B
 andThen (shown a) f = f a
 andThen (refused n p) f = refused n p
+
+-- n reads, one after the other, as one read of a list
+unfoldable pub many : {A : Type 0} → (ℕ → Answer (Read A)) → ℕ → ℕ → Answer (Read (List A))
+many item zero at = read [] at
+many item (suc n) at =
+    andThen (item at) λ x.
+    andThen (many item n (x .next)) λ xs.
+    read (x .value ∷ xs .value) (xs .next)

@@ -12,3 +12,13 @@ written text d = pick (leb (length text) (length d)) (shown (length text)) (refu
 -- the text and then d's own bytes behind it, or d as it was
 unfoldable pub filled : List ℕ → List ℕ → List ℕ
 filled text d = pick (leb (length text) (length d)) (text ++ drop (length text) d) d
+
+-- an entry that reads something and writes its text: the reader's refusal, or the length written, or 11
+abbrev pub writes : {A : Type 0} → (A → List ℕ) → Answer A → List ℕ → Answer ℕ
+writes text (shown a) d = written (text a) d
+writes text (refused n p) d = refused n p
+
+-- what it leaves: on a refusal d as it was
+abbrev pub leaves : {A : Type 0} → (A → List ℕ) → Answer A → List ℕ → List ℕ
+leaves text (shown a) d = filled (text a) d
+leaves text (refused n p) d = d

@@ -1,0 +1,18 @@
+-- The entry answers the two numbers of `textsIn`.
+-- By what its callee told, case by case.
+use borrow.Author.Needs.{needs}
+use Rattle.kezubimoryu.proofs.kez_notepack_tag_len.Statement.{statement}
+use Rattle.kezubimoryu.proofs.kez_notepack_tag_len.Tie as tie
+
+some : tie.Need-returns
+some c =
+    let told = c .before .before in
+    rw (c .shown .ensures, ← told .before .before .texts-in .ensures, told .found .given .1)
+
+none : tie.Need-returns-2
+none c =
+    let told = c .before .before in
+    rw (c .refused .ensures, ← told .before .before .texts-in .ensures, told .found2 .given .1)
+
+pub kez-notepack-tag-len-spec : {M : Type 1} → statement M
+kez-notepack-tag-len-spec = tie.close (tie.spec (λ c κs. search needs) (λ c. search needs) (λ c κs. search needs) (λ c. search needs) (λ c κs. search needs) some none)

@@ -1,0 +1,136 @@
+// The C entries: thin and total over the crates below. Each takes numbers and byte buffers and answers two numbers.
+use event::Refusal;
+use notepack::CountRead;
+use notepack::ElementRead;
+use notepack::HeadRead;
+use strict::PackWrite;
+use strict::StrictRead;
+ghost use mathlib.Core.Path.{_≡_};
+ghost use Rattle.scan.specs.Choice.{pick};
+ghost use Rattle.event.specs.Answers.{twoNumbers};
+ghost use Rattle.store.specs.Entry.{writes, leaves};
+ghost use Rattle.notepack.specs.Strict.{pack};
+ghost use Rattle.notepack.specs.Unpack.{unpack};
+ghost use Rattle.notepack.specs.Views.{numbersOf, textsIn, elementOf};
+ghost use Rattle.strict.specs.Strict.{strict};
+ghost use Rattle.kezubimoryu.specs.Entries.{ok, yesNo, told};
+
+// `kez_answer` of the header: refusal 0 and a value, or the number of refusal and its place.
+#[repr(C)]
+pub struct KezAnswer {
+    pub refusal: u64,
+    pub value: u64,
+}
+
+fn refused(r: Refusal) -> KezAnswer
+    ensures { λ a. ⌜ a ≡ record { refusal = r .number; value = r .place } ⌝ }
+{
+    KezAnswer {
+        refusal: r.number as u64,
+        value: r.place as u64,
+    }
+}
+
+fn shown(value: u64) -> KezAnswer
+    ensures { λ a. ⌜ a ≡ record { refusal = 0; value = value } ⌝ }
+{
+    KezAnswer { refusal: 0, value }
+}
+
+// A yes or no as 1 or 0.
+fn bit(b: bool) -> u64
+    ensures { λ r. ⌜ r ≡ pick b 1 0 ⌝ }
+{
+    if b { 1 } else { 0 }
+}
+
+#[no_mangle]
+pub extern "C" fn kez_notepack_read(
+    packed: &[u8],
+    created_at: &mut u64,
+    kind: &mut u64,
+    content_at: &mut u64,
+    content_len: &mut u64,
+    tag_count: &mut u64,
+) -> KezAnswer
+    ensures { λ a. ⌜ (a .refusal, a .value) ≡ twoNumbers (ok (numbersOf (now (packed .entry)))) ⌝ }
+    ensures { λ _. ⌜ now («created_at» .exit) ≡ told (numbersOf (now (packed .entry))) (λ h. h .«created_at») (now («created_at» .entry)) ⌝ }
+    ensures { λ _. ⌜ now (kind .exit) ≡ told (numbersOf (now (packed .entry))) (λ h. h .kind) (now (kind .entry)) ⌝ }
+    ensures { λ _. ⌜ now («content_at» .exit) ≡ told (numbersOf (now (packed .entry))) (λ h. h .content .at) (now («content_at» .entry)) ⌝ }
+    ensures { λ _. ⌜ now («content_len» .exit) ≡ told (numbersOf (now (packed .entry))) (λ h. h .content .len) (now («content_len» .entry)) ⌝ }
+    ensures { λ _. ⌜ now («tag_count» .exit) ≡ told (numbersOf (now (packed .entry))) (λ h. h .«tag_count») (now («tag_count» .entry)) ⌝ }
+{
+    let found = notepack::read_packed(packed);
+    match found {
+        HeadRead::Found(h) => {
+            let content = h.content;
+            *created_at = h.created_at;
+            *kind = h.kind;
+            *content_at = content.at as u64;
+            *content_len = content.len as u64;
+            *tag_count = h.tag_count;
+            shown(0)
+        }
+        HeadRead::Refused(r) => refused(r),
+    }
+}
+
+#[no_mangle]
+pub extern "C" fn kez_notepack_is_strict(packed: &[u8]) -> KezAnswer
+    ensures { λ a. ⌜ (a .refusal, a .value) ≡ twoNumbers (yesNo (strict (now (packed .entry)))) ⌝ }
+{
+    let found = strict::is_strict(packed);
+    match found {
+        StrictRead::Strict(b) => { shown(bit(b)) }
+        StrictRead::Refused(r) => refused(r),
+    }
+}
+
+#[no_mangle]
+pub extern "C" fn kez_notepack_write(packed: &[u8], out: &mut [u8]) -> KezAnswer
+    ensures { λ a. ⌜ (a .refusal, a .value) ≡ twoNumbers (writes pack (unpack (now (packed .entry))) (now (out .entry))) ⌝ }
+    ensures { λ _. ⌜ now (out .exit) ≡ leaves pack (unpack (now (packed .entry))) (now (out .entry)) ⌝ }
+{
+    let done = strict::write_strict(packed, out);
+    match done {
+        PackWrite::Written(n) => shown(n as u64),
+        PackWrite::Refused(r) => refused(r),
+    }
+}
+
+#[no_mangle]
+pub extern "C" fn kez_notepack_tag_len(packed: &[u8], tag: u64) -> KezAnswer
+    ensures { λ a. ⌜ (a .refusal, a .value) ≡ twoNumbers (textsIn tag (now (packed .entry))) ⌝ }
+{
+    let found = notepack::texts_in(packed, tag);
+    match found {
+        CountRead::Count(n) => shown(n),
+        CountRead::Refused(r) => refused(r),
+    }
+}
+
+#[no_mangle]
+pub extern "C" fn kez_notepack_element(
+    packed: &[u8],
+    tag: u64,
+    element: u64,
+    at: &mut u64,
+    len: &mut u64,
+    is_bytes: &mut u64,
+) -> KezAnswer
+    ensures { λ a. ⌜ (a .refusal, a .value) ≡ twoNumbers (ok (elementOf tag element (now (packed .entry)))) ⌝ }
+    ensures { λ _. ⌜ now (at .exit) ≡ told (elementOf tag element (now (packed .entry))) (λ p. p .at) (now (at .entry)) ⌝ }
+    ensures { λ _. ⌜ now (len .exit) ≡ told (elementOf tag element (now (packed .entry))) (λ p. p .len) (now (len .entry)) ⌝ }
+    ensures { λ _. ⌜ now («is_bytes» .exit) ≡ told (elementOf tag element (now (packed .entry))) (λ p. pick (p .raw) 1 0) (now («is_bytes» .entry)) ⌝ }
+{
+    let found = notepack::find_element(packed, tag, element);
+    match found {
+        ElementRead::Found(p) => {
+            *at = p.at as u64;
+            *len = p.len as u64;
+            *is_bytes = bit(p.raw);
+            shown(0)
+        }
+        ElementRead::Refused(r) => refused(r),
+    }
+}

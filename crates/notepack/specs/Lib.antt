@@ -1,0 +1,6 @@
+pub mod Layout
+pub mod Strict
+pub mod Unpack
+pub mod Tally
+pub mod Views
+pub mod Answers

@@ -1,0 +1,55 @@
+-- `write_strict` answers as document 01 says: the reader's refusal, 11 with the length needed, or the length written; and leaves the buffer so.
+-- By the laws of the entry for each outcome of the walk.
+use mathlib.Core.Path.{_≡_, sym, ap, _∙_}
+use native.Mathlib.Omega.{arith}
+use borrow.Author.Needs.{needs}
+use Rattle.scan.proofs.AllLaws.{all-places}
+use Rattle.notepack.specs.Answers.{walk}
+use Rattle.strict.proofs.Laws.{write-refused, write-short, write-fitted}
+use Rattle.strict.proofs.write_strict.Statement.{statement}
+use Rattle.strict.proofs.write_strict.Tie as tie
+
+short : tie.Need-returns
+short c =
+    let told = c .before .before .before in
+    let called = told .before .before in
+    let known = called .before .before in
+    let a = known .before .args in
+    let bytes = all-places (a .s .now) (λ i. omega (arith, known .shared-slice-known .given i)) in
+    write-short (a .s .now) bytes (a .out .now) _ _ (called .walk-packed .ensures) (ap walk (told .walked2 .given .1)) (c .if1 .taken)
+
+walked : tie.Need-copy-packed-requires
+walked c κs =
+    let told = c .before .before .before .before in
+    sym (told .before .before .walk-packed .ensures) ∙ ap walk (told .walked2 .given .1)
+
+refused : tie.Need-returns-2
+refused c =
+    let called = c .before .before .before in
+    let known = called .before .before in
+    let a = known .before .args in
+    let bytes = all-places (a .s .now) (λ i. omega (arith, known .shared-slice-known .given i)) in
+    write-refused (a .s .now) bytes (a .out .now) _ _ _ (called .walk-packed .ensures) (ap walk (c .before .walked .given .1))
+
+fitted : tie.Need-returns-3
+fitted c =
+    let tested = c .before .before .before .before in
+    let told = tested .before .before .before in
+    let called = told .before .before in
+    let known = called .before .before in
+    let a = known .before .args in
+    let bytes = all-places (a .s .now) (λ i. omega (arith, known .shared-slice-known .given i)) in
+    write-fitted (a .s .now) bytes (a .out .now) _ _ _ _ (called .walk-packed .ensures) (ap walk (told .walked2 .given .1)) (tested .if1 .left) (c .before .before .copy-packed .ensures)
+
+pub write-strict-spec : {M : Type 1} → statement M
+write-strict-spec =
+    tie.close
+    (tie.spec
+    (λ c κs. search needs)
+    (λ c. search needs)
+    (λ c. search needs)
+    short
+    walked
+    refused
+    (λ c. search needs)
+    fitted)

@@ -1,0 +1,116 @@
+//! The C entries of include/kezubimoryu.h, over this implementation.
+
+use crate::answer::{Answer, Refusal};
+use crate::rivals::Choice;
+use crate::{canonical, json, notepack, nson, rivals};
+
+#[repr(C)]
+pub struct KezAnswer {
+    refusal: u64,
+    value: u64,
+}
+
+fn told(answer: Answer<u64>) -> KezAnswer {
+    match answer {
+        Ok(value) => KezAnswer { refusal: 0, value },
+        Err(Refusal { number, place }) => KezAnswer { refusal: number as u64, value: place as u64 },
+    }
+}
+
+/// The bytes that a caller lends; a null pointer with length 0 is fine.
+unsafe fn lent<'a>(at: *const u8, length: usize) -> &'a [u8] {
+    if length == 0 {
+        &[]
+    } else {
+        unsafe { std::slice::from_raw_parts(at, length) }
+    }
+}
+
+unsafe fn lent_mut<'a>(at: *mut u8, length: usize) -> &'a mut [u8] {
+    if length == 0 {
+        &mut []
+    } else {
+        unsafe { std::slice::from_raw_parts_mut(at, length) }
+    }
+}
+
+#[no_mangle]
+pub unsafe extern "C" fn kez_notepack_read(
+    packed: *const u8,
+    packed_len: usize,
+    created_at: *mut u64,
+    kind: *mut u64,
+    content_at: *mut u64,
+    content_len: *mut u64,
+    tag_count: *mut u64,
+) -> KezAnswer {
+    told(notepack::read(unsafe { lent(packed, packed_len) }).map(|p| {
+        unsafe {
+            *created_at = p.created_at;
+            *kind = p.kind;
+            *content_at = p.content_at as u64;
+            *content_len = p.content_len as u64;
+            *tag_count = p.tag_count;
+        }
+        0
+    }))
+}
+
+#[no_mangle]
+pub unsafe extern "C" fn kez_notepack_is_strict(packed: *const u8, packed_len: usize) -> KezAnswer {
+    told(notepack::is_strict(unsafe { lent(packed, packed_len) }).map(u64::from))
+}
+
+#[no_mangle]
+pub unsafe extern "C" fn kez_notepack_tag_len(packed: *const u8, packed_len: usize, tag: u64) -> KezAnswer {
+    told(notepack::read(unsafe { lent(packed, packed_len) }).and_then(|p| p.tag_len(tag)))
+}
+
+#[no_mangle]
+pub unsafe extern "C" fn kez_notepack_element(
+    packed: *const u8,
+    packed_len: usize,
+    tag: u64,
+    element: u64,
+    at: *mut u64,
+    len: *mut u64,
+    is_bytes: *mut u64,
+) -> KezAnswer {
+    let found = notepack::read(unsafe { lent(packed, packed_len) }).and_then(|p| p.element(tag, element));
+    told(found.map(|text| {
+        unsafe {
+            *at = text.at as u64;
+            *len = text.payload.len() as u64;
+            *is_bytes = text.raw as u64;
+        }
+        0
+    }))
+}
+
+/// An entry that reads one lent buffer and writes another.
+macro_rules! writing {
+    ($name:ident, $function:path) => {
+        #[no_mangle]
+        pub unsafe extern "C" fn $name(from: *const u8, from_len: usize, out: *mut u8, out_len: usize) -> KezAnswer {
+            let (from, out) = unsafe { (lent(from, from_len), lent_mut(out, out_len)) };
+            told($function(from, out).map(|length| length as u64))
+        }
+    };
+}
+
+writing!(kez_notepack_write, notepack::write);
+writing!(kez_canonical_write, canonical::write);
+writing!(kez_nson_write, nson::write);
+writing!(kez_nson_read, nson::read);
+writing!(kez_json_read, json::read);
+
+#[no_mangle]
+pub unsafe extern "C" fn kez_rivals(first: *const u8, first_len: usize, second: *const u8, second_len: usize) -> KezAnswer {
+    let (first, second) = unsafe { (lent(first, first_len), lent(second, second_len)) };
+    told(match rivals::choose(first, second) {
+        Ok(Choice::NotRivals) => Ok(0),
+        Ok(Choice::First) => Ok(1),
+        Ok(Choice::Second) => Ok(2),
+        Err((refusal, _)) => Err(refusal),
+    })
+}

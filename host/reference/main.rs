@@ -1,0 +1,130 @@
+//! The line protocol over this implementation: one request a line on standard input, one answer a line.
+//!   reference < requests > answers
+//!   reference --selftest
+//!   reference --bench ENTRY FILE N      nanoseconds for a call, over N calls
+
+use reference::answer::{Answer, Refusal};
+use reference::rivals::{Choice, Which};
+use reference::{canonical, json, notepack, nson, rivals};
+use std::io::{self, BufRead, Write};
+
+mod selftest;
+
+fn main() {
+    let words: Vec<String> = std::env::args().skip(1).collect();
+    let words: Vec<&str> = words.iter().map(String::as_str).collect();
+    let good = match words[..] {
+        [] => answer_all().is_ok(),
+        ["--selftest"] => selftest::run(),
+        ["--bench", entry, file, calls] => bench(entry, file, calls),
+        _ => {
+            eprintln!("usage: reference [--selftest | --bench ENTRY FILE N]");
+            false
+        }
+    };
+    std::process::exit(!good as i32);
+}
+
+fn answer_all() -> io::Result<()> {
+    let mut out = io::BufWriter::new(io::stdout().lock());
+    for line in io::stdin().lock().lines() {
+        let answer = answer(&line?).unwrap_or_else(|| "no such request".into());
+        out.write_all(answer.as_bytes())?;
+        out.write_all(b"\n")?;
+    }
+    out.flush()
+}
+
+fn answer(line: &str) -> Option<String> {
+    let words: Vec<&str> = line.split(' ').collect();
+    let told = |answer: Answer<String>| answer.unwrap_or_else(|r| format!("refused {} {}", r.number, r.place));
+    let writes = |f: Writing, from: &str, room: &str| -> Option<String> {
+        let (from, mut out) = (bytes(from)?, vec![0; number(room)? as usize]);
+        Some(told(f(&from, &mut out).map(|length| format!("ok {length} {}", hex(&out[..length])))))
+    };
+    Some(match words[..] {
+        ["read", s] => told(
+            notepack::read(&bytes(s)?)
+                .map(|p| format!("ok {} {} {} {} {}", p.created_at, p.kind, p.content_at, p.content_len, p.tag_count)),
+        ),
+        ["strict", s] => told(notepack::is_strict(&bytes(s)?).map(|yes| if yes { "yes" } else { "no" }.into())),
+        ["content", s] => told(notepack::read(&bytes(s)?).map(|p| format!("ok {} {}", p.content_at, p.content_len))),
+        ["element", s, tag, element] => {
+            let (s, tag, element) = (bytes(s)?, number(tag)?, number(element)?);
+            let found = notepack::read(&s).and_then(|p| p.element(tag, element));
+            told(found.map(|text| format!("ok {} {} {}", text.at, text.payload.len(), text.raw as u8)))
+        }
+        ["lister", s] => notepack::list(&bytes(s)?).replace('\n', "\\n"),
+        ["rivals", first, second] => match rivals::choose(&bytes(first)?, &bytes(second)?) {
+            Ok(Choice::NotRivals) => "not_rivals".into(),
+            Ok(Choice::First) => "first".into(),
+            Ok(Choice::Second) => "second".into(),
+            Err((Refusal { number, place }, which)) => {
+                format!("refused {number} {place} {}", if which == Which::First { 1 } else { 2 })
+            }
+        },
+        [entry, s, room] => writes(writing(entry)?, s, room)?,
+        _ => return None,
+    })
+}
+
+type Writing = fn(&[u8], &mut [u8]) -> Answer<usize>;
+
+fn writing(entry: &str) -> Option<Writing> {
+    Some(match entry {
+        "pack" => notepack::write,
+        "canonical" => canonical::write,
+        "nson_write" => nson::write,
+        "nson_read" => nson::read,
+        "json_read" => json::read,
+        _ => return None,
+    })
+}
+
+fn number(word: &str) -> Option<u64> {
+    word.parse().ok()
+}
+
+pub fn bytes(word: &str) -> Option<Vec<u8>> {
+    if word == "-" {
+        return Some(Vec::new());
+    }
+    let mut bytes = vec![0; word.len() / 2];
+    (word.len() % 2 == 0 && !word.is_empty() && reference::bytes::unhex(word.as_bytes(), &mut bytes)).then_some(bytes)
+}
+
+pub fn hex(bytes: &[u8]) -> String {
+    if bytes.is_empty() {
+        return "-".into();
+    }
+    let digit = |d: u8| char::from_digit(d as u32, 16).unwrap();
+    bytes.iter().flat_map(|b| [digit(b >> 4), digit(b & 15)]).collect()
+}
+
+fn bench(entry: &str, file: &str, calls: &str) -> bool {
+    let (Ok(bytes), Ok(calls)) = (std::fs::read(file), calls.parse::<u32>()) else {
+        eprintln!("no file {file} or no number {calls}");
+        return false;
+    };
+    let mut out = vec![0; 1 << 20];
+    let mut call: Box<dyn FnMut(&[u8]) -> Answer<u64>> = match entry {
+        "read" => Box::new(|s| notepack::read(s).map(|p| p.created_at)),
+        "strict" => Box::new(|s| notepack::is_strict(s).map(u64::from)),
+        _ => match writing(entry) {
+            Some(f) => Box::new(move |s| f(s, &mut out).map(|length| length as u64)),
+            None => {
+                eprintln!("no entry {entry}");
+                return false;
+            }
+        },
+    };
+    if let Err(r) = call(&bytes) {
+        eprintln!("note: {entry} is refused {} {}", r.number, r.place);
+    }
+    let start = std::time::Instant::now();
+    for _ in 0..calls {
+        let _ = std::hint::black_box(call(std::hint::black_box(&bytes)));
+    }
+    println!("{:.1}", start.elapsed().as_nanos() as f64 / calls.max(1) as f64);
+    true
+}

@@ -1,0 +1,144 @@
+//! The paper's checked examples.
+
+use crate::{answer, hex};
+use reference::bytes::{varint, varint_len};
+
+/// Section 9.1's vector.
+fn vector() -> Vec<u8> {
+    let mut s = [[0x00; 32], [0x11; 32], [0x22; 32], [0x22; 32]].concat();
+    s.extend(b"\x80\xbc\x94\xb4\x06\x00\x05hello\x02\x03\x02e\x41");
+    s.extend([0xaa; 32]);
+    s.extend(b"\x2ewss://relay.example.com\x02\x02p\x41");
+    s.extend([0xbb; 32]);
+    s
+}
+
+const CANONICAL: &str = concat!(
+    "[0,\"1111111111111111111111111111111111111111111111111111111111111111\",1720000000,0,",
+    "[[\"e\",\"aaaaaaaaaaaaaaaaaaaaaaaaaaaaaaaaaaaaaaaaaaaaaaaaaaaaaaaaaaaaaaaa\",\"wss://relay.example.com\"],",
+    "[\"p\",\"bbbbbbbbbbbbbbbbbbbbbbbbbbbbbbbbbbbbbbbbbbbbbbbbbbbbbbbbbbbbbbbb\"]],\"hello\"]",
+);
+
+/// Document 003's event.
+const NSON: &str = concat!(
+    "{\"id\":\"57ff66490a6a2af3992accc26ae95f3f60c6e5f84ed0ddf6f59c534d3920d3d2\",",
+    "\"pubkey\":\"79be667ef9dcbbac55a06295ce870b07029bfcdb2dce28d959f2815b16f81798\",",
+    "\"sig\":\"504d142aed7fa7e0f6dab5bcd7eed63963b0277a8e11bbcb03b94531beb4b95a12f1438668b02746bd5362161bc78206",
+    "8e6b71494060975414e793f9e19f57ea\",\"created_at\":1683762317,",
+    "\"nson\":\"2801000b0203000100400005040001004000000014\",\"kind\":1,\"content\":\"hello world\",\"tags\":",
+    "[[\"e\",\"b6de44a9dd47d1c000f795ea0453046914f44ba7d5e369608b04867a575ea83e\",\"reply\"],",
+    "[\"p\",\"c26f7b252cea77a5b94f42b1a4771021be07d4df766407e47738605f7e3ab774\",\"\",\"wss://relay.damus.io\"]]}",
+);
+
+/// An event with zero id, pubkey and sig.
+fn packed(created_at: &[u8], rest: &[u8]) -> Vec<u8> {
+    [&[0; 128], created_at, rest].concat()
+}
+
+/// 1,000,000,000 as a varint.
+const BILLION: &[u8] = b"\x80\x94\xeb\xdc\x03";
+
+/// The paper's NSON example, with the nson field given.
+fn nson_with(nson: &str) -> String {
+    let zeros = |n| "0".repeat(n);
+    format!(
+        "{{\"id\":\"{}\",\"pubkey\":\"{}\",\"sig\":\"{}\",\"created_at\":1000000000,\"nson\":\"{nson}\",\"kind\":1,\"content\":\"a\\\"b\",\"tags\":[]}}",
+        zeros(64), zeros(64), zeros(128)
+    )
+}
+
+/// So many tags, each of so many texts `x`, behind an event that NSON can carry.
+fn tagged(tags: u8, texts: u8) -> Vec<u8> {
+    let mut s = packed(BILLION, &[1, 0, tags]);
+    for _ in 0..tags {
+        s.push(texts);
+        s.extend(b"\x02x".repeat(texts as usize));
+    }
+    s
+}
+
+pub fn run() -> bool {
+    let (mut passed, mut failed) = (0, 0);
+    let mut same = |what: &str, got: String, wanted: String| {
+        if got == wanted {
+            passed += 1;
+        } else {
+            failed += 1;
+            println!("{what}: {got}, not {wanted}");
+        }
+    };
+    let ask = |request: String| answer(&request).unwrap_or_default();
+    let room = |entry: &str, s: &[u8]| ask(format!("{entry} {} 70000", hex(s)));
+    let left = |s: &[u8]| format!("ok {} {}", s.len(), hex(s));
+
+    for (n, value, spelled) in
+        [(1, 0, &b"\0"[..]), (2, 127, b"\x7f"), (3, 128, b"\x80\x01"), (4, 1_720_000_000, b"\x80\xbc\x94\xb4\x06")]
+    {
+        same(&format!("({n}) read"), format!("{:?}", varint(spelled, 0)), format!("Ok(({value}, {}))", spelled.len()));
+        same(&format!("({n}) length"), varint_len(value).to_string(), spelled.len().to_string());
+        let s = packed(spelled, b"\0\0\0");
+        same(&format!("({n}) written"), room("pack", &s), left(&s));
+    }
+    let at = |s: &[u8]| ask(format!("read {}", hex(&packed(s, b""))));
+    same("(5)", at(b"\xff\xff\xff\xff\xff\xff\xff\xff\xff\x02"), "refused 3 128".into());
+    same("(6)", at(b"\x80"), "refused 4 128".into());
+    let padded = packed(b"\x80\0", b"\0\0\0");
+    same("(7) read", ask(format!("read {}", hex(&padded))), "ok 0 0 132 0 0".into());
+    same("(7) strict", ask(format!("strict {}", hex(&padded))), "no".into());
+    for (n, text, strict) in [
+        (8, &b"\x04ab"[..], &b"\x03\xab"[..]),
+        (8, b"\x03\xab", b"\x03\xab"),
+        (9, b"\x04AB", b"\x04AB"),
+        (10, b"\x06abc", b"\x06abc"),
+        (11, b"\0", b"\0"),
+        (11, b"\x01", b"\0"),
+    ] {
+        let s = packed(b"\0", &[b"\0\0\x01\x01", text].concat());
+        let t = packed(b"\0", &[b"\0\0\x01\x01", strict].concat());
+        same(&format!("({n}) written"), room("pack", &s), left(&t));
+        same(&format!("({n}) strict"), ask(format!("strict {}", hex(&s))), if s == t { "yes" } else { "no" }.into());
+    }
+    let a_b = packed(BILLION, b"\x01\x03a\"b\0");
+    let text = nson_with("0801000400");
+    same("(12) length", text.len().to_string(), "366".into());
+    same("(12) written", room("nson_write", &a_b), left(text.as_bytes()));
+    same("(12) read", room("nson_read", text.as_bytes()), left(&a_b));
+    same("(12) as JSON", room("json_read", text.as_bytes()), left(&a_b));
+    same("(13)", room("nson_read", nson_with("0801000300").as_bytes()), "refused 13 353".into());
+    same("(14)", room("nson_read", nson_with("0801000200").as_bytes()), "refused 14 350".into());
+    same("(15)", room("nson_read", nson_with("0801000500").as_bytes()), "refused 13 350".into());
+
+    let v = vector();
+    same("vector length", v.len().to_string(), "237".into());
+    same("vector read", ask(format!("read {}", hex(&v))), "ok 1720000000 0 135 5 2".into());
+    same("vector strict", ask(format!("strict {}", hex(&v))), "yes".into());
+    same("vector written", room("pack", &v), left(&v));
+    same("canonical length", CANONICAL.len().to_string(), "265".into());
+    same("vector canonical", room("canonical", &v), left(CANONICAL.as_bytes()));
+    same("vector nson", room("nson_read", answer_bytes(&room("nson_write", &v)).as_slice()), left(&v));
+
+    let event = answer_bytes(&room("nson_read", NSON.as_bytes()));
+    same("document 003 as JSON", room("json_read", NSON.as_bytes()), left(&event));
+    same("document 003 written", room("nson_write", &event), left(NSON.as_bytes()));
+    for (tags, texts, fits) in [(41, 1, true), (42, 1, false), (1, 61, true), (1, 62, false)] {
+        let s = tagged(tags, texts);
+        let written = room("nson_write", &s);
+        let what = format!("{tags} tags of {texts}");
+        if fits {
+            same(&what, room("nson_read", &answer_bytes(&written)), left(&s));
+        } else {
+            same(&what, written, "refused 17 0".into());
+        }
+    }
+    let lister = |s: &[u8]| ask(format!("lister {}", hex(s)));
+    same("lister", lister(&packed(b"", &[0; 4])), "created_at 0\\nkind 0\\ncontent 0\\ntags 0\\n".into());
+    same("lister, empty", lister(b""), "refused 2 at 0\\n".into());
+    same("lister, cut", lister(&packed(b"\x80", b"")), "refused 4 at 128\\n".into());
+    println!("{passed} passed, {failed} failed");
+    failed == 0
+}
+
+/// The bytes of an answer `ok LENGTH BYTES`.
+fn answer_bytes(answer: &str) -> Vec<u8> {
+    answer.split(' ').nth(2).and_then(crate::bytes).unwrap_or_default()
+}

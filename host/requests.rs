@@ -1,0 +1,176 @@
+//! Requests of the line protocol, always the same for the same words: requests SEED COUNT KIND..
+//!
+//! Three parts: each limit of the paper, met and passed; samples cut and changed at every place; then random inputs.
+//! Where COUNT is small the first two are thinned, evenly. The encoders here can also write what no encoder would.
+
+#[path = "requests/boundaries.rs"]
+mod boundaries;
+#[path = "requests/damage.rs"]
+mod damage;
+#[path = "requests/dice.rs"]
+mod dice;
+#[path = "requests/event.rs"]
+mod event;
+#[path = "requests/json.rs"]
+mod json;
+#[path = "requests/notepack.rs"]
+mod notepack;
+#[path = "requests/texts.rs"]
+mod texts;
+
+use dice::Dice;
+use event::Event;
+use std::io::{self, Write};
+
+fn main() -> io::Result<()> {
+    let words: Vec<String> = std::env::args().skip(1).collect();
+    let number = |i: usize| words.get(i).and_then(|w| w.parse::<u64>().ok());
+    let (Some(seed), Some(count)) = (number(0), number(1)) else {
+        eprintln!("usage: requests SEED COUNT KIND..");
+        std::process::exit(2);
+    };
+    let mut out = io::BufWriter::with_capacity(1 << 20, io::stdout().lock());
+    for line in requests(seed, count as usize, &words[2..]) {
+        out.write_all(line.as_bytes())?;
+        out.write_all(b"\n")?;
+    }
+    out.flush()
+}
+
+/// COUNT requests of these kinds.
+fn requests(seed: u64, count: usize, kinds: &[String]) -> impl Iterator<Item = String> {
+    let mut g = Requests { dice: Dice(seed), kinds: kinds.to_vec(), lines: Vec::new() };
+    boundaries::all(&mut g);
+    let limits = thinned(std::mem::take(&mut g.lines), count / 2);
+    damage::everywhere(&mut g);
+    let damaged = thinned(std::mem::take(&mut g.lines), (count - limits.len()) * 2 / 3);
+    let random = std::iter::from_fn(move || {
+        while g.lines.is_empty() && !g.kinds.is_empty() {
+            damage::random(&mut g);
+        }
+        g.lines.pop()
+    });
+    limits.into_iter().chain(damaged).chain(random).take(count)
+}
+
+/// At most `most` of the lines, evenly.
+fn thinned(lines: Vec<String>, most: usize) -> Vec<String> {
+    let all = lines.len();
+    let keep = most.min(all);
+    lines.into_iter().enumerate().filter(|(i, _)| (i + 1) * keep / all > i * keep / all).map(|(_, line)| line).collect()
+}
+
+/// Kinds whose input is a packed event.
+const PACKED: [&str; 8] = ["read", "strict", "pack", "content", "element", "lister", "canonical", "nson_write"];
+
+struct Requests {
+    dice: Dice,
+    kinds: Vec<String>,
+    lines: Vec<String>,
+}
+
+impl Requests {
+    fn has(&self, kind: &str) -> bool {
+        self.kinds.iter().any(|k| k == kind)
+    }
+
+    /// The request `kind input`, with what the kind wants behind it.
+    fn line(&mut self, kind: &str, input: &[u8], rest: &str) {
+        self.lines.push(format!("{kind} {}{rest}", hex(input)));
+    }
+
+    /// One request: some room, or some element, where the kind wants one.
+    fn one(&mut self, kind: &str, input: &[u8], e: &Event) {
+        let rest = if kind == "element" {
+            let (tag, element) = self.element_of(e);
+            format!(" {tag} {element}")
+        } else if writes(kind) {
+            let need = needed(kind, e);
+            let room = match self.dice.below(16) {
+                0 => 0,
+                1..=3 => need.saturating_sub(1),
+                4..=8 => need,
+                9 => self.dice.below(need + 1),
+                10 => 70_000,
+                _ => need + 1 + self.dice.below(40),
+            };
+            format!(" {room}")
+        } else {
+            String::new()
+        };
+        self.line(kind, input, &rest);
+    }
+
+    fn element_of(&mut self, e: &Event) -> (u64, u64) {
+        let d = &mut self.dice;
+        let tag = d.below(e.tags.len() + 1);
+        let beyond = d.percent(20) as usize;
+        let element = d.below(e.tags.get(tag).map_or(1, |t| t.len() + beyond)) as u64;
+        match d.below(20) {
+            0 => (u64::MAX, element),
+            1 => (tag as u64, u64::MAX),
+            2 => (tag as u64, 1 << 32),
+            _ => (tag as u64, element),
+        }
+    }
+
+    fn wanted<'a>(&self, kinds: &[&'a str]) -> Vec<&'a str> {
+        kinds.iter().filter(|kind| self.has(kind)).copied().collect()
+    }
+
+    /// The input to every one of the kinds; those that write get just enough room, one byte less, none, and more.
+    fn all(&mut self, kinds: &[&str], input: &[u8], e: &Event) {
+        for kind in self.wanted(kinds) {
+            if kind == "element" {
+                let last = e.tags.len().saturating_sub(1) as u64;
+                let end = e.tags.last().map_or(0, |t| t.len()) as u64;
+                for (tag, element) in [(0, 0), (last, end.saturating_sub(1)), (last, end), (last + 1, 0), (u64::MAX, u64::MAX)] {
+                    self.line(kind, input, &format!(" {tag} {element}"));
+                }
+            } else if writes(kind) {
+                let need = needed(kind, e);
+                for room in [need, need.saturating_sub(1), 0, need + 9] {
+                    self.line(kind, input, &format!(" {room}"));
+                }
+            } else {
+                self.line(kind, input, "");
+            }
+        }
+    }
+
+    /// The input to one of the kinds, whichever.
+    fn any(&mut self, kinds: &[&str], input: &[u8], e: &Event) {
+        let kinds = self.wanted(kinds);
+        if !kinds.is_empty() {
+            let kind = self.dice.pick(&kinds);
+            self.one(kind, input, e);
+        }
+    }
+
+    fn rivals(&mut self, first: &[u8], second: &[u8]) {
+        if self.has("rivals") {
+            self.lines.push(format!("rivals {} {}", hex(first), hex(second)));
+        }
+    }
+}
+
+/// Does the kind write into a lent buffer?
+fn writes(kind: &str) -> bool {
+    ["pack", "canonical", "nson_write", "nson_read", "json_read"].contains(&kind)
+}
+
+/// The length that the kind writes for this event.
+fn needed(kind: &str, e: &Event) -> usize {
+    match kind {
+        "canonical" => texts::canonical(e).len(),
+        "nson_write" => texts::Nson::of(e).spelled().len(),
+        _ => notepack::strict(e).len(),
+    }
+}
+
+fn hex(bytes: &[u8]) -> String {
+    if bytes.is_empty() {
+        return "-".into();
+    }
+    String::from_utf8(notepack::hex_text(bytes)).unwrap()
+}

@@ -1,0 +1,675 @@
+/* Tests of the C entries over the library's archive; those of host/kinds that are not notepack's, by the paper's examples.
+ * The last line is 'N passed, M failed'. Built with -DKIND_.. as the driver. */
+#define KEZ_ALL
+#include "kezubimoryu.h"
+
+#include <stdio.h>
+#include <string.h>
+
+static int passed, failed;
+
+#define CHECK(is_so, ...)                            \
+    do {                                             \
+        if (is_so) {                                 \
+            passed++;                                \
+        } else if (++failed <= 20) {                 \
+            printf("line %d: %s: ", __LINE__, #is_so); \
+            printf(__VA_ARGS__);                     \
+            printf("\n");                            \
+        }                                            \
+    } while (0)
+
+/* Bytes that are put together */
+
+typedef struct {
+    uint8_t at[70000];
+    size_t len;
+} bytes;
+
+static void put(bytes *b, const void *part, size_t len)
+{
+    memcpy(b->at + b->len, part, len);
+    b->len += len;
+}
+
+static void fill(bytes *b, uint8_t byte, size_t count)
+{
+    memset(b->at + b->len, byte, count);
+    b->len += count;
+}
+
+static void put_varint(bytes *b, uint64_t n)
+{
+    for (; n >= 0x80; n >>= 7)
+        fill(b, (uint8_t)(n | 0x80), 1);
+    fill(b, (uint8_t)n, 1);
+}
+
+#define PUT(b, text) put(b, text, sizeof(text) - 1)
+
+/* zero id, pubkey and sig */
+static void start(bytes *b)
+{
+    b->len = 0;
+    fill(b, 0, 128);
+}
+
+/* An event with this time and kind, no content and what follows it. */
+static void event(bytes *b, uint64_t created_at, uint64_t kind)
+{
+    start(b);
+    put_varint(b, created_at);
+    put_varint(b, kind);
+    put_varint(b, 0);
+}
+
+/* The vector of the draft's section 9.1: its varints, each with what it counts */
+
+static const struct {
+    size_t at, len, payload;
+} varints[] = {
+    {128, 5, 0}, {133, 1, 0}, {134, 1, 5},                /* time, kind, content */
+    {140, 1, 0},                                          /* tags */
+    {141, 1, 0}, {142, 1, 1}, {144, 1, 32}, {177, 1, 23}, /* the first */
+    {201, 1, 0}, {202, 1, 1}, {204, 1, 32},               /* the second */
+};
+
+static bytes vector;
+
+static void make_vector(void)
+{
+    fill(&vector, 0x00, 32);
+    fill(&vector, 0x11, 32);
+    fill(&vector, 0x22, 64);
+    PUT(&vector, "\x80\xbc\x94\xb4\x06\x00\x05hello\x02\x03\x02""e\x41");
+    fill(&vector, 0xaa, 32);
+    PUT(&vector, "\x2ewss://relay.example.com\x02\x02p\x41");
+    fill(&vector, 0xbb, 32);
+}
+
+/* Lent things that must keep what they hold */
+
+static uint8_t room[70000];
+static uint64_t numbers[5];
+
+static uint8_t mark(size_t i)
+{
+    return (uint8_t)(i * 31 + 7);
+}
+
+static void lend(void)
+{
+    for (size_t i = 0; i < sizeof room; i++)
+        room[i] = mark(i);
+    for (int i = 0; i < 5; i++)
+        numbers[i] = UINT64_C(0xfeedfacecafe0000) + (uint64_t)i;
+}
+
+static int untouched_from(size_t from)
+{
+    for (size_t i = from; i < sizeof room; i++)
+        if (room[i] != mark(i))
+            return 0;
+    return 1;
+}
+
+static int untouched(void)
+{
+    for (int i = 0; i < 5; i++)
+        if (numbers[i] != UINT64_C(0xfeedfacecafe0000) + (uint64_t)i)
+            return 0;
+    return untouched_from(0);
+}
+
+static kez_answer read_it(const uint8_t *s, size_t len)
+{
+    return kez_notepack_read(s, len, numbers, numbers + 1, numbers + 2, numbers + 3, numbers + 4);
+}
+
+static kez_answer element_of(const uint8_t *s, size_t len, uint64_t tag, uint64_t element)
+{
+    return kez_notepack_element(s, len, tag, element, numbers, numbers + 1, numbers + 2);
+}
+
+static int is(kez_answer a, uint64_t refusal, uint64_t value)
+{
+    return a.refusal == refusal && a.value == value;
+}
+
+/* What is asked of many inputs */
+
+/* Every entry refuses the input so, and leaves alone what it was lent. */
+static void refused(const uint8_t *s, size_t len, uint64_t refusal, uint64_t place)
+{
+    lend();
+    kez_answer all[] = {
+        read_it(s, len),
+        kez_notepack_is_strict(s, len),
+        kez_notepack_write(s, len, room, sizeof room),
+        kez_notepack_write(s, len, NULL, 0),
+        kez_notepack_tag_len(s, len, 0),
+        element_of(s, len, 0, 0),
+        element_of(s, len, UINT64_MAX, UINT64_MAX),
+    };
+    for (size_t i = 0; i < sizeof all / sizeof *all; i++)
+        CHECK(is(all[i], refusal, place), "entry %zu on %zu bytes: %d at %d, not %d at %d", i, len, (int)all[i].refusal,
+              (int)all[i].value, (int)refusal, (int)place);
+    CHECK(untouched(), "a refusal of %zu bytes changed what was lent", len);
+}
+
+/* The input is read with these numbers. */
+static void reads(const bytes *b, uint64_t created_at, uint64_t kind, uint64_t at, uint64_t len, uint64_t tags)
+{
+    const uint64_t wanted[] = {created_at, kind, at, len, tags};
+    lend();
+    CHECK(is(read_it(b->at, b->len), 0, 0), "%zu bytes are not read", b->len);
+    CHECK(!memcmp(numbers, wanted, sizeof wanted), "%zu bytes have other numbers", b->len);
+}
+
+typedef kez_answer writer(const uint8_t *, size_t, uint8_t *, size_t);
+
+/* What an entry writes: room just enough, more, one byte short, none. */
+static void writes(writer *entry, const bytes *b, const bytes *form)
+{
+    const size_t rooms[] = {form->len, form->len + 1, sizeof room};
+    for (int i = 0; i < 3; i++) {
+        lend();
+        CHECK(is(entry(b->at, b->len, room, rooms[i]), 0, form->len), "%zu bytes", b->len);
+        CHECK(!memcmp(room, form->at, form->len), "of %zu bytes something else is written", b->len);
+        CHECK(untouched_from(form->len), "bytes behind the written ones changed");
+    }
+    lend();
+    CHECK(is(entry(b->at, b->len, room, form->len - 1), 11, form->len), "%zu bytes", b->len);
+    CHECK(is(entry(b->at, b->len, room, 0), 11, form->len), "%zu bytes", b->len);
+    CHECK(is(entry(b->at, b->len, NULL, 0), 11, form->len), "%zu bytes", b->len);
+    CHECK(untouched(), "without room something was written");
+}
+
+/* The strict form, and whether the input is that. */
+static void strict_form(const bytes *b, const bytes *form)
+{
+    uint64_t yes = b->len == form->len && !memcmp(b->at, form->at, b->len);
+    CHECK(is(kez_notepack_is_strict(b->at, b->len), 0, yes), "%zu bytes", b->len);
+    writes(kez_notepack_write, b, form);
+}
+
+/* Element `element` of tag `tag` stands there, with this b. */
+static void shows(const bytes *b, uint64_t tag, uint64_t element, uint64_t at, uint64_t len, uint64_t is_bytes)
+{
+    lend();
+    CHECK(is(element_of(b->at, b->len, tag, element), 0, 0), "tag %d element %d", (int)tag, (int)element);
+    CHECK(numbers[0] == at && numbers[1] == len && numbers[2] == is_bytes, "tag %d element %d: at %d, length %d, b %d",
+          (int)tag, (int)element, (int)numbers[0], (int)numbers[1], (int)numbers[2]);
+    CHECK(numbers[3] == UINT64_C(0xfeedfacecafe0003), "a number that was not lent changed");
+}
+
+static void no_such(const bytes *b, uint64_t tag, uint64_t element)
+{
+    lend();
+    CHECK(is(element_of(b->at, b->len, tag, element), 19, 0), "tag %d element %d", (int)tag, (int)element);
+    CHECK(untouched(), "19 changed what was lent");
+}
+
+/* The tests */
+
+static void the_vector(void)
+{
+    CHECK(vector.len == 237, "%zu", vector.len);
+    reads(&vector, 1720000000, 0, 135, 5, 2);
+    strict_form(&vector, &vector);
+    CHECK(is(kez_notepack_tag_len(vector.at, vector.len, 0), 0, 3), "first tag");
+    CHECK(is(kez_notepack_tag_len(vector.at, vector.len, 1), 0, 2), "second tag");
+    CHECK(is(kez_notepack_tag_len(vector.at, vector.len, 2), 19, 0), "third tag");
+    CHECK(is(kez_notepack_tag_len(vector.at, vector.len, UINT64_MAX), 19, 0), "last tag of all");
+    shows(&vector, 0, 0, 143, 1, 0);
+    shows(&vector, 0, 1, 145, 32, 1);
+    shows(&vector, 0, 2, 178, 23, 0);
+    shows(&vector, 1, 0, 203, 1, 0);
+    shows(&vector, 1, 1, 205, 32, 1);
+    no_such(&vector, 0, 3);
+    no_such(&vector, 1, 2);
+    no_such(&vector, 2, 0);
+    no_such(&vector, UINT64_MAX, 0);
+    no_such(&vector, 0, UINT64_MAX);
+}
+
+/* Every truncation: 2 at the fixed field or varint that is cut or whose payload is, 4 inside a varint. */
+static void truncations(void)
+{
+    refused(NULL, 0, 2, 0);
+    for (size_t len = 0; len < 128; len++)
+        refused(vector.at, len, 2, len < 32 ? 0 : len < 64 ? 32 : 64);
+    for (size_t i = 0; i < sizeof varints / sizeof *varints; i++) {
+        size_t at = varints[i].at, behind = at + varints[i].len;
+        refused(vector.at, at, 2, at);
+        for (size_t len = at + 1; len < behind; len++)
+            refused(vector.at, len, 4, at);
+        for (size_t len = behind; len < behind + varints[i].payload; len++)
+            refused(vector.at, len, 2, at);
+    }
+    bytes more = vector;
+    fill(&more, 0, 1);
+    refused(more.at, more.len, 10, 237);
+}
+
+/* A varint that is longer than needed is read, and isn't strict. */
+static void padded(void)
+{
+    bytes b, form;
+    event(&form, 0, 0);
+    put_varint(&form, 0);
+    start(&b);
+    PUT(&b, "\x80\x00\x00\x00\x00");
+    reads(&b, 0, 0, 132, 0, 0);
+    strict_form(&b, &form);
+    for (size_t i = 0; i < sizeof varints / sizeof *varints; i++) {
+        for (size_t extra = 1; extra <= 10 - varints[i].len; extra++) {
+            size_t last = varints[i].at + varints[i].len - 1;
+            b.len = 0;
+            put(&b, vector.at, last);
+            fill(&b, vector.at[last] | 0x80, 1);
+            fill(&b, 0x80, extra - 1);
+            fill(&b, 0, 1);
+            put(&b, vector.at + last + 1, vector.len - last - 1);
+            reads(&b, 1720000000, 0, 135 + (i < 3 ? extra : 0), 5, 2);
+            strict_form(&b, &vector);
+            shows(&b, 1, 1, 205 + extra, 32, 1);
+        }
+    }
+}
+
+/* Elements as text and as bytes. */
+static void elements(void)
+{
+    static const struct {
+        const char *spelled, *strict;
+        size_t len, strict_len;
+    } cases[] = {
+        {"\x03\xab", "\x03\xab", 2, 2}, {"\x04""ab", "\x03\xab", 3, 2},  {"\x04""AB", "\x04""AB", 3, 3}, {"\x06""abc", "\x06""abc", 4, 4},
+        {"\x00", "\x00", 1, 1},         {"\x01", "\x00", 1, 1},          {"\x04""ag", "\x04""ag", 3, 3}, {"\x02""a", "\x02""a", 2, 2},
+        {"\x08""00ff", "\x05\x00\xff", 5, 3},
+    };
+    bytes b, form;
+    for (size_t i = 0; i < sizeof cases / sizeof *cases; i++) {
+        event(&b, 0, 0);
+        PUT(&b, "\x01\x02\x02t");
+        form = b;
+        put(&b, cases[i].spelled, cases[i].len);
+        put(&form, cases[i].strict, cases[i].strict_len);
+        reads(&b, 0, 0, 131, 0, 1);
+        strict_form(&b, &form);
+        shows(&b, 0, 1, 136, cases[i].len - 1, (uint64_t)cases[i].spelled[0] & 1);
+        no_such(&b, 0, 2);
+    }
+}
+
+static void varint_faults(void)
+{
+    bytes b;
+    static const uint8_t tenth[] = {2, 0x7f, 0x80, 0x81, 0xff};
+    for (size_t i = 0; i < sizeof varints / sizeof *varints; i++) {
+        for (size_t len = 1; len < 10; len++) {
+            b.len = 0;
+            put(&b, vector.at, varints[i].at);
+            fill(&b, 0xff, len);
+            refused(b.at, b.len, 4, varints[i].at);
+        }
+        for (size_t j = 0; j < sizeof tenth; j++) {
+            b.len = varints[i].at + 9;
+            fill(&b, tenth[j], 1);
+            refused(b.at, b.len, 3, varints[i].at);
+            put(&b, vector.at, 100);
+            refused(b.at, b.len, 3, varints[i].at);
+        }
+    }
+    /* lengths far beyond the rest */
+    for (size_t i = 0; i < sizeof varints / sizeof *varints; i++) {
+        if (!varints[i].payload)
+            continue;
+        b.len = 0;
+        put(&b, vector.at, varints[i].at);
+        put_varint(&b, UINT64_MAX);
+        put(&b, vector.at + varints[i].at + 1, vector.len - varints[i].at - 1);
+        refused(b.at, b.len, 2, varints[i].at);
+    }
+}
+
+static void limits(void)
+{
+    static bytes b;
+    event(&b, UINT64_C(9223372036854775), 65535);
+    put_varint(&b, 0);
+    reads(&b, UINT64_C(9223372036854775), 65535, 128 + 8 + 3 + 1, 0, 0);
+    strict_form(&b, &b);
+    event(&b, UINT64_C(9223372036854776), 70000);
+    refused(b.at, b.len, 7, 128);
+    event(&b, 0, 65536);
+    refused(b.at, b.len, 6, 129);
+    for (uint64_t tags = 1000; tags <= 1001; tags++) {
+        event(&b, 0, 0);
+        put_varint(&b, tags);
+        for (uint64_t i = 0; i < tags; i++)
+            PUT(&b, "\x01\x00");
+        if (tags == 1000) {
+            reads(&b, 0, 0, 131, 0, tags);
+            strict_form(&b, &b);
+            shows(&b, 999, 0, b.len, 0, 0);
+            no_such(&b, 1000, 0);
+        } else {
+            refused(b.at, b.len, 8, 131);
+        }
+    }
+    for (uint64_t texts = 255; texts <= 256; texts++) {
+        event(&b, 0, 0);
+        put_varint(&b, 1);
+        put_varint(&b, texts);
+        fill(&b, 0, texts);
+        if (texts == 255) {
+            reads(&b, 0, 0, 131, 0, 1);
+            CHECK(is(kez_notepack_tag_len(b.at, b.len, 0), 0, 255), "255 texts");
+            shows(&b, 0, 254, b.len, 0, 0);
+            no_such(&b, 0, 255);
+        } else {
+            refused(b.at, b.len, 8, 132);
+        }
+    }
+    event(&b, 0, 0);
+    PUT(&b, "\x02\x01\x00\x00");
+    refused(b.at, b.len, 9, 134);
+    /* the last byte bad, the place that of the first */
+    start(&b);
+    PUT(&b, "\x00\x00\x04""abc\xff\x00");
+    refused(b.at, b.len, 5, 131);
+    event(&b, 0, 0);
+    PUT(&b, "\x01\x01\x06""ab\xc3");
+    refused(b.at, b.len, 5, 134);
+    b.at[133] = 7;
+    reads(&b, 0, 0, 131, 0, 1);
+    /* the whole at 65,536 bytes and one more */
+    start(&b);
+    PUT(&b, "\x00\x00");
+    put_varint(&b, 65536 - 134);
+    fill(&b, 'x', 65536 - 134);
+    put_varint(&b, 0);
+    CHECK(b.len == 65536, "%zu", b.len);
+    reads(&b, 0, 0, 133, 65536 - 134, 0);
+    strict_form(&b, &b);
+    fill(&b, 0, 1);
+    refused(b.at, b.len, 1, 0);
+    b.len = 0;
+    fill(&b, 0xff, 65537);
+    refused(b.at, b.len, 1, 0);
+}
+
+/* The other formats, as soon as they are among the kinds */
+
+#if defined KIND_canonical || defined KIND_nson_write || defined KIND_nson_read || defined KIND_json_read
+static void refuses(writer *entry, const bytes *b, uint64_t refusal, uint64_t place)
+{
+    lend();
+    kez_answer a = entry(b->at, b->len, room, sizeof room);
+    CHECK(is(a, refusal, place), "%d at %d, not %d at %d", (int)a.refusal, (int)a.value, (int)refusal, (int)place);
+    CHECK(is(entry(b->at, b->len, NULL, 0), refusal, place), "without room");
+    CHECK(untouched(), "a refusal changed what was lent");
+}
+#endif
+
+#ifdef KIND_canonical
+static void canonical(void)
+{
+    static bytes b, text;
+    text.len = 0;
+    PUT(&text, "[0,\"");
+    fill(&text, '1', 64);
+    PUT(&text, "\",1720000000,0,[[\"e\",\"");
+    fill(&text, 'a', 64);
+    PUT(&text, "\",\"wss://relay.example.com\"],[\"p\",\"");
+    fill(&text, 'b', 64);
+    PUT(&text, "\"]],\"hello\"]");
+    CHECK(text.len == 265, "%zu", text.len);
+    writes(kez_canonical_write, &vector, &text);
+    for (size_t len = 0; len < vector.len; len += 59) {
+        b = vector;
+        b.len = len;
+        refuses(kez_canonical_write, &b, 2, read_it(b.at, b.len).value);
+    }
+    /* seven bytes have escapes, in content and texts alike; no other control byte has one */
+    static const char raw[] = "\n\"\\\r\t\b\f\x01\x1f\x7f/", spelled[] = "\\n\\\"\\\\\\r\\t\\b\\f\x01\x1f\x7f/";
+    start(&b);
+    PUT(&b, "\x00\x01\x0b");
+    PUT(&b, raw);
+    PUT(&b, "\x01\x01\x16");
+    PUT(&b, raw);
+    text.len = 0;
+    PUT(&text, "[0,\"");
+    fill(&text, '0', 64);
+    PUT(&text, "\",0,1,[[\"");
+    PUT(&text, spelled);
+    PUT(&text, "\"]],\"");
+    PUT(&text, spelled);
+    PUT(&text, "\"]");
+    writes(kez_canonical_write, &b, &text);
+}
+#endif
+
+#if defined KIND_nson_write || defined KIND_nson_read || defined KIND_json_read
+
+/* zero id, pubkey and sig, created_at 1,000,000,000, kind 1, content a"b: packed, and as NSON with this nson field */
+static void a_b(bytes *packed, bytes *text, const char *nson)
+{
+    start(packed);
+    put_varint(packed, 1000000000);
+    PUT(packed, "\x01\x03""a\"b\x00");
+    text->len = 0;
+    PUT(text, "{\"id\":\"");
+    fill(text, '0', 64);
+    PUT(text, "\",\"pubkey\":\"");
+    fill(text, '0', 64);
+    PUT(text, "\",\"sig\":\"");
+    fill(text, '0', 128);
+    PUT(text, "\",\"created_at\":1000000000,\"nson\":\"");
+    put(text, nson, strlen(nson));
+    PUT(text, "\",\"kind\":1,\"content\":\"a\\\"b\",\"tags\":[]}");
+}
+
+/* The event of document 003. */
+static void document_003(bytes *packed, bytes *text)
+{
+    static const char digits[] = "0123456789abcdef",
+        id[] = "57ff66490a6a2af3992accc26ae95f3f60c6e5f84ed0ddf6f59c534d3920d3d2"
+               "79be667ef9dcbbac55a06295ce870b07029bfcdb2dce28d959f2815b16f81798"
+               "504d142aed7fa7e0f6dab5bcd7eed63963b0277a8e11bbcb03b94531beb4b95a"
+               "12f1438668b02746bd5362161bc782068e6b71494060975414e793f9e19f57ea",
+        e[] = "b6de44a9dd47d1c000f795ea0453046914f44ba7d5e369608b04867a575ea83e",
+        p[] = "c26f7b252cea77a5b94f42b1a4771021be07d4df766407e47738605f7e3ab774";
+    packed->len = 0;
+    const char *hex[] = {id, e, p};
+    for (int i = 0; i < 3; i++) {
+        if (i == 1) {
+            put_varint(packed, 1683762317);
+            PUT(packed, "\x01\x0bhello world\x02\x03\x02""e\x41");
+        } else if (i == 2) {
+            PUT(packed, "\x0areply\x04\x02p\x41");
+        }
+        for (const char *h = hex[i]; *h; h += 2)
+            fill(packed, (uint8_t)((strchr(digits, h[0]) - digits) << 4 | (strchr(digits, h[1]) - digits)), 1);
+    }
+    PUT(packed, "\x00\x28wss://relay.damus.io");
+    text->len = 0;
+    PUT(text, "{\"id\":\"");
+    put(text, id, 64);
+    PUT(text, "\",\"pubkey\":\"");
+    put(text, id + 64, 64);
+    PUT(text, "\",\"sig\":\"");
+    put(text, id + 128, 128);
+    PUT(text, "\",\"created_at\":1683762317,\"nson\":\"2801000b0203000100400005040001004000000014\",\"kind\":1,"
+              "\"content\":\"hello world\",\"tags\":[[\"e\",\"");
+    put(text, e, 64);
+    PUT(text, "\",\"reply\"],[\"p\",\"");
+    put(text, p, 64);
+    PUT(text, "\",\"\",\"wss://relay.damus.io\"]]}");
+}
+#endif
+
+#ifdef KIND_nson_write
+/* So many tags of so many texts: written as NSON and shown again by both readers, or 17. */
+static void carried(uint8_t tags, uint8_t texts, int fits)
+{
+    static bytes b, text;
+    start(&b);
+    put_varint(&b, 1000000000);
+    PUT(&b, "\x01\x00");
+    fill(&b, tags, 1);
+    for (int i = 0; i < tags; i++) {
+        fill(&b, texts, 1);
+        for (int j = 0; j < texts; j++)
+            PUT(&b, "\x02x");
+    }
+    if (!fits) {
+        refuses(kez_nson_write, &b, 17, 0);
+        return;
+    }
+    kez_answer a = kez_nson_write(b.at, b.len, text.at, sizeof text.at);
+    CHECK(!a.refusal, "%d tags of %d texts", tags, texts);
+    text.len = a.value;
+#ifdef KIND_nson_read
+    writes(kez_nson_read, &text, &b);
+#endif
+#ifdef KIND_json_read
+    writes(kez_json_read, &text, &b);
+#endif
+}
+
+static void nson_write(void)
+{
+    static bytes b, text;
+    a_b(&b, &text, "0801000400");
+    CHECK(text.len == 366, "%zu", text.len);
+    writes(kez_nson_write, &b, &text);
+    document_003(&b, &text);
+    writes(kez_nson_write, &b, &text);
+    carried(41, 1, 1);
+    carried(42, 1, 0);
+    carried(1, 61, 1);
+    carried(1, 62, 0);
+    b.len = 140;
+    refuses(kez_nson_write, &b, 2, 134);
+}
+#endif
+
+#ifdef KIND_nson_read
+static void nson_read(void)
+{
+    static bytes b, text;
+    document_003(&b, &text);
+    writes(kez_nson_read, &text, &b);
+    a_b(&b, &text, "0801000400");
+    writes(kez_nson_read, &text, &b);
+    a_b(&b, &text, "0801000300");
+    refuses(kez_nson_read, &text, 13, 353);
+    a_b(&b, &text, "0801000200");
+    refuses(kez_nson_read, &text, 14, 350);
+    a_b(&b, &text, "0801000500");
+    refuses(kez_nson_read, &text, 13, 350);
+    text.len = 0;
+    refuses(kez_nson_read, &text, 12, 0);
+}
+#endif
+
+#ifdef KIND_json_read
+static void json_read(void)
+{
+    static bytes b, text;
+    document_003(&b, &text);
+    writes(kez_json_read, &text, &b);
+    /* the nson field is ignored, whatever it says */
+    a_b(&b, &text, "0801000500");
+    writes(kez_json_read, &text, &b);
+    text.len--;
+    refuses(kez_json_read, &text, 14, text.len);
+    PUT(&text, ",\"kind\"");
+    refuses(kez_json_read, &text, 16, text.len - 6);
+    text.len = 0;
+    refuses(kez_json_read, &text, 14, 0);
+    PUT(&text, " {}");
+    refuses(kez_json_read, &text, 15, 2);
+    for (size_t depth = 16; depth <= 17; depth++) {
+        text.len = 0;
+        PUT(&text, "{\"x\":");
+        fill(&text, '[', depth);
+        fill(&text, ']', depth);
+        PUT(&text, "}");
+        refuses(kez_json_read, &text, depth == 16 ? 15 : 18, depth == 16 ? text.len - 1 : 5 + 16);
+    }
+}
+#endif
+
+#ifdef KIND_rivals
+static void rivals(void)
+{
+    static bytes a, b;
+    a = b = vector; /* kind 0 */
+#define CHOICE is(kez_rivals(a.at, a.len, b.at, b.len), 0, wanted)
+    uint64_t wanted = 1;
+    CHECK(CHOICE, "a full tie");
+    b.at[129]++;
+    wanted = 2;
+    CHECK(CHOICE, "the second is later");
+    b.at[0] = 1;
+    CHECK(CHOICE, "the second is later, with a higher id");
+    b.at[129]--;
+    wanted = 1;
+    CHECK(CHOICE, "the first has the lower id");
+    a.at[0] = 2;
+    wanted = 2;
+    CHECK(CHOICE, "the second has the lower id");
+    b.at[32] ^= 1;
+    wanted = 0;
+    CHECK(CHOICE, "another pubkey");
+    b.at[32] ^= 1;
+    a.at[133] = b.at[133] = 1;
+    CHECK(CHOICE, "a kind without a key");
+    a.len = 130;
+    b.len = 10;
+    CHECK(is(kez_rivals(a.at, a.len, b.at, b.len), 4, 128), "both refused");
+    CHECK(is(kez_rivals(vector.at, vector.len, b.at, b.len), 2, 0), "the second refused");
+    CHECK(is(kez_rivals(NULL, 0, NULL, 0), 2, 0), "nothing at all");
+}
+#endif
+
+static void sentences(void)
+{
+    for (uint64_t i = 0; i <= 20; i++)
+        for (uint64_t j = 0; j < i; j++)
+            CHECK(strcmp(kez_refusal_text(i), kez_refusal_text(j)), "%d and %d", (int)i, (int)j);
+    CHECK(!strcmp(kez_refusal_text(UINT64_MAX), kez_refusal_text(20)), "no such number");
+}
+
+int main(void)
+{
+    make_vector();
+    the_vector();
+    truncations();
+    padded();
+    elements();
+    varint_faults();
+    limits();
+    sentences();
+#ifdef KIND_canonical
+    canonical();
+#endif
+#ifdef KIND_nson_write
+    nson_write();
+#endif
+#ifdef KIND_nson_read
+    nson_read();
+#endif
+#ifdef KIND_json_read
+    json_read();
+#endif
+#ifdef KIND_rivals
+    rivals();
+#endif
+    printf("%d passed, %d failed\n", passed, failed);
+    return failed != 0;
+}

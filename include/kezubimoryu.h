@@ -1,0 +1,126 @@
+/* Kezubimoryu: Nostr events as notepack, canonical text, NSON and plain JSON.
+ *
+ * Every entry takes numbers and byte buffers that the caller lends, takes all inputs there are, and ends.
+ * A pointer to bytes comes with its length; a null pointer with length 0 is fine. A pointer to a number is never null.
+ * What is lent to be written overlaps nothing else that is lent to the same call.
+ *
+ * A packed event is notepack without a version byte, at most 65,536 bytes. Places and counts start at 0, lengths are in bytes.
+ */
+#ifndef KEZUBIMORYU_H
+#define KEZUBIMORYU_H
+
+#include <stddef.h>
+#include <stdint.h>
+
+#ifdef __cplusplus
+extern "C" {
+#endif
+
+/* What every entry answers.
+ * refusal is 0, and value is what the entry says below; or refusal is a number from 1 to 19, and value is its place.
+ * On a refusal every lent buffer and number is as it was. After success the bytes behind the written length are as they were.
+ * Refusal 11, the lent buffer is too short, comes after all others; its value is the length needed. */
+typedef struct {
+    uint64_t refusal;
+    uint64_t value;
+} kez_answer;
+
+/* Reads a packed event and leaves its five numbers: seconds, kind, where the content stands in packed, its length, and
+ * the number of tags. Longer varints than needed are read too. An empty content stands just behind its length.
+ * value: 0 */
+kez_answer kez_notepack_read(const uint8_t *packed, size_t packed_len,
+                             uint64_t *created_at, uint64_t *kind,
+                             uint64_t *content_at, uint64_t *content_len,
+                             uint64_t *tag_count);
+
+/* Are these bytes the strict form: shortest varints everywhere, and an element as raw bytes exactly if its text is not
+ * empty, of even length and all of 0-9 a-f? Bytes that kez_notepack_read refuses get its refusal.
+ * value: 1 strict, 0 not strict */
+kez_answer kez_notepack_is_strict(const uint8_t *packed, size_t packed_len);
+
+/* Writes the one strict form of a packed event, which reads as the same event. Strict bytes come out as they are.
+ * Bytes that kez_notepack_read refuses get its refusal; then 11.
+ * value: the length written */
+kez_answer kez_notepack_write(const uint8_t *packed, size_t packed_len,
+                              uint8_t *out, size_t out_len);
+
+/* How many texts are in this tag?
+ * Bytes that kez_notepack_read refuses get its refusal; then 19 if there is no such tag.
+ * value: that number, 1 to 255 */
+kez_answer kez_notepack_tag_len(const uint8_t *packed, size_t packed_len, uint64_t tag);
+
+/* Where the payload of this element of this tag stands in packed, its length, and its b: 0 if the payload is the text,
+ * 1 if the text is the payload's lowercase hex. Refusals as for kez_notepack_tag_len; 19 also if there is no such element.
+ * value: 0 */
+kez_answer kez_notepack_element(const uint8_t *packed, size_t packed_len,
+                                uint64_t tag, uint64_t element,
+                                uint64_t *at, uint64_t *len, uint64_t *is_bytes);
+
+/* Not in the library yet: define KEZ_ALL once they are. */
+#ifdef KEZ_ALL
+
+/* Writes the canonical text of NIP-01, over which an event's id is taken: [0,"pubkey",created_at,kind,tags,"content"].
+ * Bytes that kez_notepack_read refuses get its refusal; then 11.
+ * value: the length written */
+kez_answer kez_canonical_write(const uint8_t *packed, size_t packed_len,
+                               uint8_t *out, size_t out_len);
+
+/* Writes a packed event as NSON; both readers below then show the same event.
+ * Bytes that kez_notepack_read refuses get its refusal; then 17 if NSON can't carry the event; then 11.
+ * value: the length written */
+kez_answer kez_nson_write(const uint8_t *packed, size_t packed_len,
+                          uint8_t *out, size_t out_len);
+
+/* Reads NSON by the counts in its nson field, and leaves the event in out in strict form. A count that lies is refused.
+ * What this reader accepts kez_json_read accepts too, with the same bytes and the same length needed.
+ * value: the length written */
+kez_answer kez_nson_read(const uint8_t *text, size_t text_len,
+                         uint8_t *out, size_t out_len);
+
+/* Reads an event as plain JSON (RFC 8259), its seven fields in any order and once each, and leaves it in out in strict form.
+ * A missing field is refused; nothing is filled in. Other fields are ignored.
+ * value: the length written */
+kez_answer kez_json_read(const uint8_t *text, size_t text_len,
+                         uint8_t *out, size_t out_len);
+
+/* Which of two packed events is to be kept, if they have the same key: the later, then the one with the lower id, then the first.
+ * All refusals of the first input come before those of the second; the place is in the input that is refused.
+ * value: 0 not rivals, 1 keep the first, 2 keep the second */
+kez_answer kez_rivals(const uint8_t *first, size_t first_len,
+                      const uint8_t *second, size_t second_len);
+
+#endif /* KEZ_ALL */
+
+/* A sentence for a number of refusal. */
+static inline const char *kez_refusal_text(uint64_t number)
+{
+    switch (number) {
+    case 0: return "Nothing is refused.";
+    case 1: return "The input is longer than 65,536 bytes.";
+    case 2: return "The packed event is cut short, or a length in it goes beyond its end.";
+    case 3: return "A varint does not fit 64 bits.";
+    case 4: return "The input ends inside a varint.";
+    case 5: return "A text is not well-formed UTF-8.";
+    case 6: return "The kind is above 65,535.";
+    case 7: return "The time is above 9,223,372,036,854,775 seconds.";
+    case 8: return "There are more than 1,000 tags, or more than 255 texts in a tag.";
+    case 9: return "A tag is empty.";
+    case 10: return "Something follows after the end.";
+    case 11: return "The lent buffer is shorter than needed.";
+    case 12: return "A fixed piece, hex or time is not as it must be, or the id, pubkey or sig is not lowercase hex of its length.";
+    case 13: return "A count in the nson field disagrees with the text.";
+    case 14: return "The text is not allowed: wrong JSON syntax, type, escape, or a raw control byte.";
+    case 15: return "A field is missing.";
+    case 16: return "A field stands there twice.";
+    case 17: return "NSON can't carry this event.";
+    case 18: return "Arrays and objects are nested more than 16 deep.";
+    case 19: return "There is no such tag or element.";
+    default: return "There is no refusal with this number.";
+    }
+}
+
+#ifdef __cplusplus
+}
+#endif
+
+#endif /* KEZUBIMORYU_H */
