@@ -1,5 +1,6 @@
 pub mod Fits
 pub mod Turn
+pub mod BlockLaws
 pub mod EscapeLaws
 pub mod TokenLaws
 pub mod TextLaws

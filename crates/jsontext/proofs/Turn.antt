@@ -132,5 +132,9 @@ text-end s start i v h r = r ∙ sym (v .same ∙ go (v .fuel))
     go zero = refl
     go (suc k) = rw (byte-none s i h)
 
+-- a place before the end of a block is within the input
+pub before-end : {i e n : ℕ} → i < e → e ≤ n → i < n
+before-end h k = omega arith
+
 pub ruleset texts =
-    (text-start, text-none, text-quote, text-control, text-bad-escape, text-escape, text-ascii, text-bad-char, text-char, text-end)
+    (before-end, text-start, text-none, text-quote, text-control, text-bad-escape, text-escape, text-ascii, text-bad-char, text-char, text-end)

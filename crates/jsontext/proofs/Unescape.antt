@@ -16,7 +16,7 @@ use Rattle.scan.specs.Choice.{pick}
 use Rattle.scan.specs.Place.{begins, standsAt, run, runAt}
 use Rattle.scan.specs.Span.{Span, here, step, All, none, also}
 use Rattle.scan.proofs.Step.{pick-by, rest-none, rest-more, false-true, pick-true}
-use Rattle.scan.proofs.SpanLaws.{place, from-span, span-length, span-fits}
+use Rattle.scan.proofs.SpanLaws.{place, whole-span, from-span, span-length, span-fits}
 use Rattle.scan.proofs.PlaceLaws.{run-span, stands-span}
 use Rattle.utf8.specs.Encode.{encode}
 use Rattle.utf8.proofs.EncodeLaws.{encode-one}
@@ -25,7 +25,7 @@ use Rattle.event.specs.Event.{sameText}
 use Rattle.jsontext.specs.declared.Escape.{Escape}
 use Rattle.jsontext.specs.Escape.{escape, escapeAt, isPlain, plainAt, orItself, unescape}
 use Rattle.jsontext.proofs.EscapeLaws.{EscapeAt, escape-is, no-escape, escape-at}
-use Rattle.jsontext.proofs.Meaning.{unescape-none, unescape-plain, unescape-escape, width-some}
+use Rattle.jsontext.proofs.Meaning.{unescape-none, unescape-plain, unescape-itself, unescape-escape, width-some}
 
 -- ---- a run of bytes without a backslash
 
@@ -80,6 +80,13 @@ module _ (t : List ℕ) (i : ℕ) {e : ℕ} (q : e ≡ plainAt t i) where
       let m = run-inside h in
       let k : length (take (e - i) (drop i t)) ≡ e - i = simp (length-take, length-drop) (omega arith) in
       ap length unescape-run ∙ length-append (take (e - i) (drop i t)) (unescape (drop e t)) ∙ ap (λ (n : ℕ). n + length (unescape (drop e t))) k
+
+-- a string that is one run is its own text
+pub unescape-whole : (t : List ℕ) {e : ℕ} → e ≡ plainAt t 0 → length t ≤ e → unescape t ≡ t
+unescape-whole t {e} q h = go (plain-span t 0 q) (omega (arith, run-inside t 0 q (omega arith)))
+  where
+    go : (l : List ℕ) × All (λ (b : ℕ). b ≡ 0x5C → ⊥) l × Span t 0 l e → e ≡ length t → unescape t ≡ t
+    go r n = let w = whole-span (rw n at (r .2)) in ap unescape w ∙ unescape-itself (r .1) ∙ sym w
 
 -- nothing is left behind the end
 pub unescape-end : (t : List ℕ) (i : ℕ) → length t ≤ i → unescape (drop i t) ≡ []

@@ -1,6 +1,6 @@
 // JSON by RFC 8259 alone: tokens and strings at a cursor, values read over, and the text of a spelled string.
 use event::Refusal;
-ghost use Prim.Native.Nat.{_+_, _-_, _*_, _^_, _≤_, _<_};
+ghost use Prim.Native.Nat.{min, _+_, _-_, _*_, _^_, _≤_, _<_};
 ghost use mathlib.Core.Path.{_≡_};
 ghost use lib.ListN.{length, take, drop};
 ghost use Rattle.scan.specs.Choice.{refused};
@@ -12,6 +12,7 @@ ghost use Rattle.event.specs.Event.{sameText};
 ghost use Rattle.jsontext.specs.Token.{isSpace, spaceAt, wordAt, isDigit, digitsOr, minusAt, signAt, intAt, fracAt, isE, expAt, numberFrom, unsignedFrom, numberAt};
 ghost use Rattle.jsontext.specs.Escape.{hexValue, unitOf, unitAt, letterOf, letterEscape, pairOf, unicodeAt, escapeAt, plainAt, orItself, unescape};
 ghost use Rattle.jsontext.specs.Half.{held, halfBehind};
+ghost use Rattle.jsontext.specs.Block.{isOne, isControl, isSlash, specialOf, sumOf, PlainTo};
 ghost use Rattle.jsontext.specs.Text.{stringAt};
 ghost use Rattle.jsontext.specs.Value.{itemAt, memberAt, valueAt, walkAt};
 ghost use Rattle.jsontext.specs.Answers.{skipRead, stringRead};
@@ -344,8 +345,70 @@ fn bad_string(number: u8, place: usize) -> StringRead
     StringRead::Refused(Refusal { number, place })
 }
 
+// 1 where b is x, and else 0.
+fn is_one(b: u8, x: u8) -> u8
+    ensures { λ r. ⌜ r ≡ isOne b x ⌝ }
+    ensures { λ r. ⌜ r ≤ 1 ⌝ }
+{
+    if b == x { 1 } else { 0 }
+}
+
+// 1 where b is a control byte, and else 0.
+fn is_control(b: u8) -> u8
+    ensures { λ r. ⌜ r ≡ isControl b ⌝ }
+    ensures { λ r. ⌜ r ≤ 1 ⌝ }
+{
+    if b < 0x20 { 1 } else { 0 }
+}
+
+// 0 for a byte that goes on a run of plain ASCII in a string: no control byte, no quote, no backslash, none above ASCII.
+fn special(b: u8) -> u8
+    ensures { λ r. ⌜ r ≡ specialOf b ⌝ }
+    ensures { λ r. ⌜ r ≤ 4 ⌝ }
+{
+    is_control(b) + is_one(b, 0x22) + is_one(b, 0x5C) + b / 128
+}
+
+// 0 for a block of such bytes. No exit on the way, and a sum in a byte: a loop for vectors.
+fn specials(block: &[u8]) -> u8
+    requires { ⌜ length (now block) ≤ 32 ⌝ }
+    ensures { λ r. ⌜ r ≡ sumOf specialOf (now (block .entry)) ⌝ }
+{
+    let mut i = 0;
+    let mut n: u8 = 0;
+    while i < block.len() {
+        n += special(block[i]);
+        i += 1;
+    }
+    n
+}
+
+// Passes blocks of 32 plain bytes from a place on.
+fn pass_plain(s: &[u8], at: usize) -> usize
+    requires { ⌜ at ≤ length (now s) ⌝ }
+    ensures { λ r. ⌜ PlainTo (now (s .entry)) at r ⌝ }
+{
+    let mut i = at;
+    while s.len() - i >= 32 {
+        let e = i + 32;
+        if specials(&s[i..e]) != 0 {
+            return i;
+        }
+        i = e;
+    }
+    i
+}
+
+// The end of the block of 32 bytes at a place, or the end of the n bytes.
+fn block_end(at: usize, n: usize) -> usize
+    requires { ⌜ at ≤ n ⌝ }
+    ensures { λ r. ⌜ r ≡ min (at + 32) n ⌝ }
+{
+    if n - at <= 32 { n } else { at + 32 }
+}
+
 impl Cursor {
-    // The string whose opening quote stands at the cursor; the earliest fault decides.
+    // The string whose opening quote stands at the cursor; the earliest fault decides. Blocks of plain bytes are passed whole.
     pub fn string(self, s: &[u8]) -> StringRead
         ensures { λ r. ⌜ stringRead r ≡ stringAt (now (s .entry)) (self .at) ⌝ }
     {
@@ -357,31 +420,35 @@ impl Cursor {
         let from = at + 1;
         let mut i = from;
         while i < s.len() {
-            let b = s[i];
-            if b == 0x22 {
-                return StringRead::Text(Spelled { from, count: i - from }, Cursor { at: i + 1 });
-            }
-            if b < 0x20 {
-                return bad_string(event::TEXT_NOT_ALLOWED, at);
-            }
-            if b == 0x5C {
-                let e = escape_at(s, i);
-                let w = e.width;
-                if w == 0 {
+            i = pass_plain(s, i);
+            let end = block_end(i, s.len());
+            while i < end {
+                let b = s[i];
+                if b == 0x22 {
+                    return StringRead::Text(Spelled { from, count: i - from }, Cursor { at: i + 1 });
+                }
+                if b < 0x20 {
                     return bad_string(event::TEXT_NOT_ALLOWED, at);
                 }
+                if b == 0x5C {
+                    let e = escape_at(s, i);
+                    let w = e.width;
+                    if w == 0 {
+                        return bad_string(event::TEXT_NOT_ALLOWED, at);
+                    }
+                    i += w;
+                    continue;
+                }
+                if b < 0x80 {
+                    i += 1;
+                    continue;
+                }
+                let w = utf8::width_at(s, i);
+                if w == 0 {
+                    return bad_string(event::ILL_FORMED_UTF8, from);
+                }
                 i += w;
-                continue;
             }
-            if b < 0x80 {
-                i += 1;
-                continue;
-            }
-            let w = utf8::width_at(s, i);
-            if w == 0 {
-                return bad_string(event::ILL_FORMED_UTF8, from);
-            }
-            i += w;
         }
         bad_string(event::TEXT_NOT_ALLOWED, at)
     }
@@ -491,11 +558,42 @@ impl Cursor {
 
 // ---- the text of a spelled string
 
-// The place of the next backslash, or the end.
-fn next_backslash(t: &[u8], at: usize) -> usize
-    ensures { λ r. ⌜ r ≡ plainAt (now (t .entry)) at ⌝ }
+// How many bytes of a block are backslashes.
+fn backslashes(block: &[u8]) -> u8
+    requires { ⌜ length (now block) ≤ 32 ⌝ }
+    ensures { λ r. ⌜ r ≡ sumOf isSlash (now (block .entry)) ⌝ }
+{
+    let mut i = 0;
+    let mut n: u8 = 0;
+    while i < block.len() {
+        n += is_one(block[i], 0x5C);
+        i += 1;
+    }
+    n
+}
+
+// Passes blocks of 32 bytes without a backslash from a place on.
+fn pass_blocks(t: &[u8], at: usize) -> usize
+    requires { ⌜ at ≤ length (now t) ⌝ }
+    ensures { λ r. ⌜ plainAt (now (t .entry)) at ≡ plainAt (now (t .entry)) r ⌝ }
 {
     let mut i = at;
+    while t.len() - i >= 32 {
+        let e = i + 32;
+        if backslashes(&t[i..e]) != 0 {
+            return i;
+        }
+        i = e;
+    }
+    i
+}
+
+// The place of the next backslash, or the end.
+fn next_backslash(t: &[u8], at: usize) -> usize
+    requires { ⌜ at ≤ length (now t) ⌝ }
+    ensures { λ r. ⌜ r ≡ plainAt (now (t .entry)) at ⌝ }
+{
+    let mut i = pass_blocks(t, at);
     while i < t.len() {
         let b = t[i];
         if b == 0x5C {
@@ -728,7 +826,11 @@ pub fn unescaped_goes_as_bytes(s: &[u8], from: usize, n: usize) -> bool
 pub fn put_unescaped_unhex(out: &mut [u8], at: usize, s: &[u8], from: usize, n: usize) -> usize
     ensures { λ r. ⌜ Wrote (now (out .entry)) at (unhex (unescape (take n (drop from (now (s .entry)))))) (now (out .exit)) r ⌝ }
 {
-    put_text_unhex(out, at, scan::part(s, from, n))
+    let t = scan::part(s, from, n);
+    if next_backslash(t, 0) < t.len() {
+        return put_text_unhex(out, at, t);
+    }
+    hex::put_unhex(out, at, t)
 }
 
 // Whether it is the name.
