@@ -31,7 +31,7 @@ first-digit : (b : ℕ) → 0x30 ≤ b → b ≤ 0x39 → First b
 unfolding isSpace
 first-digit b l h = record {
   solid =
-    simp (ne-eqb b 0x20 (λ e. omega arith), ne-eqb b 0x0A (λ e. omega arith), ne-eqb b 0x0D (λ e. omega arith), ne-eqb b 0x09 (λ e. omega arith));
+      simp (ne-eqb b 0x20 (λ e. omega arith), ne-eqb b 0x0A (λ e. omega arith), ne-eqb b 0x0D (λ e. omega arith), ne-eqb b 0x09 (λ e. omega arith));
   no-bracket = ne-eqb b 0x5D (λ e. omega arith);
   no-brace = ne-eqb b 0x7D (λ e. omega arith);
 }

@@ -237,7 +237,7 @@ module _ {t name : List ℕ} {i j : ℕ} (v : InName t name i j) where
     pub name-escape : {k : ℕ} → r ≡ true → k ≡ length (encode (x .scalar)) → InName t name (i + x .width) (j + k)
     name-escape y k = record {
       same =
-        same-on (encode (x .scalar)) (unescape (drop (i + x .width) t)) name j (v .same ∙ ap (λ (m : List ℕ). sameText m (drop j name)) (unescape-escape t i h s f)) (sym k) (sym a ∙ y);
+          same-on (encode (x .scalar)) (unescape (drop (i + x .width) t)) name j (v .same ∙ ap (λ (m : List ℕ). sameText m (drop j name)) (unescape-escape t i h s f)) (sym k) (sym a ∙ y);
       inside = taken t i h s f .inside;
       within = stands-inside (encode (x .scalar)) name j (sym k) (sym a ∙ y) (v .within);
     }

@@ -90,7 +90,7 @@ module _ (s : List ℕ) (start i : ℕ) where
         record {
           fuel = f .0;
           enough = omega (arith, f .1, z);
-          same = f .2 ∙ rw (ne-eqb (getD s i 0) 0x22 n, le-ltb (getD s i 0) 0x20 l, eq-eqb (getD s i 0) 0x5C q, w, ne-eqb (x .width) 0 z)
+          same = f .2 ∙ rw (ne-eqb (getD s i 0) 0x22 n, le-ltb (getD s i 0) 0x20 l, eq-eqb (getD s i 0) 0x5C q, w, ne-eqb (x .width) 0 z);
         }
 
     -- an ASCII character
@@ -101,7 +101,7 @@ module _ (s : List ℕ) (start i : ℕ) where
         record {
           fuel = f .0;
           enough = omega (arith, f .1);
-          same = f .2 ∙ rw (ne-eqb (getD s i 0) 0x22 n, le-ltb (getD s i 0) 0x20 l, ne-eqb (getD s i 0) 0x5C q, lt-ltb (getD s i 0) 0x80 a)
+          same = f .2 ∙ rw (ne-eqb (getD s i 0) 0x22 n, le-ltb (getD s i 0) 0x20 l, ne-eqb (getD s i 0) 0x5C q, lt-ltb (getD s i 0) 0x80 a);
         }
 
     -- an ill-formed sequence
@@ -120,7 +120,7 @@ module _ (s : List ℕ) (start i : ℕ) where
         record {
           fuel = f .0;
           enough = omega (arith, f .1, z);
-          same = f .2 ∙ rw (ne-eqb (getD s i 0) 0x22 n, le-ltb (getD s i 0) 0x20 l, ne-eqb (getD s i 0) 0x5C q, le-ltb (getD s i 0) 0x80 a, ← e, ne-eqb _ _ z)
+          same = f .2 ∙ rw (ne-eqb (getD s i 0) 0x22 n, le-ltb (getD s i 0) 0x20 l, ne-eqb (getD s i 0) 0x5C q, le-ltb (getD s i 0) 0x80 a, ← e, ne-eqb _ _ z);
         }
 
 -- the end before the closing quote

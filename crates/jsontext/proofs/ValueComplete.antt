@@ -138,6 +138,7 @@ member-accepts value X g r c p z f = let u = separator-accepts 0x3A colon-solid 
 
 mutual
   unfolding valueBy itemAt
+
   value-full : (v : json.Json) {s l : List ℕ} {a c : ℕ} (d : ℕ) → json.nesting v ≤ d → json.Spells v l → Span s a l c
       → ((k : List ℕ) → v ≡ json.Json.number k → Stop (getD s c 0)) → valueAt d s a ≡ past c
   value-full json.Json.false {s} {a = a} d h json.is-false (step p q r) st = word-by _ d s a _ (rw q) (word-accepts (step p q r))

@@ -71,8 +71,7 @@ sep-members : {d close : ℕ} {x : Done} {l : List ℕ} → Sep (SomeMember d) c
     → (m : json.Members) × (k : List ℕ) × (w : List ℕ) × json.SpellsMembers m k × json.Ws w × (l ≡ k ++ (w ++ (close ∷ []))) × (json.nestingOfMembers m ≤ d)
 sep-members (stop {l = l} {w = w} (some-member {n = n} {v = v} g h) k) = (json.member n v json.no-member, l, w, json.last-member g, k, refl, omega arith)
 sep-members (again {l = l} {c = c} (some-member {n = n} {v = v} g h) k r) =
-    let u = sep-members r in
-    (
+    let u = sep-members r in (
       json.member n v (u .0),
       l ++ (c ++ u .1),
       u .2,

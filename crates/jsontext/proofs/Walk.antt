@@ -130,8 +130,8 @@ module _ (s : List ℕ) (depth close at : ℕ) where
               enough = omega (arith, v .enough, v .inside, u);
               inside = u .1;
               same =
-                passed
-                ∙ rw (ne-eqb (getD s (behind .at) 0) close (λ z. n (h ∙ z)), eq-eqb (getD s (behind .at) 0) 0x2C (sym h ∙ m), ← q);
+                  passed
+                  ∙ rw (ne-eqb (getD s (behind .at) 0) close (λ z. n (h ∙ z)), eq-eqb (getD s (behind .at) 0) 0x2C (sym h ∙ m), ← q);
             }
 
         pub walk-less : (again : Cursor) → b ≡ 0x2C → again .at ≡ spaceAt s (behind .at + 1) → length s - again .at < length s - i

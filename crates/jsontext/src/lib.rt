@@ -194,7 +194,9 @@ impl Cursor {
             return not_allowed(at);
         }
         let k = after_frac(s, j);
-        Skip::Past(Cursor { at: after_exp(s, k) })
+        Skip::Past(Cursor {
+            at: after_exp(s, k),
+        })
     }
 }
 
@@ -284,9 +286,15 @@ fn letter_escape(b: u8) -> Escape
     ensures { λ r. ⌜ r ≡ letterEscape b ⌝ }
 {
     if b == 0 {
-        return Escape { width: 0, scalar: 0 };
+        return Escape {
+            width: 0,
+            scalar: 0,
+        };
     }
-    Escape { width: 2, scalar: b as u32 }
+    Escape {
+        width: 2,
+        scalar: b as u32,
+    }
 }
 
 // A high surrogate and the unit behind it.
@@ -296,12 +304,21 @@ fn pair_of(u: u32, v: u32) -> Escape
     ensures { λ r. ⌜ r ≡ pairOf u v ⌝ }
 {
     if v < 0xDC00 {
-        return Escape { width: 0, scalar: 0 };
+        return Escape {
+            width: 0,
+            scalar: 0,
+        };
     }
     if v < 0xE000 {
-        return Escape { width: 12, scalar: 0x10000 + (u - 0xD800) * 0x400 + (v - 0xDC00) };
+        return Escape {
+            width: 12,
+            scalar: 0x10000 + (u - 0xD800) * 0x400 + (v - 0xDC00),
+        };
     }
-    Escape { width: 0, scalar: 0 }
+    Escape {
+        width: 0,
+        scalar: 0,
+    }
 }
 
 // The escape at a place whose four digits say u.
@@ -310,19 +327,31 @@ fn unicode_at(s: &[u8], at: usize, u: u32) -> Escape
     ensures { λ r. ⌜ r ≡ unicodeAt (now (s .entry)) at u ⌝ }
 {
     if u < 0xD800 {
-        return Escape { width: 6, scalar: u };
+        return Escape {
+            width: 6,
+            scalar: u,
+        };
     }
     if u < 0xDC00 {
         let v = unit_at(s, at + 6);
         return pair_of(u, v);
     }
     if u < 0xE000 {
-        return Escape { width: 0, scalar: 0 };
+        return Escape {
+            width: 0,
+            scalar: 0,
+        };
     }
     if u < 0x10000 {
-        return Escape { width: 6, scalar: u };
+        return Escape {
+            width: 6,
+            scalar: u,
+        };
     }
-    Escape { width: 0, scalar: 0 }
+    Escape {
+        width: 0,
+        scalar: 0,
+    }
 }
 
 // The escape whose backslash stands at a place.
@@ -425,7 +454,13 @@ impl Cursor {
             while i < end {
                 let b = s[i];
                 if b == 0x22 {
-                    return StringRead::Text(Spelled { from, count: i - from }, Cursor { at: i + 1 });
+                    return StringRead::Text(
+                        Spelled {
+                            from,
+                            count: i - from,
+                        },
+                        Cursor { at: i + 1 },
+                    );
                 }
                 if b < 0x20 {
                     return bad_string(event::TEXT_NOT_ALLOWED, at);
@@ -612,7 +647,10 @@ fn escape_or_itself(t: &[u8], at: usize) -> Escape
     let e = escape_at(t, at);
     let w = e.width;
     if w == 0 {
-        return Escape { width: 1, scalar: 0x5C };
+        return Escape {
+            width: 1,
+            scalar: 0x5C,
+        };
     }
     e
 }

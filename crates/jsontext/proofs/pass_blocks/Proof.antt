@@ -31,5 +31,6 @@ pass-blocks-spec =
     (λ c κs. search needs)
     (λ c. c .before .before .before .before .loop .inv .1)
     (λ c. omega arith)
-    (λ c. (omega arith, run-block _ _ _ _ (c .before .before .before .before .loop .inv .1) (omega arith) (omega arith) (c .before .backslashes .ensures) (c .if1 .left)))
+    (λ c.
+    (omega arith, run-block _ _ _ _ (c .before .before .before .before .loop .inv .1) (omega arith) (omega arith) (c .before .backslashes .ensures) (c .if1 .left)))
     (λ c. c .before .loop .inv .1))

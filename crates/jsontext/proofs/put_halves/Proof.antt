@@ -23,11 +23,13 @@ abbrev μ-loop : tie.MeasureT-loop
 -- the half that is read and a digit: a byte
 again : tie.Need-loop-again Inv-loop μ-loop
 again c =
-    let q = c .before .before .before .before .before .before .before .before .loop in
-    let k = c .before .before .before .before .if1 .taken in
-    let r = rest-more _ _ (c .before .before .before .before .before .before .before .loop-test .taken) in
+    let p = c .before .before .before .before in
+    let u = p .before .before .before .before in
+    let q = u .loop in
+    let k = p .if1 .taken in
+    let r = rest-more _ _ (p .before .before .before .loop-test .taken) in
     let left = also (ap (λ l. unhex (held (q .h) l)) r ∙ held-byte (q .h) _ _ k) (q .inv .0) in
-    (one left (rw (c .before .before .before .before .before .value-of .ensures) at (c .before .before .put-byte .ensures)), q .inv .1 ∙ ap (halfBehind (q .h)) r ∙ behind-byte (q .h) _ _ k)
+    (one left (rw (p .before .value-of .ensures) at (c .before .before .put-byte .ensures)), q .inv .1 ∙ ap (halfBehind (q .h)) r ∙ behind-byte (q .h) _ _ k)
 
 -- no half is read: the digit is the half
 again-2 : tie.Need-loop-again-2 Inv-loop μ-loop

@@ -8,7 +8,10 @@ use Rattle.jsontext.proofs.put_scalar_halves.Statement.{statement}
 use Rattle.jsontext.proofs.put_scalar_halves.Tie as tie
 
 returns : tie.Need-returns
-returns c = rw (c .before .before .before .part .ensures ∙ encoded (c .before .before .before .before .before .before .before .before .before .before .args .n) refl (c .before .before .before .before .before .before .before .put-scalar .ensures)) at (c .before .before .put-halves .ensures)
+returns c =
+    let p = c .before .before .before in
+    let q = p .before .before .before .before in
+    rw (p .part .ensures ∙ encoded (q .before .before .before .args .n) refl (q .put-scalar .ensures)) at (c .before .before .put-halves .ensures)
 
 pub put-scalar-halves-spec : {M : Type 1} → statement M
 put-scalar-halves-spec =

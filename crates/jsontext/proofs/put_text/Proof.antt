@@ -19,14 +19,18 @@ abbrev μ-loop : tie.MeasureT-loop
 
 again : tie.Need-loop-again Inv-loop μ-loop
 again c =
-    let r = c .before .before .before .before .before .before .before .before .before .before .next-backslash in
-    let x = c .before .before .before .before .escape-or-itself in
-    let left = part (also (unescape-run _ _ (r .ensures)) (c .before .before .before .before .before .before .before .before .before .before .before .before .loop .inv)) (c .before .before .before .before .before .before .before .before .put-part .ensures) in
-    part (also (turn-text _ _ _ (x .result) (r .ensures) (c .before .before .before .before .before .if1 .left) (x .ensures)) left) (c .before .before .put-scalar .ensures)
+    let p = c .before .before .before .before in
+    let q = p .before .before .before .before in
+    let u = q .before .before .before .before in
+    let r = q .before .before .next-backslash in
+    let x = p .escape-or-itself in
+    let left = part (also (unescape-run _ _ (r .ensures)) (u .loop .inv)) (q .put-part .ensures) in
+    part (also (turn-text _ _ _ (x .result) (r .ensures) (p .before .if1 .left) (x .ensures)) left) (c .before .before .put-scalar .ensures)
 
 returns : tie.Need-returns Inv-loop μ-loop
 returns c =
-    let left = part (also (unescape-run _ _ (c .before .before .before .before .before .next-backslash .ensures)) (c .before .before .before .before .before .before .before .loop .inv)) (c .before .before .before .put-part .ensures) in
+    let p = c .before .before .before .before in
+    let left = part (also (unescape-run _ _ (p .before .next-backslash .ensures)) (p .before .before .before .loop .inv)) (c .before .before .before .put-part .ensures) in
     done (also (unescape-end _ _ (c .if1 .taken)) left)
 
 pub put-text-spec : {M : Type 1} → statement M

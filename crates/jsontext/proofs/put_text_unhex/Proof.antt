@@ -21,18 +21,23 @@ abbrev μ-loop : tie.MeasureT-loop
 
 again : tie.Need-loop-again Inv-loop μ-loop
 again c =
-    let q = c .before .before .before .before .before .before .before .before .before .before .before .next-backslash .ensures in
-    let h = c .before .before .before .before .before .before .before .before .before .before .before .before .before .loop .h in
-    let x = c .before .before .before .before .escape-or-itself in
-    let a = rw (c .before .before .before .before .before .before .before .before .before .part .ensures) at (c .before .before .before .before .before .before .before .before .put-halves .ensures) in
+    let p = c .before .before .before .before in
+    let r = p .before .before .before .before in
+    let u = r .before .before .before .before in
+    let q = r .before .before .before .next-backslash .ensures in
+    let h = u .before .loop .h in
+    let x = p .escape-or-itself in
+    let a = rw (r .before .part .ensures) at (r .put-halves .ensures) in
     let d = c .before .before .put-scalar-halves .ensures in
-    let left = with-half _ _ _ (a .1) (part (also (unhex-run _ _ h q) (c .before .before .before .before .before .before .before .before .before .before .before .before .before .loop .inv)) (a .0)) in
-    with-half _ _ _ (d .1) (part (also (unhex-escape _ _ _ _ q (c .before .before .before .before .before .if1 .left) (x .ensures)) left) (d .0))
+    let left = with-half _ _ _ (a .1) (part (also (unhex-run _ _ h q) (u .before .loop .inv)) (a .0)) in
+    with-half _ _ _ (d .1) (part (also (unhex-escape _ _ _ _ q (p .before .if1 .left) (x .ensures)) left) (d .0))
 
 returns : tie.Need-returns Inv-loop μ-loop
 returns c =
-    let a = rw (c .before .before .before .before .part .ensures) at (c .before .before .before .put-halves .ensures) in
-    done (also (unhex-end _ _ _ (c .if1 .taken)) (part (also (unhex-run _ _ (c .before .before .before .before .before .before .before .before .loop .h) (c .before .before .before .before .before .before .next-backslash .ensures)) (c .before .before .before .before .before .before .before .before .loop .inv)) (a .0)))
+    let p = c .before .before .before .before in
+    let q = p .before .before .before .before in
+    let a = rw (p .part .ensures) at (c .before .before .before .put-halves .ensures) in
+    done (also (unhex-end _ _ _ (c .if1 .taken)) (part (also (unhex-run _ _ (q .loop .h) (p .before .before .next-backslash .ensures)) (q .loop .inv)) (a .0)))
 
 pub put-text-unhex-spec : {M : Type 1} → statement M
 put-text-unhex-spec =

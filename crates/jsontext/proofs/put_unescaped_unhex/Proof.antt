@@ -9,12 +9,13 @@ use Rattle.jsontext.proofs.put_unescaped_unhex.Statement.{statement}
 use Rattle.jsontext.proofs.put_unescaped_unhex.Tie as tie
 
 returns : tie.Need-returns
-returns c = rw (c .before .before .before .before .before .before .part .ensures) at (c .before .before .put-text-unhex .ensures)
+returns c = let p = c .before .before .before .before in rw (p .before .before .part .ensures) at (c .before .before .put-text-unhex .ensures)
 
 returns-2 : tie.Need-returns-2
 returns-2 c =
-    let whole = unescape-whole _ (c .before .before .before .before .before .next-backslash .ensures) (c .before .before .before .before .if1 .left) in
-    rw (c .before .before .before .before .before .before .part .ensures) at (rw (sym whole) at (c .before .before .put-unhex .ensures))
+    let p = c .before .before .before .before in
+    let whole = unescape-whole _ (p .before .next-backslash .ensures) (p .if1 .left) in
+    rw (p .before .before .part .ensures) at (rw (sym whole) at (c .before .before .put-unhex .ensures))
 
 pub put-unescaped-unhex-spec : {M : Type 1} → statement M
 put-unescaped-unhex-spec =

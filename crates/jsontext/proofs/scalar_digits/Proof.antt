@@ -16,4 +16,6 @@ scalar-digits-spec =
     (λ c. search needs)
     (λ c κs. search needs)
     (λ c κs. search needs)
-    (λ c. c .all-digits .ensures ∙ ap allDigits (c .before .part .ensures ∙ encoded (c .before .before .before .before .before .before .args .n) refl (c .before .before .before .before .put-scalar .ensures))))
+    (λ c.
+    let p = c .before .before .before .before in
+    c .all-digits .ensures ∙ ap allDigits (c .before .part .ensures ∙ encoded (p .before .before .args .n) refl (p .put-scalar .ensures))))

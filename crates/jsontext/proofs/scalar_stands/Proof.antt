@@ -18,4 +18,6 @@ scalar-stands-spec =
     (λ c. search needs)
     (λ c κs. search needs)
     (λ c κs. search needs)
-    (λ c. c .stands-at .ensures ∙ ap (λ (l : List ℕ). standsAt l (c .before .before .before .before .before .before .before .args .s .now) (c .before .before .before .before .before .before .before .args .at)) (c .before .part .ensures ∙ encoded (c .before .before .before .before .before .before .before .args .n) refl (c .before .before .before .before .put-scalar .ensures))))
+    (λ c.
+    let p = c .before .before .before .before in
+    c .stands-at .ensures ∙ ap (λ (l : List ℕ). standsAt l (p .before .before .before .args .s .now) (p .before .before .before .args .at)) (c .before .part .ensures ∙ encoded (p .before .before .before .args .n) refl (p .put-scalar .ensures))))

@@ -18,16 +18,20 @@ abbrev μ-loop : tie.MeasureT-loop
 
 again : tie.Need-loop-again Inv-loop μ-loop
 again c =
-    let q = c .before .before .before .before .before .before .before .next-backslash .ensures in
+    let p = c .before .before .before .before in
+    let r = p .before .before .before .before in
+    let q = p .before .before .before .next-backslash .ensures in
     let h = c .before .before .before .if2 .left in
-    let v = digits-run (c .before .before .before .before .before .before .before .before .before .loop .inv) q (c .before .before .before .before .before .before .part .ensures) (c .before .before .before .before .before .all-digits .ensures) (not-false _ (c .before .before .before .before .if1 .left)) in
+    let v = digits-run (r .before .loop .inv) q (p .before .before .part .ensures) (p .before .all-digits .ensures) (not-false _ (p .if1 .left)) in
     digits-escape v h (run-slash _ _ q h) (c .before .before .escape-or-itself .ensures) (c .before .scalar-digits .ensures) (not-false _ (c .if3 .left))
 
 returns-3 : tie.Need-returns-3 Inv-loop μ-loop
 returns-3 c =
-    let q = c .before .before .before .before .before .before .before .next-backslash .ensures in
+    let p = c .before .before .before .before in
+    let r = p .before .before .before .before in
+    let q = p .before .before .before .next-backslash .ensures in
     let h = c .before .before .before .if2 .left in
-    let v = digits-run (c .before .before .before .before .before .before .before .before .before .loop .inv) q (c .before .before .before .before .before .before .part .ensures) (c .before .before .before .before .before .all-digits .ensures) (not-false _ (c .before .before .before .before .if1 .left)) in
+    let v = digits-run (r .before .loop .inv) q (p .before .before .part .ensures) (p .before .all-digits .ensures) (not-false _ (p .if1 .left)) in
     digits-escape-off v h (run-slash _ _ q h) (c .before .before .escape-or-itself .ensures) (c .before .scalar-digits .ensures) (not-true _ (c .if3 .taken))
 
 pub text-digits-spec : {M : Type 1} → statement M
@@ -41,8 +45,12 @@ text-digits-spec =
     (λ c. search steps)
     (λ c κs. search needs)
     (λ c κs. search needs)
-    (λ c. digits-run-off (c .before .before .before .before .before .loop .inv) (c .before .before .before .next-backslash .ensures) (c .before .before .part .ensures) (c .before .all-digits .ensures) (not-true _ (c .if1 .taken)))
-    (λ c. digits-end (digits-run (c .before .before .before .before .before .before .loop .inv) (c .before .before .before .before .next-backslash .ensures) (c .before .before .before .part .ensures) (c .before .before .all-digits .ensures) (not-false _ (c .before .if1 .left))) (c .if2 .taken))
+    (λ c.
+    let p = c .before .before .before .before in
+    digits-run-off (p .before .loop .inv) (c .before .before .before .next-backslash .ensures) (c .before .before .part .ensures) (c .before .all-digits .ensures) (not-true _ (c .if1 .taken)))
+    (λ c.
+    let p = c .before .before .before .before in
+    digits-end (digits-run (p .before .before .loop .inv) (p .next-backslash .ensures) (c .before .before .before .part .ensures) (c .before .before .all-digits .ensures) (not-false _ (c .before .if1 .left))) (c .if2 .taken))
     (λ c κs. search needs)
     (λ c κs. search needs)
     returns-3

@@ -18,16 +18,20 @@ abbrev μ-loop : tie.MeasureT-loop
 
 again : tie.Need-loop-again Inv-loop μ-loop
 again c =
-    let q = c .before .before .before .before .before .before .before .before .next-backslash .ensures in
-    let h = c .before .before .before .before .if2 .left in
-    let v = name-run (c .before .before .before .before .before .before .before .before .before .before .loop .inv) q (c .before .before .before .before .before .before .before .part .ensures) (c .before .before .before .before .before .before .stands-at .ensures) (not-false _ (c .before .before .before .before .before .if1 .left)) in
+    let p = c .before .before .before .before in
+    let r = p .before .before .before .before in
+    let q = r .next-backslash .ensures in
+    let h = p .if2 .left in
+    let v = name-run (r .before .before .loop .inv) q (p .before .before .before .part .ensures) (p .before .before .stands-at .ensures) (not-false _ (p .before .if1 .left)) in
     name-escape v h (run-slash _ _ q h) (c .before .before .before .escape-or-itself .ensures) (c .before .before .scalar-stands .ensures) (not-false _ (c .before .if3 .left)) (c .scalar-len .ensures .0)
 
 returns-3 : tie.Need-returns-3 Inv-loop μ-loop
 returns-3 c =
-    let q = c .before .before .before .before .before .before .before .next-backslash .ensures in
+    let p = c .before .before .before .before in
+    let r = p .before .before .before .before in
+    let q = p .before .before .before .next-backslash .ensures in
     let h = c .before .before .before .if2 .left in
-    let v = name-run (c .before .before .before .before .before .before .before .before .before .loop .inv) q (c .before .before .before .before .before .before .part .ensures) (c .before .before .before .before .before .stands-at .ensures) (not-false _ (c .before .before .before .before .if1 .left)) in
+    let v = name-run (r .before .loop .inv) q (p .before .before .part .ensures) (p .before .stands-at .ensures) (not-false _ (p .if1 .left)) in
     name-escape-off v h (run-slash _ _ q h) (c .before .before .escape-or-itself .ensures) (c .before .scalar-stands .ensures) (not-true _ (c .if3 .taken))
 
 pub text-is-spec : {M : Type 1} → statement M
@@ -41,9 +45,15 @@ text-is-spec =
     (λ c. search steps)
     (λ c κs. search needs)
     (λ c κs. search needs)
-    (λ c. name-run-off (c .before .before .before .before .before .loop .inv) (c .before .before .before .next-backslash .ensures) (c .before .before .part .ensures) (c .before .stands-at .ensures) (not-true _ (c .if1 .taken)))
-    (λ c. omega (arith, name-run (c .before .before .before .before .before .loop .inv) (c .before .before .before .next-backslash .ensures) (c .before .before .part .ensures) (c .before .stands-at .ensures) (not-false _ (c .if1 .left))))
-    (λ c. name-end (name-run (c .before .before .before .before .before .before .loop .inv) (c .before .before .before .before .next-backslash .ensures) (c .before .before .before .part .ensures) (c .before .before .stands-at .ensures) (not-false _ (c .before .if1 .left))) (c .if2 .taken))
+    (λ c.
+    let p = c .before .before .before .before in
+    name-run-off (p .before .loop .inv) (c .before .before .before .next-backslash .ensures) (c .before .before .part .ensures) (c .before .stands-at .ensures) (not-true _ (c .if1 .taken)))
+    (λ c.
+    let p = c .before .before .before .before in
+    omega (arith, name-run (p .before .loop .inv) (c .before .before .before .next-backslash .ensures) (c .before .before .part .ensures) (c .before .stands-at .ensures) (not-false _ (c .if1 .left))))
+    (λ c.
+    let p = c .before .before .before .before in
+    name-end (name-run (p .before .before .loop .inv) (p .next-backslash .ensures) (c .before .before .before .part .ensures) (c .before .before .stands-at .ensures) (not-false _ (c .before .if1 .left))) (c .if2 .taken))
     (λ c κs. search needs)
     (λ c κs. search needs)
     returns-3

@@ -16,10 +16,11 @@ abbrev μ-loop : tie.MeasureT-loop
 
 again : tie.Need-loop-again Inv-loop μ-loop
 again c =
+    let p = c .before .before .before .before in
     let r = c .before .before .before .next-backslash in
     let h = c .before .before .if1 .left in
     let x = c .before .escape-or-itself in
-    measured-escape (x .result) _ h (run-slash _ _ (r .ensures) h) (x .ensures) (c .scalar-len .ensures .0) (measured-run _ (r .ensures) (c .before .before .before .before .before .loop .inv))
+    measured-escape (x .result) _ h (run-slash _ _ (r .ensures) h) (x .ensures) (c .scalar-len .ensures .0) (measured-run _ (r .ensures) (p .before .loop .inv))
 
 pub text-len-spec : {M : Type 1} → statement M
 text-len-spec =

@@ -1,3 +1,5 @@
+-- A value, the walk of an array or an object, and its items call one another. The measure is 4 times the depth that is left, and so much more that each call falls.
+-- Each return names what happened on the way; the turns of the walk are the laws of `walks`, and an item takes a byte or more, so that the input falls.
 use Rattle.jsontext.proofs.ValueComplete.{value-open}
 use borrow.Author.Needs.{needs}
 use borrow.Author.Tests.{eq-eqb, ne-eqb}
@@ -110,10 +112,30 @@ unfolding itemAt memberAt colonAt valueBy
     (λ c. search next-fits)
     (λ c κs. search needs)
     (λ c κs. search needs)
-    (λ c. simp (← c .before .before .before .before .before .before .before .before .string .ensures, c .before .before .before .before .before .before .name .given .1, ← c .before .before .before .before .skip-space .ensures, ← c .before .before .before .byte-at .ensures, eq-eqb _ _ (c .before .before .if1 .taken), ← c .before .skip-space2 .ensures, ← c .skip-value .ensures))
+    (λ c.
+    let p = c .before .before .before .before in
+    let q = p .before .before .before .before in
+    simp (
+      ← q .string .ensures,
+      p .before .before .name .given .1,
+      ← p .skip-space .ensures,
+      ← c .before .before .before .byte-at .ensures,
+      eq-eqb _ _ (c .before .before .if1 .taken),
+      ← c .before .skip-space2 .ensures,
+      ← c .skip-value .ensures,
+    ))
     (λ c κs. search needs)
     (λ c. search needs)
-    (λ c. simp (← c .before .before .before .before .before .before .before .string .ensures, c .before .before .before .before .before .name .given .1, ← c .before .before .before .skip-space .ensures, ← c .before .before .byte-at .ensures, ne-eqb _ _ (c .before .if1 .left), ← c .not-allowed .ensures))
+    (λ c.
+    let p = c .before .before .before .before in
+    simp (
+      ← p .before .before .before .string .ensures,
+      p .before .name .given .1,
+      ← c .before .before .before .skip-space .ensures,
+      ← c .before .before .byte-at .ensures,
+      ne-eqb _ _ (c .before .if1 .left),
+      ← c .not-allowed .ensures,
+    ))
     (λ c. simp (← c .before .before .before .string .ensures, c .before .name2 .given .1)))
     (λ t. skip-value-lts.spec (
       byte-at-reads.Asked,
@@ -133,23 +155,100 @@ unfolding itemAt memberAt colonAt valueBy
     (λ c κs. search needs)
     (λ c. search needs)
     (λ c. search needs)
-    (λ c. simp (value-open, ← c .before .before .before .before .before .byte-at .ensures, eq-eqb _ _ (c .before .before .before .before .if1 .taken), ← c .before .before .before .string .ensures, c .before .t .given .1))
-    (λ c. simp (value-open, ← c .before .before .before .before .before .byte-at .ensures, eq-eqb _ _ (c .before .before .before .before .if1 .taken), ← c .before .before .before .string .ensures, c .before .t2 .given .1))
+    (λ c.
+    let p = c .before .before .before .before in
+    simp (
+      value-open,
+      ← p .before .byte-at .ensures,
+      eq-eqb _ _ (p .if1 .taken),
+      ← c .before .before .before .string .ensures,
+      c .before .t .given .1,
+    ))
+    (λ c.
+    let p = c .before .before .before .before in
+    simp (
+      value-open,
+      ← p .before .byte-at .ensures,
+      eq-eqb _ _ (p .if1 .taken),
+      ← c .before .before .before .string .ensures,
+      c .before .t2 .given .1,
+    ))
     (λ c κs. (search needs, (search byte-place, search needs)))
-    (λ c. simp (value-open, ← c .before .before .before .byte-at .ensures, ne-eqb _ _ (c .before .before .if1 .left), eq-eqb _ _ (c .before .if2 .taken), ← c .walk .ensures))
+    (λ c.
+    simp (
+      value-open,
+      ← c .before .before .before .byte-at .ensures,
+      ne-eqb _ _ (c .before .before .if1 .left),
+      eq-eqb _ _ (c .before .if2 .taken),
+      ← c .walk .ensures,
+    ))
     (λ c κs. (search needs, (search byte-place, search needs)))
-    (λ c. simp (value-open, ← c .before .before .before .before .byte-at .ensures, ne-eqb _ _ (c .before .before .before .if1 .left), ne-eqb _ _ (c .before .before .if2 .left), eq-eqb _ _ (c .before .if3 .taken), ← c .walk2 .ensures))
+    (λ c.
+    simp (
+      value-open,
+      ← c .before .before .before .before .byte-at .ensures,
+      ne-eqb _ _ (c .before .before .before .if1 .left),
+      ne-eqb _ _ (c .before .before .if2 .left),
+      eq-eqb _ _ (c .before .if3 .taken),
+      ← c .walk2 .ensures,
+    ))
     (λ c. search needs)
     (λ c κs. search needs)
-    (λ c. simp (value-open, ← c .before .before .before .before .before .before .byte-at .ensures, ne-eqb _ _ (c .before .before .before .before .before .if1 .left), ne-eqb _ _ (c .before .before .before .before .if2 .left), ne-eqb _ _ (c .before .before .before .if3 .left), eq-eqb _ _ (c .before .before .if4 .taken), ← c .word .ensures))
+    (λ c.
+    let p = c .before .before .before .before in
+    simp (
+      value-open,
+      ← p .before .before .byte-at .ensures,
+      ne-eqb _ _ (p .before .if1 .left),
+      ne-eqb _ _ (p .if2 .left),
+      ne-eqb _ _ (c .before .before .before .if3 .left),
+      eq-eqb _ _ (c .before .before .if4 .taken),
+      ← c .word .ensures,
+    ))
     (λ c. search needs)
     (λ c κs. search needs)
-    (λ c. simp (value-open, ← c .before .before .before .before .before .before .before .byte-at .ensures, ne-eqb _ _ (c .before .before .before .before .before .before .if1 .left), ne-eqb _ _ (c .before .before .before .before .before .if2 .left), ne-eqb _ _ (c .before .before .before .before .if3 .left), ne-eqb _ _ (c .before .before .before .if4 .left), eq-eqb _ _ (c .before .before .if5 .taken), ← c .word2 .ensures))
+    (λ c.
+    let p = c .before .before .before .before in
+    simp (
+      value-open,
+      ← p .before .before .before .byte-at .ensures,
+      ne-eqb _ _ (p .before .before .if1 .left),
+      ne-eqb _ _ (p .before .if2 .left),
+      ne-eqb _ _ (p .if3 .left),
+      ne-eqb _ _ (c .before .before .before .if4 .left),
+      eq-eqb _ _ (c .before .before .if5 .taken),
+      ← c .word2 .ensures,
+    ))
     (λ c. search needs)
     (λ c κs. search needs)
-    (λ c. simp (value-open, ← c .before .before .before .before .before .before .before .before .byte-at .ensures, ne-eqb _ _ (c .before .before .before .before .before .before .before .if1 .left), ne-eqb _ _ (c .before .before .before .before .before .before .if2 .left), ne-eqb _ _ (c .before .before .before .before .before .if3 .left), ne-eqb _ _ (c .before .before .before .before .if4 .left), ne-eqb _ _ (c .before .before .before .if5 .left), eq-eqb _ _ (c .before .before .if6 .taken), ← c .word3 .ensures))
+    (λ c.
+    let p = c .before .before .before .before in
+    let q = p .before .before .before .before in
+    simp (
+      value-open,
+      ← q .byte-at .ensures,
+      ne-eqb _ _ (p .before .before .before .if1 .left),
+      ne-eqb _ _ (p .before .before .if2 .left),
+      ne-eqb _ _ (p .before .if3 .left),
+      ne-eqb _ _ (p .if4 .left),
+      ne-eqb _ _ (c .before .before .before .if5 .left),
+      eq-eqb _ _ (c .before .before .if6 .taken),
+      ← c .word3 .ensures,
+    ))
     (λ c κs. search needs)
-    (λ c. simp (value-open, ← c .before .before .before .before .before .before .before .byte-at .ensures, ne-eqb _ _ (c .before .before .before .before .before .before .if1 .left), ne-eqb _ _ (c .before .before .before .before .before .if2 .left), ne-eqb _ _ (c .before .before .before .before .if3 .left), ne-eqb _ _ (c .before .before .before .if4 .left), ne-eqb _ _ (c .before .before .if5 .left), ne-eqb _ _ (c .before .if6 .left), ← c .number .ensures)))
+    (λ c.
+    let p = c .before .before .before .before in
+    simp (
+      value-open,
+      ← p .before .before .before .byte-at .ensures,
+      ne-eqb _ _ (p .before .before .if1 .left),
+      ne-eqb _ _ (p .before .if2 .left),
+      ne-eqb _ _ (p .if3 .left),
+      ne-eqb _ _ (c .before .before .before .if4 .left),
+      ne-eqb _ _ (c .before .before .if5 .left),
+      ne-eqb _ _ (c .before .if6 .left),
+      ← c .number .ensures,
+    )))
     λ t. walk-lts.spec (
       skip-space-reads.Asked,
       skip-space-reads.Learnt,
@@ -178,11 +277,32 @@ unfolding itemAt memberAt colonAt valueBy
     (λ c. search walks)
     (λ c κs. search needs)
     (λ c κs. search needs)
-    (λ c. let s = c .before .before .before .before .before .before .before .before .before .before .before .before .before .args .s .now in omega (arith, byte-positive s (c .before .before .skip-space2 .result .at) (c .before .byte-at2 .result) (c .before .before .before .before .before .before .before .before .before .before .before .before .before .args .close) (c .before .byte-at2 .ensures) (c .if3 .taken) (omega arith)))
+    (λ c.
+    let a = c .before .before .before .before .before .before .before .before .before .before .before .before .before .args in
+    let place = byte-positive (a .s .now) (c .before .before .skip-space2 .result .at) _ (a .close) (c .before .byte-at2 .ensures) (c .if3 .taken) (omega arith) in
+    omega arith)
     (λ c. search walks)
     (λ c κs. search needs)
     (λ c. search walks)
-    (λ c. let s = c .before .before .before .before .before .before .before .before .before .before .before .before .before .before .args .s .now in omega (arith, byte-place s (c .before .before .before .skip-space2 .result .at) (c .before .before .byte-at2 .result) 0x2C (c .before .before .byte-at2 .ensures) (c .if4 .left) refl))
+    (λ c.
+    let a = c .before .before .before .before .before .before .before .before .before .before .before .before .before .before .args in
+    let place = byte-place (a .s .now) (c .before .before .before .skip-space2 .result .at) _ 0x2C (c .before .before .byte-at2 .ensures) (c .if4 .left) refl in
+    omega arith)
     (λ c κs. search needs)
-    (λ c. let p = c .before .before .before .before .before .before .before .before .before in let a = c .before .before .before .before .before .before .before .before .before .before .before .before .before .before .before .args in walk-less (a .s .now) (a .depth) (a .close) (a .self .at) (p .loop .i) _ (p .loop .inv .0) (c .before .before .before .before .before .before .before .before .item .ensures) _ (c .before .before .before .before .skip-space2 .result) (c .before .before .before .before .before .before .read .given .1) (c .before .before .before .before .skip-space2 .ensures) _ (c .before .before .before .byte-at2 .ensures) (c .skip-space3 .result) (c .before .if4 .left) (c .skip-space3 .ensures))
-    (λ c. let p = c .before .before .before .before .before .before .before .before .before in let a = c .before .before .before .before .before .before .before .before .before .before .before .before .before .before .before .args in (walk-again (a .s .now) (a .depth) (a .close) (a .self .at) (p .loop .i) _ (p .loop .inv .0) (c .before .before .before .before .before .before .before .before .item .ensures) _ (c .before .before .before .before .skip-space2 .result) (c .before .before .before .before .before .before .read .given .1) (c .before .before .before .before .skip-space2 .ensures) _ (c .before .before .before .byte-at2 .ensures) (c .skip-space3 .result) (c .before .before .if3 .left) (c .before .if4 .left) (c .skip-space3 .ensures), omega arith))
+    (λ c.
+    let q = c .before .before .before .before in
+    let r = q .before .before .before .before in
+    let u = r .before .before .before .before in
+    let p = r .before in
+    let a = u .before .before .before .args in
+    walk-less (a .s .now) (a .depth) (a .close) (a .self .at) (p .loop .i) _ (p .loop .inv .0) (r .item .ensures) _ _ (q .before .before .read .given .1)
+    (q .skip-space2 .ensures) _ (c .before .before .before .byte-at2 .ensures) _ (c .before .if4 .left) (c .skip-space3 .ensures))
+    (λ c.
+    let q = c .before .before .before .before in
+    let r = q .before .before .before .before in
+    let u = r .before .before .before .before in
+    let p = r .before in
+    let a = u .before .before .before .args in
+    let turn = walk-again (a .s .now) (a .depth) (a .close) (a .self .at) (p .loop .i) _ (p .loop .inv .0) (r .item .ensures) _ _ (q .before .before .read .given .1)
+    (q .skip-space2 .ensures) _ (c .before .before .before .byte-at2 .ensures) _ (c .before .before .if3 .left) (c .before .if4 .left) (c .skip-space3 .ensures) in
+    (turn, omega arith))

@@ -56,7 +56,8 @@ string-spec =
     (λ c. omega arith)
     (λ c. omega arith)
     (λ c.
-    let q = c .before .before .before .before .before .before .loop2 in
+    let p = c .before .before .before .before in
+    let q = p .before .before .loop2 in
     let ascii = text-ascii _ _ _ (q .inv .1) (omega arith) (c .before .before .before .if2 .left) (c .before .before .if3 .left) (c .before .if4 .left) (c .if6 .taken) in
     (omega arith, ascii, omega arith))
     (λ c κs. search needs)
