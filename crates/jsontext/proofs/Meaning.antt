@@ -15,6 +15,7 @@ use Rattle.scan.specs.Place.{runAt}
 use Rattle.scan.specs.Span.{Span, here, step, All, none, also}
 use Rattle.scan.proofs.Step.{rest-none, rest-more, pick-by}
 use Rattle.scan.proofs.SpanLaws.{to-span, cut-at}
+use Rattle.scan.proofs.AllLaws.{all-map}
 use Rattle.utf8.specs.Utf8 as utf8
 use Rattle.utf8.specs.Encode.{Scalar, below, above, encode}
 use Rattle.utf8.proofs.Laws.{utf8-append, utf8-char}
@@ -23,6 +24,7 @@ use Rattle.jsontext.specs.declared.Escape.{Escape}
 use Rattle.jsontext.specs.Grammar as json
 use Rattle.jsontext.specs.Escape.{unitAt, escape, pairOf, unicodeAt, escapeAt, orItself, unescaped, unescape}
 use Rattle.jsontext.proofs.EscapeLaws.{EscapeAt, escape-is, no-escape, escape-at, escape-letter, escape-unicode, escape-pair, unit-length, letter-small, pair-scalar}
+use Rattle.jsontext.proofs.TextLaws.{high-bytes, Kind, narrow, wide, kind}
 
 -- ---- one step at a place
 
@@ -103,25 +105,15 @@ under h (utf8.octet p q) e = omega arith
 over : {low high b : ℕ} → 0x5C < low → utf8.Octet low high b → b ≡ 0x5C → ⊥
 over h (utf8.octet p q) e = omega arith
 
-higher : (b : ℕ) → 0x5C < b → b ≡ 0x5C → ⊥
+higher : (b : ℕ) → 0x80 ≤ b → b ≡ 0x5C → ⊥
 higher b h e = omega arith
-
-tail : {b : ℕ} → utf8.Tail b → b ≡ 0x5C → ⊥
-tail t = over (omega arith) t
 
 -- the bytes of an unescaped character are no backslash
 unescaped-plain : {c : List ℕ} → json.Unescaped c → All (λ (b : ℕ). b ≡ 0x5C → ⊥) c
 unescaped-plain (json.to-21 p) = also (under (omega arith) p) none
 unescaped-plain (json.to-5B p) = also (under (omega arith) p) none
 unescaped-plain (json.to-7F p) = also (over (omega arith) p) none
-unescaped-plain (json.Unescaped.above (utf8.two p t)) = also (over (omega arith) p) (also (tail t) none)
-unescaped-plain (json.Unescaped.above (utf8.three-E0 p t)) = also (higher 0xE0 (omega arith)) (also (over (omega arith) p) (also (tail t) none))
-unescaped-plain (json.Unescaped.above (utf8.three-E1 p t u)) = also (over (omega arith) p) (also (tail t) (also (tail u) none))
-unescaped-plain (json.Unescaped.above (utf8.three-ED p t)) = also (higher 0xED (omega arith)) (also (over (omega arith) p) (also (tail t) none))
-unescaped-plain (json.Unescaped.above (utf8.three-EE p t u)) = also (over (omega arith) p) (also (tail t) (also (tail u) none))
-unescaped-plain (json.Unescaped.above (utf8.four-F0 p t u)) = also (higher 0xF0 (omega arith)) (also (over (omega arith) p) (also (tail t) (also (tail u) none)))
-unescaped-plain (json.Unescaped.above (utf8.four-F1 p t u v)) = also (over (omega arith) p) (also (tail t) (also (tail u) (also (tail v) none)))
-unescaped-plain (json.Unescaped.above (utf8.four-F4 p t u)) = also (higher 0xF4 (omega arith)) (also (over (omega arith) p) (also (tail t) (also (tail u) none)))
+unescaped-plain (json.Unescaped.above g) = all-map higher (high-bytes g)
 
 slash : {s l : List ℕ} {a c u : ℕ} → json.Unit l u → Span s a l c → getD s a 0 ≡ 0x5C
 slash (json.unit p q r t) (step h e x) = e
@@ -198,3 +190,41 @@ pub unescape-back : (f : ℕ → List ℕ) (escaped : List ℕ → List ℕ) →
 unescape-back f escaped s z k [] = ap unescape z ∙ unescape-none
 unescape-back f escaped s z k (b ∷ t) =
     ap unescape (k b t) ∙ spelling-back (s b) (escaped t) ∙ ap (λ (m : List ℕ). b ∷ m) (unescape-back f escaped s z k t)
+
+-- ---- texts that were escaped byte by byte are strings of the grammar
+
+-- how a byte of a text may be spelled in a string of the grammar
+pub data Written : ℕ → List ℕ → Type 0 where
+  high : {b : ℕ} → 0x80 ≤ b → Written b (b ∷ [])
+  ascii : {b : ℕ} → b < 0x80 → json.Unescaped (b ∷ []) → Written b (b ∷ [])
+  lettered : {c b : ℕ} → json.Letter c b → Written b (0x5C ∷ c ∷ [])
+
+written-high : {b : ℕ} {l : List ℕ} → 0x80 ≤ b → Written b l → l ≡ b ∷ []
+written-high h (high k) = refl
+written-high h (ascii k g) = refl
+written-high h (Written.lettered g) = absurd (omega (arith, letter-small g))
+
+written-ascii : {b : ℕ} {l : List ℕ} → b < 0x80 → Written b l → json.Char l (b ∷ [])
+written-ascii h (high k) = absurd (omega arith)
+written-ascii h (ascii k g) = json.unescaped g
+written-ascii h (Written.lettered g) = json.letter g
+
+module _ (f : ℕ → List ℕ) (escaped : List ℕ → List ℕ) (z : escaped [] ≡ []) (k : (b : ℕ) (t : List ℕ) → escaped (b ∷ t) ≡ f b ++ escaped t) where
+  -- bytes above ASCII stand as they are
+  high-stand : {c : List ℕ} → All (λ (b : ℕ). 0x80 ≤ b) c → (l : List ℕ) → All (λ (b : ℕ). Written b (f b)) (c ++ l)
+      → (escaped (c ++ l) ≡ c ++ escaped l) × All (λ (b : ℕ). Written b (f b)) l
+  high-stand none l w = (refl, w)
+  high-stand (also {b = b} {l = c} h r) l (also w v) =
+      let u = high-stand r l v in
+      (k b (c ++ l) ∙ ap (λ (m : List ℕ). m ++ escaped (c ++ l)) (written-high h w) ∙ ap (λ (m : List ℕ). b ∷ m) (u .0), u .1)
+
+  -- a character in front
+  in-front : {c : List ℕ} → Kind c → (l : List ℕ) → (All (λ (b : ℕ). Written b (f b)) l → json.Chars (escaped l) l)
+      → All (λ (b : ℕ). Written b (f b)) (c ++ l) → json.Chars (escaped (c ++ l)) (c ++ l)
+  in-front (narrow {a = a} h) l r (also w v) = rw (k a l) (json.char (written-ascii h w) (r v))
+  in-front (wide g) l r w = let u = high-stand (high-bytes g) l w in rw (u .0) (json.char (json.unescaped (json.Unescaped.above g)) (r (u .1)))
+
+  -- a text of UTF-8 whose bytes are so spelled, byte by byte, is a string of the grammar that stands for the text
+  pub escaped-chars : {t : List ℕ} → utf8.Utf8 t → All (λ (b : ℕ). Written b (f b)) t → json.Chars (escaped t) t
+  escaped-chars utf8.Utf8.none w = rw z json.no-char
+  escaped-chars (utf8.char {l = l} g u) w = in-front (kind g) l (λ v. escaped-chars u v) w

@@ -12,7 +12,7 @@ use lib.Seq.{take-at}
 use lib.Dec.{ltb, eqb}
 use borrow.Author.Tests.{lt-ltb, le-ltb, eq-eqb, ne-eqb, ltb-true, ltb-false, eqb-true, eqb-false}
 use Rattle.scan.specs.Choice.{pick, Answer, shown, refused, Read, read}
-use Rattle.scan.specs.Span.{Span, here, step}
+use Rattle.scan.specs.Span.{Span, here, step, All, none, also}
 use Rattle.scan.proofs.SpanLaws.{join, cut, cut-at, open-span, close-span, bite, seen, nth, span-length, span-fits, from-span}
 use Rattle.scan.proofs.Reading.{Reads, reads, fails, pick-reads, from-reads, shown-reads}
 use Rattle.utf8.specs.Utf8 as utf8
@@ -34,28 +34,46 @@ to-ascii b l h p q =
     (λ m.
     dite (decLt b 0x5C) (λ k. json.to-5B (utf8.octet (omega (arith, m, p)) (omega arith))) (λ n. json.to-7F (utf8.octet (omega (arith, n, q)) (omega arith))))
 
--- a first byte above ASCII has more behind it
-to-above : {s c : List ℕ} {a e : ℕ} → utf8.Char c → Span s a c e → 0x80 ≤ getD s a 0 → json.Unescaped c
-to-above (utf8.one (utf8.octet p q)) (step h f r) l = absurd (omega arith)
-to-above (utf8.two p q) r l = json.Unescaped.above (utf8.two p q)
-to-above (utf8.three-E0 p q) r l = json.Unescaped.above (utf8.three-E0 p q)
-to-above (utf8.three-E1 p q t) r l = json.Unescaped.above (utf8.three-E1 p q t)
-to-above (utf8.three-ED p q) r l = json.Unescaped.above (utf8.three-ED p q)
-to-above (utf8.three-EE p q t) r l = json.Unescaped.above (utf8.three-EE p q t)
-to-above (utf8.four-F0 p q t) r l = json.Unescaped.above (utf8.four-F0 p q t)
-to-above (utf8.four-F1 p q t u) r l = json.Unescaped.above (utf8.four-F1 p q t u)
-to-above (utf8.four-F4 p q t) r l = json.Unescaped.above (utf8.four-F4 p q t)
+octet-high : {low high b : ℕ} → 0x80 ≤ low → utf8.Octet low high b → 0x80 ≤ b
+octet-high h (utf8.octet p q) = omega arith
 
--- and a character of several bytes begins above ASCII
-first-high : {a b : ℕ} {l : List ℕ} → utf8.Char (a ∷ b ∷ l) → 0x80 ≤ a
-first-high (utf8.two (utf8.octet p q) t) = omega arith
-first-high (utf8.three-E0 p q) = omega arith
-first-high (utf8.three-E1 (utf8.octet p q) t u) = omega arith
-first-high (utf8.three-ED p q) = omega arith
-first-high (utf8.three-EE (utf8.octet p q) t u) = omega arith
-first-high (utf8.four-F0 p q t) = omega arith
-first-high (utf8.four-F1 (utf8.octet p q) t u v) = omega arith
-first-high (utf8.four-F4 p q t) = omega arith
+tail-high : {b : ℕ} → utf8.Tail b → 0x80 ≤ b
+tail-high t = octet-high (omega arith) t
+
+-- and all bytes of a character of several bytes are above ASCII
+pub high-bytes : {a b : ℕ} {l : List ℕ} → utf8.Char (a ∷ b ∷ l) → All (λ (x : ℕ). 0x80 ≤ x) (a ∷ b ∷ l)
+high-bytes (utf8.two p t) = also (octet-high (omega arith) p) (also (tail-high t) none)
+high-bytes (utf8.three-E0 p t) = also {b = 0xE0} (omega arith) (also (octet-high (omega arith) p) (also (tail-high t) none))
+high-bytes (utf8.three-E1 p t u) = also (octet-high (omega arith) p) (also (tail-high t) (also (tail-high u) none))
+high-bytes (utf8.three-ED p t) = also {b = 0xED} (omega arith) (also (octet-high (omega arith) p) (also (tail-high t) none))
+high-bytes (utf8.three-EE p t u) = also (octet-high (omega arith) p) (also (tail-high t) (also (tail-high u) none))
+high-bytes (utf8.four-F0 p t u) = also {b = 0xF0} (omega arith) (also (octet-high (omega arith) p) (also (tail-high t) (also (tail-high u) none)))
+high-bytes (utf8.four-F1 p t u v) = also (octet-high (omega arith) p) (also (tail-high t) (also (tail-high u) (also (tail-high v) none)))
+high-bytes (utf8.four-F4 p t u) = also {b = 0xF4} (omega arith) (also (octet-high (omega arith) p) (also (tail-high t) (also (tail-high u) none)))
+
+-- one byte of ASCII, or several above it
+pub data Kind : List ℕ → Type 0 where
+  narrow : {a : ℕ} → a < 0x80 → Kind (a ∷ [])
+  wide : {a b : ℕ} {l : List ℕ} → utf8.Char (a ∷ b ∷ l) → Kind (a ∷ b ∷ l)
+
+pub kind : {c : List ℕ} → utf8.Char c → Kind c
+kind (utf8.one {a = a} (utf8.octet p q)) = narrow {a = a} (omega arith)
+kind (utf8.two p q) = wide (utf8.two p q)
+kind (utf8.three-E0 p q) = wide (utf8.three-E0 p q)
+kind (utf8.three-E1 p q t) = wide (utf8.three-E1 p q t)
+kind (utf8.three-ED p q) = wide (utf8.three-ED p q)
+kind (utf8.three-EE p q t) = wide (utf8.three-EE p q t)
+kind (utf8.four-F0 p q t) = wide (utf8.four-F0 p q t)
+kind (utf8.four-F1 p q t u) = wide (utf8.four-F1 p q t u)
+kind (utf8.four-F4 p q t) = wide (utf8.four-F4 p q t)
+
+-- a first byte above ASCII has more behind it
+to-above : {s c : List ℕ} {a e : ℕ} → Kind c → Span s a c e → 0x80 ≤ getD s a 0 → json.Unescaped c
+to-above (narrow h) (step k f r) l = absurd (omega arith)
+to-above (wide g) r l = json.Unescaped.above g
+
+first-of : {P : ℕ → Type 0} {b : ℕ} {l : List ℕ} → All P (b ∷ l) → P b
+first-of (also p r) = p
 
 -- ---- consumes
 
@@ -93,7 +111,7 @@ chars-consume (suc k) s start i =
     pick-reads (eqb (widthAt s i) 0) (λ t. fails)
     (λ some.
     let c = width-consumes s i (eqb-false (widthAt s i) 0 some) in
-    let g = json.unescaped (to-above (c .1) (c .2) (ltb-false (getD s i 0) 0x80 high)) in
+    let g = json.unescaped (to-above (kind (c .1)) (c .2) (ltb-false (getD s i 0) 0x80 high)) in
     from-reads (chars-consume k s start (i + widthAt s i)) (λ x l e. further g (c .2)))))))
   where
     escaped : {x : Escape} → ((j : ℕ) → Reads (Rest start j) s j (charsAt k s start j)) → EscapeAt s i x
@@ -157,7 +175,7 @@ char-step {s} {i = i} {j = j} k start (json.unescaped (json.to-5B {b = b} (utf8.
     ascii-step s i k start b e (omega arith) (omega arith) (λ x. omega arith) (λ x. omega arith)
 char-step {s} {i = i} {j = j} k start (json.unescaped (json.to-7F {b = b} (utf8.octet l h))) (step p e here) =
     ascii-step s i k start b e (omega arith) (omega arith) (λ x. omega arith) (λ x. omega arith)
-char-step {s} {i = i} {j = j} k start (json.unescaped (json.Unescaped.above {a = a} g)) r = wide-step k start a g r (open-span r .1) (first-high g)
+char-step {s} {i = i} {j = j} k start (json.unescaped (json.Unescaped.above {a = a} g)) r = wide-step k start a g r (open-span r .1) (first-of (high-bytes g))
 char-step {s} {i = i} {j = j} k start (json.letter {b = b} g) r = escape-step s i j k start 1 b (open-span r .1) (escape-letter g r) (span-length r)
 char-step {s} {i = i} {j = j} k start (json.unicode {u = u} g n) r =
     escape-step s i j k start 5 u (slash g r) (escape-unicode g n r) (omega (arith, span-length r, unit-length g))
