@@ -1,5 +1,5 @@
 -- The place behind a byte that was seen fits a place: a byte that is not 0 stands within the input.
--- Each premise is what the code knows there: the byte that it read, and the test that it passed.
+-- Each premise is what the code knows there: the byte that it read and the test that it passed.
 use Prim.Native.Nat.{ℕ, _+_, _<_, _^_}
 use mathlib.Core.Path.{_≡_, sym, ap, _∙_}
 use mathlib.Core.Bool.{Bool, true, false}
