@@ -1,8 +1,7 @@
 -- Blocks: a sum of 0 says that no byte of the block counts; blocks without a byte that counts are passed whole.
 -- The sum's turns are two laws; what holds of each byte from place to place goes on byte by byte.
-use Prim.Native.Nat.{ℕ, zero, suc, _+_, _/_, _-_, _<_, _≤_}
+use Prim.Native.Nat.{ℕ, zero, suc, _+_, _-_, _<_, _≤_}
 use mathlib.Core.Path.{_≡_, refl, sym, ap, _∙_}
-use mathlib.Core.Bool.{Bool, true, false}
 use mathlib.Core.List.{List, [], _∷_}
 use mathlib.Core.Logic.{dite}
 use native.Mathlib.Nat.{add-zero}
@@ -10,9 +9,7 @@ use native.Mathlib.Omega.{arith}
 use native.Mathlib.Decide.{decLt}
 use lib.ListN.{length, getD, take, drop, length-take, length-drop}
 use lib.Seq.{getD-drop, getD-take}
-use lib.Dec.{ltb, eqb}
-use borrow.Author.Tests.{lt-ltb, le-ltb, eq-eqb, ne-eqb, ltb-true, ltb-false}
-use Rattle.scan.specs.Choice.{pick}
+use borrow.Author.Tests.{lt-ltb, eq-eqb}
 use Rattle.scan.proofs.Step.{rest-none, rest-more}
 use Rattle.jsontext.specs.Block.{isOne, isControl, isSlash, specialOf, sumOf, PlainTo}
 use Rattle.jsontext.specs.Escape.{plainAt}

@@ -1,30 +1,28 @@
 -- Escapes at a place against the grammar: each character that the RFC spells with a backslash is found, and only such.
 -- Soundness is a walk over the tests of `escapeAt`; completeness reads the bytes off the span.
 use Prim.Native.Nat.{ℕ, _+_, _*_, _-_, _<_, _≤_, _^_}
-use mathlib.Core.Path.{_≡_, refl, sym, ap, _∙_}
+use mathlib.Core.Path.{_≡_, refl}
 use mathlib.Core.Bool.{Bool, true, false}
 use mathlib.Core.List.{List, [], _∷_, _++_}
-use mathlib.Core.Logic.{dite}
 use native.Mathlib.Omega.{arith}
-use native.Mathlib.Decide.{decLt}
 use lib.ListN.{length, getD, length-append}
-use lib.Dec.{ltb, leb, eqb}
+use lib.Dec.{ltb, eqb}
 use mir.Syntax.{w64}
 use mir.Val.{Fits}
-use borrow.Author.Tests.{lt-ltb, le-ltb, le-leb, lt-leb, eq-eqb, ne-eqb, ltb-true, ltb-false, eqb-true, eqb-false}
+use borrow.Author.Tests.{lt-ltb, le-ltb, le-leb, lt-leb, eq-eqb, ne-eqb, ltb-true, ltb-false, eqb-true}
 use Rattle.scan.specs.Choice.{pick}
-use Rattle.scan.specs.Place.{byteAt, within}
+use Rattle.scan.specs.Place.{within}
 use Rattle.scan.specs.Span.{Span, here, step}
-use Rattle.scan.proofs.Step.{pick-by, false-true}
-use Rattle.scan.proofs.SpanLaws.{join, cut-at, nth, seen, span-length, span-fits}
+use Rattle.scan.proofs.Step.{pick-by}
+use Rattle.scan.proofs.SpanLaws.{join, cut-at, nth, seen, span-fits}
 use Rattle.utf8.specs.Utf8.{octet}
 use Rattle.utf8.specs.Encode.{Scalar, below, above, encode}
 use Rattle.utf8.proofs.EncodeLaws.{encode-one, encode-length}
-use Rattle.hex.specs.Hex.{Digit, number, letter, valueOf, digitOf}
+use Rattle.hex.specs.Hex.{Digit, number, letter, valueOf}
 use Rattle.hex.proofs.Digits.{in-range, value-digit, value-of-digit}
 use Rattle.jsontext.specs.declared.Escape.{Escape}
 use Rattle.jsontext.specs.Grammar as json
-use Rattle.jsontext.specs.Escape.{hexValue, unitOf, unitAt, escape, noEscape, letterOf, letterEscape, pairOf, unicodeAt, escapeAt, orItself}
+use Rattle.jsontext.specs.Escape.{hexValue, unitOf, unitAt, escape, noEscape, letterOf, letterEscape, pairOf, unicodeAt, escapeAt}
 
 -- ---- a hex digit and its value
 

@@ -2,13 +2,13 @@
 -- By cases on the grammar.
 use Prim.Native.Nat.{ℕ, _+_, _<_, _≤_}
 use mathlib.Core.Path.{_≡_, refl}
-use mathlib.Core.Bool.{Bool, true, false}
-use mathlib.Core.List.{List, [], _∷_, _++_}
+use mathlib.Core.Bool.{false}
+use mathlib.Core.List.{List, _∷_, _++_}
 use native.Mathlib.Omega.{arith}
 use lib.ListN.{length, getD}
 use lib.Dec.{eqb}
 use borrow.Author.Tests.{ne-eqb}
-use Rattle.scan.specs.Span.{Span, here, step}
+use Rattle.scan.specs.Span.{Span, step}
 use Rattle.scan.proofs.SpanLaws.{span-length, span-fits}
 use Rattle.jsontext.specs.Grammar as json
 use Rattle.jsontext.specs.Token.{isSpace}

@@ -2,28 +2,25 @@
 -- One step law for each kind of place; the rest is induction on the grammar or on the list.
 use Prim.Native.Nat.{ℕ, zero, suc, _+_, _-_, _<_, _≤_}
 use mathlib.Core.Path.{_≡_, refl, sym, ap, _∙_}
-use mathlib.Core.Bool.{Bool, true, false}
 use mathlib.Core.List.{List, [], _∷_, _++_, append-assoc, append-nil}
 use native.Mathlib.Nat.{add-zero, add-assoc, zero-add}
 use native.Mathlib.Omega.{arith}
-use lib.ListN.{length, getD, take, drop, length-append}
+use lib.ListN.{length, getD, drop, length-append}
 use lib.Seq.{getD-drop, drop-drop, drop-append-seam}
 use lib.Dec.{eqb}
 use borrow.Author.Tests.{eq-eqb, ne-eqb, eqb-false}
-use Rattle.scan.specs.Choice.{pick}
-use Rattle.scan.specs.Place.{runAt}
-use Rattle.scan.specs.Span.{Span, here, step, All, none, also}
-use Rattle.scan.proofs.Step.{rest-none, rest-more, pick-by}
+use Rattle.scan.specs.Span.{Span, step, All, none, also}
+use Rattle.scan.proofs.Step.{rest-more, pick-by}
 use Rattle.scan.proofs.SpanLaws.{to-span, cut-at}
 use Rattle.scan.proofs.AllLaws.{all-map}
 use Rattle.utf8.specs.Utf8 as utf8
-use Rattle.utf8.specs.Encode.{Scalar, below, above, encode}
+use Rattle.utf8.specs.Encode.{above, encode}
 use Rattle.utf8.proofs.Laws.{utf8-append, utf8-char}
 use Rattle.utf8.proofs.EncodeLaws.{encode-one, encode-utf8}
 use Rattle.jsontext.specs.declared.Escape.{Escape}
 use Rattle.jsontext.specs.Grammar as json
-use Rattle.jsontext.specs.Escape.{unitAt, escape, pairOf, unicodeAt, escapeAt, orItself, unescaped, unescape}
-use Rattle.jsontext.proofs.EscapeLaws.{EscapeAt, escape-is, no-escape, escape-at, escape-letter, escape-unicode, escape-pair, unit-length, letter-small, pair-scalar}
+use Rattle.jsontext.specs.Escape.{unitAt, escape, unicodeAt, escapeAt, orItself, unescaped, unescape}
+use Rattle.jsontext.proofs.EscapeLaws.{escape-letter, escape-unicode, escape-pair, unit-length, letter-small, pair-scalar}
 use Rattle.jsontext.proofs.TextLaws.{high-bytes, Kind, narrow, wide, kind}
 
 -- ---- one step at a place

@@ -1,6 +1,6 @@
 -- A text that comes in parts: whether it is digits, whether it is a name, and a byte for each two digits of it.
 -- Each question over `++` is the question of the first part and then of the rest; the bytes of a scalar value are such a part.
-use Prim.Native.Nat.{ℕ, _+_, _*_, _-_, _%_, _<_, _≤_, _^_}
+use Prim.Native.Nat.{ℕ, _+_, _*_, _-_, _%_, _<_, _≤_}
 use mathlib.Core.Path.{_≡_, refl, sym, ap, _∙_}
 use mathlib.Core.Bool.{Bool, true, false}
 use mathlib.Core.List.{List, [], _∷_, _++_}
@@ -10,11 +10,11 @@ use native.Mathlib.Decide.{decLt}
 use lib.ListN.{length, getD, take, drop, length-take, length-drop}
 use lib.Seq.{take-at, drop-drop}
 use lib.Dec.{eqb, ltb}
-use borrow.Author.Tests.{eq-eqb, ne-eqb, lt-ltb, le-ltb, eqb-true}
+use borrow.Author.Tests.{eq-eqb, ne-eqb, lt-ltb, le-ltb}
 use Rattle.scan.specs.Choice.{pick}
 use Rattle.scan.specs.Place.{begins, standsAt}
 use Rattle.scan.specs.Span.{All}
-use Rattle.scan.proofs.Step.{pick-by, rest-none, rest-more, false-true, pick-true}
+use Rattle.scan.proofs.Step.{pick-by, rest-none, rest-more}
 use Rattle.scan.proofs.SpanLaws.{span-fits}
 use Rattle.scan.proofs.PlaceLaws.{stands-span}
 use Rattle.store.specs.Store.{Buffer, Wrote}

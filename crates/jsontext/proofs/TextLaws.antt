@@ -2,7 +2,7 @@
 -- Soundness is a walk over `charsAt`, which adds one character in front; completeness is one step for each kind of character.
 use Prim.Native.Nat.{ℕ, zero, suc, _+_, _-_, _<_, _≤_}
 use mathlib.Core.Path.{_≡_, refl, sym, ap, _∙_}
-use mathlib.Core.Bool.{Bool, true, false}
+use mathlib.Core.Bool.{true}
 use mathlib.Core.List.{List, [], _∷_, _++_, append-assoc}
 use mathlib.Core.Logic.{dite}
 use native.Mathlib.Omega.{arith}
@@ -10,11 +10,11 @@ use native.Mathlib.Decide.{decLt}
 use lib.ListN.{length, getD, take, drop, length-append}
 use lib.Seq.{take-at}
 use lib.Dec.{ltb, eqb}
-use borrow.Author.Tests.{lt-ltb, le-ltb, eq-eqb, ne-eqb, ltb-true, ltb-false, eqb-true, eqb-false}
-use Rattle.scan.specs.Choice.{pick, Answer, shown, refused, Read, read}
+use borrow.Author.Tests.{lt-ltb, le-ltb, ne-eqb, ltb-true, ltb-false, eqb-true, eqb-false}
+use Rattle.scan.specs.Choice.{read}
 use Rattle.scan.specs.Span.{Span, here, step, All, none, also}
-use Rattle.scan.proofs.SpanLaws.{join, cut, cut-at, open-span, close-span, bite, seen, nth, span-length, span-fits, from-span}
-use Rattle.scan.proofs.Reading.{Reads, reads, fails, pick-reads, from-reads, shown-reads}
+use Rattle.scan.proofs.SpanLaws.{join, cut, cut-at, open-span, close-span, bite, seen, span-length, span-fits, from-span}
+use Rattle.scan.proofs.Reading.{Reads, reads, fails, pick-reads, from-reads}
 use Rattle.utf8.specs.Utf8 as utf8
 use Rattle.utf8.specs.Width.{widthAt}
 use Rattle.utf8.proofs.WidthLaws.{width-accepts, width-consumes, char-length}

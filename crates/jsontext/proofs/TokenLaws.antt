@@ -1,23 +1,23 @@
 -- White space, literals and numbers at a place against the grammar, in both directions.
 -- Soundness is a walk over the definition (`Ends`, `Reads`); completeness matches the grammar and cuts the span at each `++`.
-use Prim.Native.Nat.{ℕ, _+_, _<_, _≤_}
-use mathlib.Core.Path.{_≡_, refl, sym, ap, _∙_}
+use Prim.Native.Nat.{ℕ, _+_, _≤_}
+use mathlib.Core.Path.{_≡_, refl, sym}
 use mathlib.Core.Bool.{Bool, true, false}
-use mathlib.Core.List.{List, [], _∷_, _++_}
+use mathlib.Core.List.{List}
 use native.Mathlib.Omega.{arith}
 use lib.ListN.{length, getD}
 use lib.Dec.{eqb}
-use borrow.Author.Tests.{le-leb, lt-leb, eq-eqb, ne-eqb, eqb-true, eqb-false}
-use Rattle.scan.specs.Choice.{pick, Answer, refused, Read, read}
+use borrow.Author.Tests.{le-leb, ne-eqb, eqb-true, eqb-false}
+use Rattle.scan.specs.Choice.{pick}
 use Rattle.scan.specs.Place.{within, runAt, standsAt}
-use Rattle.scan.specs.Span.{Span, here, step, All, none, also}
-use Rattle.scan.proofs.Step.{pick-by, false-true}
+use Rattle.scan.specs.Span.{Span, here, step, also}
+use Rattle.scan.proofs.Step.{pick-by}
 use Rattle.scan.proofs.SpanLaws.{join, cut, bite, seen, span-length}
 use Rattle.scan.proofs.PlaceLaws.{run-again, run-span, span-run, span-stands, stands-span}
 use Rattle.scan.proofs.Reading.{Reads, reads, fails, pick-reads}
 use Rattle.hex.proofs.Digits.{in-range}
 use Rattle.jsontext.specs.Grammar as json
-use Rattle.jsontext.specs.Token.{Done, done, Skipped, past, isSpace, spaceAt, wordAt, isDigit, digitsOr, minusAt, signAt, intAt, fracAt, isE, expAt, numberFrom, unsignedFrom, numberAt}
+use Rattle.jsontext.specs.Token.{Done, done, past, isSpace, spaceAt, wordAt, isDigit, digitsOr, minusAt, signAt, intAt, fracAt, isE, expAt, numberFrom, unsignedFrom, numberAt}
 
 -- a piece of G stands from a to e
 pub data Ends (G : List ℕ → Type 0) (s : List ℕ) (a : ℕ) : ℕ → Type 0 where

@@ -2,12 +2,12 @@
 -- Each premise is what the loop knows. `InText` says that the string read from its start is the string read from here, with fuel enough.
 use Prim.Native.Nat.{ℕ, zero, suc, _+_, _-_, _<_, _≤_}
 use mathlib.Core.Path.{_≡_, refl, sym, ap, _∙_}
-use mathlib.Core.Bool.{Bool, true, false}
+use mathlib.Core.Bool.{true, false}
 use mathlib.Core.List.{List}
 use native.Mathlib.Omega.{arith}
 use lib.ListN.{length, getD}
 use borrow.Author.Tests.{lt-ltb, le-ltb, eq-eqb, ne-eqb}
-use Rattle.scan.specs.Choice.{pick, Answer, refused, Read, read}
+use Rattle.scan.specs.Choice.{Answer, refused, Read, read}
 use Rattle.scan.proofs.Step.{byte-none}
 use Rattle.scan.proofs.PlaceLaws.{run-again, run-left, run-broke}
 use Rattle.utf8.specs.Width.{widthAt}

@@ -1,23 +1,19 @@
 -- The grammar is unambiguous: a text spells at most one value.
 -- Two values at one place end alike, since the reader takes both; and their first byte tells which production each is (`View`).
-use Prim.Native.Nat.{ℕ, _+_, _<_, _≤_, max}
+use Prim.Native.Nat.{ℕ, _+_, _≤_, max}
 use mathlib.Core.Path.{_≡_, refl, sym, ap, _∙_}
-use mathlib.Core.Bool.{Bool, true, false}
-use mathlib.Core.List.{List, [], _∷_, _++_}
+use mathlib.Core.Bool.{true, false}
+use mathlib.Core.List.{List}
 use native.Mathlib.Omega.{arith}
 use lib.ListN.{length, getD, take, drop}
-use lib.Dec.{eqb}
 use borrow.Author.Tests.{eqb-false}
-use Rattle.scan.specs.Choice.{Answer, shown, refused, Read, read}
-use Rattle.scan.specs.Span.{Span, here, step}
-use Rattle.scan.proofs.Step.{byte-none, false-true}
-use Rattle.scan.proofs.SpanLaws.{cut, close-span, open-span, span-unique, input-span}
+use Rattle.scan.specs.Choice.{Read, read}
+use Rattle.scan.specs.Span.{Span, step}
+use Rattle.scan.proofs.SpanLaws.{cut, close-span, span-unique, input-span}
 use Rattle.jsontext.specs.declared.Spelled.{Spelled}
 use Rattle.jsontext.specs.Grammar as json
-use Rattle.jsontext.specs.Token.{Skipped, past, isSpace, spaceAt}
-use Rattle.jsontext.specs.Text.{stringAt}
-use Rattle.jsontext.specs.Value.{valueAt}
-use Rattle.jsontext.proofs.TokenLaws.{Stop, stop-end, stop-bracket, stop-brace, space-accepts}
+use Rattle.jsontext.specs.Token.{spaceAt}
+use Rattle.jsontext.proofs.TokenLaws.{Stop, stop-bracket, stop-brace, space-accepts}
 use Rattle.jsontext.proofs.TextLaws.{string-accepts, quoted-part}
 use Rattle.jsontext.proofs.FirstByte.{First, first-at, begins-value, begins-items, begins-members, number-first}
 use Rattle.jsontext.proofs.ValueComplete.{value-accepts, ws-stop, separator-accepts, separator-stop, comma-solid, colon-solid, bracket-solid, brace-solid, not-space}

@@ -4,28 +4,24 @@ use Prim.Native.Nat.{ℕ, _+_, _-_, _<_, _≤_, _^_}
 use mathlib.Core.Path.{_≡_, refl, sym, ap, _∙_}
 use mathlib.Core.Bool.{Bool, true, false}
 use mathlib.Core.List.{List, [], _∷_, _++_}
-use mathlib.Core.Logic.{dite}
 use native.Mathlib.Omega.{arith}
 use lib.ListN.{length, getD, take, drop, length-append, length-take, length-drop}
-use lib.Seq.{take-at, drop-drop}
-use lib.Dec.{eqb, ltb}
-use borrow.Author.Tests.{eq-eqb, ne-eqb, eqb-true, eqb-false}
+use lib.Seq.{take-at}
+use lib.Dec.{eqb}
+use borrow.Author.Tests.{eq-eqb, ne-eqb, eqb-true}
 use mir.Syntax.{w64}
 use mir.Val.{Fits}
-use Rattle.scan.specs.Choice.{pick}
-use Rattle.scan.specs.Place.{begins, standsAt, run, runAt}
-use Rattle.scan.specs.Span.{Span, here, step, All, none, also}
-use Rattle.scan.proofs.Step.{pick-by, rest-none, rest-more, false-true, pick-true}
+use Rattle.scan.specs.Place.{run, runAt}
+use Rattle.scan.specs.Span.{Span, All}
+use Rattle.scan.proofs.Step.{pick-by, rest-none, false-true}
 use Rattle.scan.proofs.SpanLaws.{place, whole-span, from-span, span-length, span-fits}
-use Rattle.scan.proofs.PlaceLaws.{run-span, stands-span}
+use Rattle.scan.proofs.PlaceLaws.{run-span}
 use Rattle.utf8.specs.Encode.{encode}
 use Rattle.utf8.proofs.EncodeLaws.{encode-one}
-use Rattle.hex.specs.Hex.{allDigits}
-use Rattle.event.specs.Event.{sameText}
 use Rattle.jsontext.specs.declared.Escape.{Escape}
-use Rattle.jsontext.specs.Escape.{escape, escapeAt, isPlain, plainAt, orItself, unescape}
+use Rattle.jsontext.specs.Escape.{escapeAt, isPlain, plainAt, orItself, unescape}
 use Rattle.jsontext.proofs.EscapeLaws.{EscapeAt, escape-is, no-escape, escape-at}
-use Rattle.jsontext.proofs.Meaning.{unescape-none, unescape-plain, unescape-itself, unescape-escape, width-some}
+use Rattle.jsontext.proofs.Meaning.{unescape-none, unescape-plain, unescape-itself, unescape-escape}
 
 -- ---- a run of bytes without a backslash
 

@@ -2,23 +2,22 @@
 -- By recursion over the value: each span is cut at `++`, and each read is rewritten by its *accepts*.
 use Prim.Native.Nat.{ℕ, zero, suc, _+_, _<_, _≤_}
 use mathlib.Core.Path.{_≡_, refl, sym, ap, _∙_}
-use mathlib.Core.Bool.{Bool, true, false}
-use mathlib.Core.List.{List, [], _∷_, _++_}
+use mathlib.Core.Bool.{true, false}
+use mathlib.Core.List.{List}
 use native.Mathlib.Omega.{arith}
 use lib.ListN.{length, getD, length-append}
 use lib.Dec.{eqb}
 use borrow.Author.Tests.{eq-eqb, ne-eqb}
-use Rattle.scan.specs.Choice.{pick, Answer, shown, refused, Read, read, andThen}
-use Rattle.scan.specs.Place.{within}
+use Rattle.scan.specs.Choice.{andThen}
 use Rattle.scan.specs.Span.{Span, here, step, none, also}
 use Rattle.scan.proofs.SpanLaws.{cut, close-span, open-span, span-length, span-fits}
 use Rattle.jsontext.specs.Grammar as json
-use Rattle.jsontext.specs.Token.{Skipped, past, isSpace, spaceAt, wordAt, isDigit, numberAt}
+use Rattle.jsontext.specs.Token.{Skipped, past, isSpace, spaceAt, wordAt, numberAt}
 use Rattle.jsontext.specs.Text.{stringAt}
 use Rattle.jsontext.specs.Value.{colonAt, memberAt, itemAt, afterItem, itemsAt, insideAt, valueBy, walkBy, valueAt, walkAt}
 use Rattle.jsontext.proofs.TokenLaws.{space-accepts, word-accepts, number-accepts, Stop, stop-comma, stop-space, stop-bracket, stop-brace}
 use Rattle.jsontext.proofs.TextLaws.{string-accepts}
-use Rattle.jsontext.proofs.FirstByte.{First, first-at, begins-value, begins-items, begins-members, number-first}
+use Rattle.jsontext.proofs.FirstByte.{first-at, begins-value, begins-items, begins-members, number-first}
 
 -- ---- white space and separators
 

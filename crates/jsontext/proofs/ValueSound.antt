@@ -1,23 +1,22 @@
 -- Soundness: what is read over as a value is spelled by the grammar, with at most the depth that was given.
 -- A walk over the definition; the items of arrays and objects are one family, `Sep`, which is then told as `SpellsItems` or `SpellsMembers`.
 use Prim.Native.Nat.{ℕ, zero, suc, _+_, _<_, _≤_}
-use mathlib.Core.Path.{_≡_, refl, sym, ap, _∙_}
-use mathlib.Core.Bool.{Bool, true, false}
+use mathlib.Core.Path.{_≡_, refl, ap, _∙_}
+use mathlib.Core.Bool.{true, false}
 use mathlib.Core.List.{List, [], _∷_, _++_, append-assoc}
 use native.Mathlib.Omega.{arith}
 use lib.ListN.{length, getD}
 use lib.Dec.{eqb}
-use Rattle.scan.specs.Choice.{pick, Answer, shown, refused, Read, read, andThen}
-use Rattle.scan.specs.Span.{Span, here, step}
+use Rattle.scan.specs.Choice.{refused, read}
+use Rattle.scan.specs.Span.{Span, here}
 use Rattle.scan.proofs.Step.{pick-by}
 use Rattle.scan.proofs.SpanLaws.{join, bite}
 use Rattle.scan.proofs.Reading.{Reads, reads, fails, pick-reads, then-reads, from-reads}
 use Rattle.jsontext.specs.declared.Spelled.{Spelled}
 use Rattle.jsontext.specs.Grammar as json
-use Rattle.jsontext.specs.Token.{Done, done, Skipped, past, spaceAt, wordAt, numberAt}
-use Rattle.jsontext.specs.Text.{stringAt}
-use Rattle.jsontext.specs.Value.{falseWord, nullWord, trueWord, colonAt, memberAt, itemAt, afterItem, itemsAt, insideAt, valueBy, walkBy, valueAt, walkAt}
-use Rattle.jsontext.proofs.TokenLaws.{Ends, ends, bind, space-consumes, word-consumes, number-consumes}
+use Rattle.jsontext.specs.Token.{Done, done, Skipped, past, spaceAt, wordAt}
+use Rattle.jsontext.specs.Value.{falseWord, nullWord, trueWord, colonAt, memberAt, itemAt, afterItem, itemsAt, insideAt, valueBy, walkBy, valueAt}
+use Rattle.jsontext.proofs.TokenLaws.{bind, space-consumes, word-consumes, number-consumes}
 use Rattle.jsontext.proofs.TextLaws.{StringAt, string-is, string-consumes}
 use Rattle.jsontext.proofs.FirstByte.{begins-value, begins-member, some-bytes}
 

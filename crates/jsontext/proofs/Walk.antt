@@ -1,20 +1,14 @@
 -- The turns of the walk over an array or an object. `InWalk` says that the walk from the opening bracket is the items from here on, with fuel enough.
 -- Each premise is what the loop knows; an item that is read over takes at least a byte, by soundness.
-use Prim.Native.Nat.{ℕ, zero, suc, _+_, _-_, _<_, _≤_, _^_}
-use mathlib.Core.Path.{_≡_, refl, sym, ap, _∙_}
-use mathlib.Core.Bool.{Bool, true, false}
+use Prim.Native.Nat.{ℕ, zero, suc, _+_, _-_, _<_, _≤_}
+use mathlib.Core.Path.{_≡_, refl, sym, _∙_}
 use mathlib.Core.List.{List}
 use native.Mathlib.Numerals.{sub-one}
 use native.Mathlib.Omega.{arith}
 use lib.ListN.{length, getD}
-use lib.Dec.{eqb}
-use mir.Syntax.{w64}
-use mir.Val.{Fits}
-use borrow.Author.Tests.{lt-ltb, eq-eqb, ne-eqb}
-use Rattle.scan.specs.Choice.{pick, Answer, shown, refused, Read, read, andThen}
-use Rattle.scan.specs.Span.{Span}
+use borrow.Author.Tests.{eq-eqb, ne-eqb}
+use Rattle.scan.specs.Choice.{refused, andThen}
 use Rattle.scan.proofs.SpanLaws.{span-length, span-fits}
-use Rattle.event.specs.Answers.{told}
 use Rattle.jsontext.specs.declared.Cursor.{Cursor}
 use Rattle.jsontext.specs.declared.Skip.{Skip}
 use Rattle.jsontext.specs.declared.Skip.the-variants.{Past, Refused}

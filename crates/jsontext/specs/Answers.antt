@@ -1,6 +1,5 @@
 -- What each case of the code's answers means. Assumes nothing.
-use Prim.Native.Nat.{ℕ}
-use Rattle.scan.specs.Choice.{Answer, shown, refused, Read, read}
+use Rattle.scan.specs.Choice.{Answer, Read, read}
 use Rattle.event.specs.Answers.{told}
 use Rattle.jsontext.specs.Token.{Skipped, past}
 use Rattle.jsontext.specs.declared.Spelled.{Spelled}

@@ -1,4 +1,4 @@
--- JSON as RFC 8259 has it: its productions, in its names. A lone surrogate escape has no meaning (section 8.2), and document 01 refuses it. Assumes nothing.
+-- JSON as RFC 8259 has it: its productions, in its names; what a production needs stands before it. Assumes nothing.
 use Prim.Native.Nat.{ℕ, suc, _+_, _*_, _-_, _≤_, max}
 use mathlib.Core.List.{List, [], _∷_, _++_}
 use Rattle.scan.specs.Span.{All}
@@ -101,7 +101,7 @@ pub data Unit : List ℕ → ℕ → Type 0 where
 abbrev pub paired : ℕ → ℕ → ℕ
 paired high low = 0x10000 + (high - 0xD800) * 0x400 + (low - 0xDC00)
 
--- char
+-- char. \uXXXX stands for a scalar value, or two of them for a pair of surrogates: a lone surrogate has no meaning (section 8.2), and document 01 refuses it.
 pub data Char : List ℕ → List ℕ → Type 0 where
   unescaped : {l : List ℕ} → Unescaped l → Char l l
   letter : {c b : ℕ} → Letter c b → Char (0x5C ∷ c ∷ []) (b ∷ [])

@@ -1,6 +1,5 @@
 -- A string as it is read at its opening quote: the earliest fault decides (document 01, "Plain JSON reader"). Assumes nothing.
 use Prim.Native.Nat.{ℕ, zero, suc, _+_, _-_}
-use mathlib.Core.Bool.{Bool, true, false}
 use mathlib.Core.List.{List}
 use lib.ListN.{length}
 use lib.Dec.{ltb, eqb}

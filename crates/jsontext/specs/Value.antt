@@ -1,12 +1,11 @@
 -- A value as it is read over at a place, with the depth that is left (document 01, "Plain JSON reader"). Assumes nothing.
 use Prim.Native.Nat.{ℕ, zero, suc, _+_}
-use mathlib.Core.Bool.{Bool, true, false}
 use mathlib.Core.List.{List, [], _∷_}
 use lib.ListN.{length}
 use lib.Dec.{eqb}
-use Rattle.scan.specs.Choice.{pick, Answer, shown, refused, Read, read, andThen}
+use Rattle.scan.specs.Choice.{pick, refused, andThen}
 use Rattle.scan.specs.Place.{byteAt}
-use Rattle.jsontext.specs.Token.{Done, Skipped, past, spaceAt, wordAt, numberAt}
+use Rattle.jsontext.specs.Token.{Skipped, past, spaceAt, wordAt, numberAt}
 use Rattle.jsontext.specs.Text.{stringAt}
 
 abbrev pub falseWord : List ℕ

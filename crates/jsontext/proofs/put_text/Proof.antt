@@ -1,8 +1,6 @@
 -- `put_text` writes the text. The invariant: what is left to write is the text from here on.
 -- A turn writes a run, by `unescape-run`, and what an escape stands for, by `turn-text`.
-use Prim.Native.Nat.{_-_, _≤_}
-use mathlib.Core.Path.{refl}
-use native.Mathlib.Omega.{arith}
+use Prim.Native.Nat.{_-_}
 use borrow.Author.Needs.{needs}
 use lib.ListN.{length, drop}
 use Rattle.store.proofs.Laws.{Left, start, part, also, done, same, kept}

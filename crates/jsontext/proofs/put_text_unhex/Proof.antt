@@ -1,7 +1,7 @@
 -- `put_text_unhex` writes a byte for each two digits of the text. The invariant: what is left are the bytes of the half that is read and of the text from here on.
 -- A turn writes a run, by `unhex-run`, and an escape, by `unhex-escape`; the half that is left over goes on.
 use Prim.Native.Nat.{_-_}
-use mathlib.Core.Path.{refl, sym, ap}
+use mathlib.Core.Path.{sym, ap}
 use borrow.Author.Needs.{needs}
 use lib.ListN.{length, drop}
 use Rattle.store.proofs.Laws.{Left, start, part, also, done, same, kept}

@@ -1,7 +1,6 @@
 -- `put_unescaped_unhex` hands the part of the input to `put_text_unhex`, or to the hex of lower case where no backslash stands in it.
 -- A string that is one run is its own text: `unescape-whole`.
 use mathlib.Core.Path.{sym}
-use native.Mathlib.Omega.{arith}
 use borrow.Author.Needs.{needs}
 use Rattle.store.proofs.Laws.{kept}
 use Rattle.jsontext.proofs.Unescape.{unescape-whole}

@@ -1,7 +1,6 @@
 -- `text_digits` asks run by run and escape by escape. The invariant: the text is digits exactly if the text from here on is.
 -- A turn is `digits-run` and `digits-escape`.
 use Prim.Native.Nat.{_-_}
-use native.Mathlib.Omega.{arith}
 use borrow.Author.Needs.{needs}
 use borrow.Author.Tests.{not-true, not-false}
 use lib.ListN.{length}
