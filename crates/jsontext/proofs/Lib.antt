@@ -1,0 +1,14 @@
+pub mod Fits
+pub mod Turn
+pub mod BlockLaws
+pub mod EscapeLaws
+pub mod TokenLaws
+pub mod TextLaws
+pub mod FirstByte
+pub mod ValueSound
+pub mod ValueComplete
+pub mod Unambiguous
+pub mod Meaning
+pub mod Unescape
+pub mod Parts
+pub mod Walk
