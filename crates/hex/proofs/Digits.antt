@@ -1,14 +1,13 @@
 -- A digit and its value: each gives the other back, and a value below 16 is exactly what a digit has.
 -- By the ranges 0-9 and a-f: in each of them the value and the digit are a sum.
 use Prim.Native.Nat.{ℕ, _+_, _-_, _<_, _≤_}
-use mathlib.Core.Path.{_≡_, refl, sym, ap, _∙_}
-use mathlib.Core.Bool.{Bool, true, false}
+use mathlib.Core.Path.{_≡_}
+use mathlib.Core.Bool.{true}
 use mathlib.Core.Logic.{dite}
 use native.Mathlib.Omega.{arith}
 use native.Mathlib.Decide.{decLt}
-use lib.Dec.{leb, ltb}
+use lib.Dec.{leb}
 use borrow.Author.Tests.{lt-ltb, le-ltb, le-leb, lt-leb, leb-true}
-use Rattle.scan.specs.Choice.{pick}
 use Rattle.scan.specs.Place.{within}
 use Rattle.scan.proofs.Step.{pick-true, pick-by}
 use Rattle.hex.specs.Hex.{Digit, number, letter, valueOf, digitOf}

@@ -1,3 +1,4 @@
 pub mod Digits
 pub mod Texts
 pub mod Turn
+pub mod BlockLaws

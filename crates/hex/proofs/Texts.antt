@@ -1,6 +1,6 @@
 -- Texts of digits and their bytes: `hexes` and `unhex` give each other back, keep `++`, and double and halve the length.
 -- By induction on the bytes, or on the text two digits at a time; each step is one law of `Digits`.
-use Prim.Native.Nat.{ℕ, _+_, _*_, _/_, _%_, _<_, _≤_}
+use Prim.Native.Nat.{ℕ, _+_, _*_, _/_, _%_, _<_}
 use mathlib.Core.Path.{_≡_, refl, sym, ap, _∙_}
 use mathlib.Core.Bool.{Bool, true, false}
 use mathlib.Core.List.{List, [], _∷_, _++_}

@@ -1,37 +1,63 @@
--- The turns of the loops over a text: one digit tested, two digits read.
--- Each premise is what the loop knows; the text from i on is its bytes at i and the text behind them.
-use Prim.Native.Nat.{ℕ, _+_, _*_, _%_, _<_, _≤_}
+-- The turns of the loops over a text of digits, and what a full buffer leaves out.
+-- The text from i on is its bytes at i and the text behind them.
+use Prim.Native.Nat.{ℕ, _+_, _*_, _-_, _/_, _%_, _<_, _≤_}
 use mathlib.Core.Path.{_≡_, refl, sym, ap, _∙_}
-use mathlib.Core.Bool.{Bool, true, false}
-use mathlib.Core.List.{List, [], _∷_}
+use mathlib.Core.Bool.{Bool, true}
+use mathlib.Core.List.{List, [], _∷_, _++_}
 use native.Mathlib.Omega.{arith}
-use lib.ListN.{length, getD, drop, length-drop}
-use borrow.Author.Tests.{lt-ltb, le-ltb}
+use lib.ListN.{length, getD, set, take, drop, length-set, length-take, length-drop, length-append, take-append-drop}
+use lib.Seq.{take-append-le, append-snoc}
 use Rattle.scan.specs.Place.{within}
-use Rattle.scan.proofs.Step.{rest-none, rest-more}
-use Rattle.hex.specs.Hex.{valueOf, unhex, allDigits}
+use Rattle.scan.proofs.Step.{rest-more}
+use Rattle.store.specs.Store.{puts, Wrote}
+use Rattle.store.proofs.Laws.{Left, byte, then, cut}
+use Rattle.hex.specs.Hex.{valueOf, digitOf, hexes, unhex}
 use Rattle.hex.proofs.Digits.{in-range}
+use Rattle.hex.proofs.Texts.{hexes-append, length-hexes, unhex-append, length-unhex}
 
 -- a byte that passed the test of a range is at least its lower end
 pub low-enough : (low high b : ℕ) {t : Bool} → t ≡ within low high b → t ≡ true → low ≤ b
 low-enough low high b e k = in-range low high b (sym e ∙ k) .0
 
--- ---- every byte a digit
+-- ---- what the writers share
 
-module _ (t : List ℕ) (i v : ℕ) where
-  pub all-again : allDigits t ≡ allDigits (drop i t) → i < length t → v ≡ valueOf (getD t i 0) → v < 16 → allDigits t ≡ allDigits (drop (i + 1) t)
-  unfolding allDigits
-  all-again e h f k = e ∙ rw (rest-more t i, ← f, lt-ltb v 16 k)
+-- general: two bytes stored where there is room for both
+pub two-bytes : {d : List ℕ} {at : ℕ} {all d′ : List ℕ} {o v w : ℕ} {left : List ℕ}
+    → o + 1 < length d′ → Left d at all d′ o (v ∷ w ∷ left) → Left d at all (set (set d′ o v) (o + 1) w) (o + 2) left
+two-bytes {d′ = d′} {o = o} {v = v} h l =
+    let two : o + 1 + 1 ≡ o + 2 = omega arith in
+    rw two at (byte (simp length-set h) (byte (omega arith) l))
 
-  pub all-other : allDigits t ≡ allDigits (drop i t) → i < length t → v ≡ valueOf (getD t i 0) → 16 ≤ v → false ≡ allDigits t
-  unfolding allDigits
-  all-other e h f k = sym (e ∙ rw (rest-more t i, ← f, le-ltb v 16 k))
+-- general: a full buffer leaves out what comes behind
+pub past : {d : List ℕ} {at : ℕ} {x d′ : List ℕ} {r : ℕ} (y : List ℕ) → length d ≤ at + length x → Wrote d at x d′ r → Wrote d at (x ++ y) d′ r
+past {d} {at} {x} y h w =
+    let n = length d - at in
+    let e = take-append-le n x y (omega arith) in
+    let u : puts (d, at) (take n x) ≡ puts (d, at) x = cut {d = d} {at = at} {vs = x} (record { is = refl }) .is in
+    cut (record { is = w .is ∙ sym u ∙ ap (λ (vs : List ℕ). puts (d, at) vs) (sym e) })
 
-pub all-ended : (t : List ℕ) (i : ℕ) → allDigits t ≡ allDigits (drop i t) → length t ≤ i → true ≡ allDigits t
-unfolding allDigits
-all-ended t i e h = sym (e ∙ rw (rest-none t i))
+-- ---- too little room
 
-pub ruleset turns = (all-again, all-other, all-ended)
+-- two digits for each of n bytes and one digit more fill the buffer
+pub hexes-cut : {d : List ℕ} {at : ℕ} {d₁ : List ℕ} {o : ℕ} {d₂ : List ℕ} {r : ℕ} (s : List ℕ) (n : ℕ) → n < length s → length d ≤ at + 2 * n + 1
+    → Wrote d at (hexes (take n s)) d₁ o → Wrote d₁ o (digitOf (getD s n 0 / 16) ∷ []) d₂ r → Wrote d at (hexes s) d₂ r
+hexes-cut {d} {at} s n h k u v =
+    let first = hexes (take n s) in
+    let high = digitOf (getD s n 0 / 16) in
+    let more = digitOf (getD s n 0 % 16) ∷ hexes (drop (n + 1) s) in
+    let e : first ++ (high ∷ more) ≡ hexes s =
+    ap (λ (l : List ℕ). first ++ hexes l) (sym (rest-more s n h)) ∙ sym (hexes-append (take n s) (drop n s)) ∙ ap hexes (take-append-drop n s) in
+    let l = length-append first (high ∷ []) in
+    rw (append-snoc first high more, e) at (past more (omega (arith, l, length-hexes (take n s), length-take n s)) (then u v))
+
+-- the bytes of 2 * n digits fill the buffer
+pub unhex-cut : {d : List ℕ} {at : ℕ} {d′ : List ℕ} {r : ℕ} (t : List ℕ) (n : ℕ) → 2 * n ≤ length t → length d ≤ at + n
+    → Wrote d at (unhex (take (2 * n) t)) d′ r → Wrote d at (unhex t) d′ r
+unhex-cut t n h k w =
+    let first = take (2 * n) t in
+    let l = length-take (2 * n) t in
+    let e = sym (unhex-append first (drop (2 * n) t) (omega arith)) ∙ ap unhex (take-append-drop (2 * n) t) in
+    rw e at (past (unhex (drop (2 * n) t)) (omega (arith, length-unhex first)) w)
 
 -- ---- two digits for a byte
 

@@ -1,8 +1,10 @@
 // Lowercase hex: digits and values, bytes and texts.
-ghost use Prim.Native.Nat.{_%_};
+ghost use Prim.Native.Nat.{_+_, _*_, _/_, _%_, _≤_};
 ghost use mathlib.Core.Path.{_≡_};
+ghost use lib.ListN.{length};
 ghost use Rattle.store.specs.Store.{Wrote};
 ghost use Rattle.hex.specs.Hex.{valueOf, digitOf, hexes, unhex, allDigits, goesAsBytes};
+ghost use Rattle.hex.specs.Block.{isOther, othersOf};
 
 // A digit's value; 16 where the byte is none of 0-9 a-f.
 pub fn value_of(b: u8) -> u8
@@ -25,16 +27,51 @@ pub fn digit_of(v: u8) -> u8
     if d < 10 { 48 + d } else { 87 + d }
 }
 
-// Each byte as two digits, written.
-pub fn put_hex(out: &mut [u8], at: usize, s: &[u8]) -> usize
+// Each byte as two digits, where there is room for all: one loop with no test for each byte.
+fn hex_all(out: &mut [u8], at: usize, s: &[u8]) -> usize
+    requires { ⌜ at + 2 * length (now s) ≤ length (now out) ⌝ }
     ensures { λ r. ⌜ Wrote (now (out .entry)) at (hexes (now (s .entry))) (now (out .exit)) r ⌝ }
 {
     let mut i = 0;
     let mut o = at;
     while i < s.len() {
-        o = store::put_byte(out, o, digit_of(s[i] / 16));
-        o = store::put_byte(out, o, digit_of(s[i]));
+        out[o] = digit_of(s[i] / 16);
+        out[o + 1] = digit_of(s[i]);
+        o += 2;
         i += 1;
+    }
+    o
+}
+
+// Each byte as two digits, written.
+pub fn put_hex(out: &mut [u8], at: usize, s: &[u8]) -> usize
+    ensures { λ r. ⌜ Wrote (now (out .entry)) at (hexes (now (s .entry))) (now (out .exit)) r ⌝ }
+{
+    if out.len() <= at {
+        return at;
+    }
+    let room = (out.len() - at) / 2;
+    if s.len() <= room {
+        return hex_all(out, at, s);
+    }
+    // one digit more where the room is odd; behind it the buffer is full
+    let o = hex_all(out, at, &s[..room]);
+    store::put_byte(out, o, digit_of(s[room] / 16))
+}
+
+// A byte for each two digits, where there is room for all.
+fn unhex_all(out: &mut [u8], at: usize, t: &[u8]) -> usize
+    requires { ⌜ at + length (now t) / 2 ≤ length (now out) ⌝ }
+    ensures { λ r. ⌜ Wrote (now (out .entry)) at (unhex (now (t .entry))) (now (out .exit)) r ⌝ }
+{
+    let mut i = 0;
+    let mut o = at;
+    while i + 1 < t.len() {
+        let high = value_of(t[i]) % 16;
+        let low = value_of(t[i + 1]) % 16;
+        out[o] = 16 * high + low;
+        o += 1;
+        i += 2;
     }
     o
 }
@@ -43,29 +80,52 @@ pub fn put_hex(out: &mut [u8], at: usize, s: &[u8]) -> usize
 pub fn put_unhex(out: &mut [u8], at: usize, t: &[u8]) -> usize
     ensures { λ r. ⌜ Wrote (now (out .entry)) at (unhex (now (t .entry))) (now (out .exit)) r ⌝ }
 {
-    let mut i = 0;
-    let mut o = at;
-    while i + 1 < t.len() {
-        let high = value_of(t[i]) % 16;
-        let low = value_of(t[i + 1]) % 16;
-        o = store::put_byte(out, o, 16 * high + low);
-        i += 2;
+    if out.len() <= at {
+        return at;
     }
-    o
+    let room = out.len() - at;
+    if t.len() / 2 <= room {
+        return unhex_all(out, at, t);
+    }
+    let end = 2 * room;
+    unhex_all(out, at, &t[..end])
 }
 
-// Whether every byte is one of 0-9 a-f.
+// 1 for a byte that is no digit, and else 0.
+fn is_other(b: u8) -> u8
+    ensures { λ r. ⌜ r ≡ isOther b ⌝ }
+    ensures { λ r. ⌜ r ≤ 1 ⌝ }
+{
+    if value_of(b) < 16 { 0 } else { 1 }
+}
+
+// How many bytes of a block are no digits. No exit on the way, and a sum in a byte: a loop for vectors.
+fn others(block: &[u8]) -> u8
+    requires { ⌜ length (now block) ≤ 128 ⌝ }
+    ensures { λ r. ⌜ r ≡ othersOf (now (block .entry)) ⌝ }
+{
+    let mut i = 0;
+    let mut n: u8 = 0;
+    while i < block.len() {
+        n += is_other(block[i]);
+        i += 1;
+    }
+    n
+}
+
+// Whether every byte is one of 0-9 a-f: block by block.
 pub fn all_digits(t: &[u8]) -> bool
     ensures { λ r. ⌜ r ≡ allDigits (now (t .entry)) ⌝ }
 {
     let mut i = 0;
-    while i < t.len() {
-        if 16 <= value_of(t[i]) {
+    while t.len() - i >= 128 {
+        let e = i + 128;
+        if others(&t[i..e]) != 0 {
             return false;
         }
-        i += 1;
+        i = e;
     }
-    true
+    others(&t[i..]) == 0
 }
 
 // Whether a text goes as bytes in the strict form.

@@ -1,0 +1,6 @@
+pub mod ByteLaws
+pub mod TextLaws
+pub mod QuotedLaws
+pub mod OverLaws
+pub mod PlainLaws
+pub mod BlockLaws

@@ -1,0 +1,260 @@
+// The two escapings of texts: in the canonical text and in NSON. `all` says which: true is the canonical text's.
+ghost use Prim.Native.Nat.{_+_, _*_, _≤_, min};
+ghost use mathlib.Core.Path.{_≡_};
+ghost use lib.ListN.{length};
+ghost use Rattle.scan.specs.Choice.{pick};
+ghost use Rattle.store.specs.Store.{Wrote};
+ghost use Rattle.escape.specs.Escape.{canonicalByte, nsonByte, escaped, isControl, controls, nsonText};
+ghost use Rattle.escape.specs.Block.{byteOf, isEscaped, letterOf, runOf};
+
+// Whether the byte becomes two.
+fn is_escaped(all: bool, b: u8) -> bool
+    ensures { λ r. ⌜ r ≡ isEscaped all b ⌝ }
+{
+    if b == b'"' {
+        return true;
+    }
+    if b == b'\\' {
+        return true;
+    }
+    if all {
+        if scan::is_within(0x08, 0x0D, b) {
+            if b == 0x0B {
+                return false;
+            }
+            return true;
+        }
+        return false;
+    }
+    b == b'\n'
+}
+
+// The letter behind the backslash, of a byte that becomes two.
+fn letter_of(b: u8) -> u8
+    ensures { λ r. ⌜ r ≡ letterOf b ⌝ }
+{
+    if b == b'\n' {
+        return b'n';
+    }
+    if b == b'\r' {
+        return b'r';
+    }
+    if b == b'\t' {
+        return b't';
+    }
+    if b == 0x08 {
+        return b'b';
+    }
+    if b == 0x0C {
+        return b'f';
+    }
+    b
+}
+
+fn one_if(t: bool) -> u8
+    ensures { λ r. ⌜ r ≡ pick t 1 0 ⌝ }
+    ensures { λ r. ⌜ r ≤ 1 ⌝ }
+{
+    if t { 1 } else { 0 }
+}
+
+// ---- the length
+
+// How many bytes of a block become two. No exit on the way, and a sum in a byte: a loop for vectors.
+fn escapes(all: bool, block: &[u8]) -> u8
+    requires { ⌜ length (now block) ≤ 128 ⌝ }
+    ensures { λ r. ⌜ r + length (now (block .entry)) ≡ length (escaped (byteOf all) (now (block .entry))) ⌝ }
+{
+    let mut i = 0;
+    let mut n: u8 = 0;
+    while i < block.len() {
+        n += one_if(is_escaped(all, block[i]));
+        i += 1;
+    }
+    n
+}
+
+fn escaped_len(all: bool, s: &[u8]) -> usize
+    ensures { λ r. ⌜ r ≡ length (escaped (byteOf all) (now (s .entry))) ⌝ }
+    ensures { λ r. ⌜ r ≤ 2 * length (now (s .entry)) ⌝ }
+{
+    let mut i = 0;
+    let mut n = 0;
+    while s.len() - i >= 128 {
+        let e = i + 128;
+        n += 128 + escapes(all, &s[i..e]) as usize;
+        i = e;
+    }
+    n + (s.len() - i) + escapes(all, &s[i..]) as usize
+}
+
+// The length of a text in the canonical text.
+pub fn canonical_len(s: &[u8]) -> usize
+    ensures { λ r. ⌜ r ≡ length (escaped canonicalByte (now (s .entry))) ⌝ }
+    ensures { λ r. ⌜ r ≤ 2 * length (now (s .entry)) ⌝ }
+{
+    escaped_len(true, s)
+}
+
+// The length of a text in NSON.
+pub fn nson_len(s: &[u8]) -> usize
+    ensures { λ r. ⌜ r ≡ length (escaped nsonByte (now (s .entry))) ⌝ }
+    ensures { λ r. ⌜ r ≤ 2 * length (now (s .entry)) ⌝ }
+{
+    escaped_len(false, s)
+}
+
+// ---- the text
+
+// One byte, as one or as two.
+fn put_one(all: bool, out: &mut [u8], at: usize, b: u8) -> usize
+    ensures { λ r. ⌜ Wrote (now (out .entry)) at (byteOf all b) (now (out .exit)) r ⌝ }
+{
+    if is_escaped(all, b) {
+        let o = store::put_byte(out, at, b'\\');
+        return store::put_byte(out, o, letter_of(b));
+    }
+    store::put_byte(out, at, b)
+}
+
+fn put_each(all: bool, out: &mut [u8], at: usize, s: &[u8]) -> usize
+    ensures { λ r. ⌜ Wrote (now (out .entry)) at (escaped (byteOf all) (now (s .entry))) (now (out .exit)) r ⌝ }
+{
+    let mut i = 0;
+    let mut o = at;
+    while i < s.len() {
+        o = put_one(all, out, o, s[i]);
+        i += 1;
+    }
+    o
+}
+
+fn place_if(t: bool, i: u8, n: u8) -> u8
+    ensures { λ r. ⌜ r ≡ pick t i n ⌝ }
+{
+    if t { i } else { n }
+}
+
+fn lesser(a: u8, b: u8) -> u8
+    ensures { λ r. ⌜ r ≡ min a b ⌝ }
+{
+    if a < b { a } else { b }
+}
+
+// How many bytes of a block stand before the first that becomes two. No exit on the way, and a minimum of bytes: a loop for vectors.
+fn plain_run(all: bool, block: &[u8]) -> u8
+    requires { ⌜ length (now block) ≤ 64 ⌝ }
+    ensures { λ r. ⌜ r ≡ runOf all (now (block .entry)) ⌝ }
+    ensures { λ r. ⌜ r ≤ 64 ⌝ }
+{
+    let n = block.len() as u8;
+    let mut i = 0;
+    let mut m = n;
+    while i < block.len() {
+        m = lesser(place_if(is_escaped(all, block[i]), i as u8, n), m);
+        i += 1;
+    }
+    m
+}
+
+// A text of any length; one of a block or less that needs no escape goes whole.
+fn put_rest(all: bool, out: &mut [u8], at: usize, s: &[u8]) -> usize
+    ensures { λ r. ⌜ Wrote (now (out .entry)) at (escaped (byteOf all) (now (s .entry))) (now (out .exit)) r ⌝ }
+{
+    if s.len() <= 64 {
+        if plain_run(all, s) as usize == s.len() {
+            return store::put_bytes(out, at, s);
+        }
+    }
+    put_each(all, out, at, s)
+}
+
+// Block by block. A block is copied whole; what stands behind its first escape is then written over.
+fn put_escaped(all: bool, out: &mut [u8], at: usize, s: &[u8]) -> usize
+    ensures { λ r. ⌜ Wrote (now (out .entry)) at (escaped (byteOf all) (now (s .entry))) (now (out .exit)) r ⌝ }
+{
+    if out.len() <= at {
+        return at;
+    }
+    let mut i = 0;
+    let mut o = at;
+    while s.len() - i >= 64 {
+        // no room for a block and an escape
+        if out.len() - o < 66 {
+            return put_rest(all, out, o, &s[i..]);
+        }
+        let e = i + 64;
+        store::put_bytes(out, o, &s[i..e]);
+        let m = plain_run(all, &s[i..e]) as usize;
+        if m == 64 {
+            i = e;
+            o += 64;
+            continue;
+        }
+        i += m;
+        o += m;
+        out[o] = b'\\';
+        out[o + 1] = letter_of(s[i]);
+        i += 1;
+        o += 2;
+    }
+    put_rest(all, out, o, &s[i..])
+}
+
+// A text as the canonical text has it.
+pub fn put_canonical(out: &mut [u8], at: usize, s: &[u8]) -> usize
+    ensures { λ r. ⌜ Wrote (now (out .entry)) at (escaped canonicalByte (now (s .entry))) (now (out .exit)) r ⌝ }
+{
+    put_escaped(true, out, at, s)
+}
+
+// A text as NSON has it.
+pub fn put_nson(out: &mut [u8], at: usize, s: &[u8]) -> usize
+    ensures { λ r. ⌜ Wrote (now (out .entry)) at (escaped nsonByte (now (s .entry))) (now (out .exit)) r ⌝ }
+{
+    put_escaped(false, out, at, s)
+}
+
+// ---- what NSON can carry
+
+// 1 for a byte that NSON can't carry.
+fn is_control(b: u8) -> u8
+    ensures { λ r. ⌜ r ≡ isControl b ⌝ }
+    ensures { λ r. ⌜ r ≤ 1 ⌝ }
+{
+    if b < 0x20 {
+        if b == b'\n' {
+            return 0;
+        }
+        return 1;
+    }
+    0
+}
+
+fn block_controls(block: &[u8]) -> u8
+    requires { ⌜ length (now block) ≤ 128 ⌝ }
+    ensures { λ r. ⌜ r ≡ controls (now (block .entry)) ⌝ }
+{
+    let mut i = 0;
+    let mut n: u8 = 0;
+    while i < block.len() {
+        n += is_control(block[i]);
+        i += 1;
+    }
+    n
+}
+
+// Whether NSON can carry the text: no byte below 20 other than 0A.
+pub fn nson_fits(s: &[u8]) -> bool
+    ensures { λ r. ⌜ r ≡ nsonText (now (s .entry)) ⌝ }
+{
+    let mut i = 0;
+    while s.len() - i >= 128 {
+        let e = i + 128;
+        if block_controls(&s[i..e]) != 0 {
+            return false;
+        }
+        i = e;
+    }
+    block_controls(&s[i..]) == 0
+}
