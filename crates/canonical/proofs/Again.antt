@@ -7,7 +7,7 @@ use mathlib.Core.Bool.{Bool, true, false}
 use mathlib.Core.List.{List, [], _∷_, _++_, map, append-assoc}
 use native.Mathlib.Numerals.{sub-one}
 use native.Mathlib.Omega.{arith}
-use lib.ListN.{length, take, drop, length-map, length-append, length-take}
+use lib.ListN.{length, take, drop, length-map, length-append, length-take, length-drop}
 use lib.Dec.{ltb, leb, eqb}
 use borrow.Author.Tests.{leb-true, le-leb}
 use Rattle.scan.specs.Choice.{pick, Answer, shown, refused, Read, read, andThen, many}
@@ -21,6 +21,7 @@ use Rattle.varint.specs.Varint.{varintAt}
 use Rattle.varint.proofs.VarintLaws.{consumes-some}
 use Rattle.varint.proofs.UlebLaws.{spells-one}
 use Rattle.hex.specs.Hex.{hexes}
+use Rattle.hex.proofs.Texts.{length-hexes}
 use Rattle.escape.specs.Escape.{canonicalByte, escaped}
 use Rattle.escape.proofs.ByteLaws.{canonical-escaping}
 use Rattle.escape.proofs.TextLaws.{length-most}
@@ -32,11 +33,12 @@ use Rattle.notepack.specs.declared.NumberRead.{NumberRead}
 use Rattle.notepack.specs.declared.NumberRead.the-variants as number
 use Rattle.notepack.specs.Unpack.{partOf, bytesOf, textOf, payloadAt, textAt, elementAt, elementsAt, tagCountAt, tagAt, tagsAt}
 use Rattle.notepack.specs.Answers.{partRead, numberRead}
+use Rattle.notepack.proofs.Walking.{text-raw, text-plain}
 use Rattle.notepack.proofs.Sound.{text-reads, count-reads}
 use Rattle.notepack.proofs.Viewing.{tag-apart}
 use Rattle.canonical.specs.Canonical.{quoted, commaed, array, tagText}
 use Rattle.canonical.specs.Copy.{orElse, partAt, comma, elementsText, elementsEnd, tagsText}
-use Rattle.canonical.proofs.Texts.{length-quoted, length-quoted-hexes, commaed-more}
+use Rattle.canonical.proofs.Texts.{hexes-stand, length-quoted, length-quoted-hexes, commaed-more}
 
 -- a test passed before what is shown
 pick-shown : {A : Type 0} (t : Bool) (x : Answer A) (n q : ℕ) (a : A) → pick t x (refused n q) ≡ shown a → (t ≡ true) × (x ≡ shown a)
@@ -44,6 +46,23 @@ pick-shown true x n q a e = (refl, e)
 pick-shown false x n q a e = let z : _≡_ {A = ℕ} 0 1 = cc in absurd (omega arith)
 
 module _ (s : List ℕ) where
+  -- ---- a part
+
+  -- a part is no longer than the input
+  pub part-short : (p : Part) → length (bytesOf s p) ≤ length s
+  part-short p = omega (arith, length-take (p .len) (drop (p .at) s), length-drop (p .at) s)
+
+  -- the hex of a raw part needs no escape
+  pub raw-text : IsBytes s → (p : Part) → p .raw ≡ true → escaped canonicalByte (textOf s p) ≡ hexes (bytesOf s p)
+  raw-text bytes p r = ap (escaped canonicalByte) (text-raw s p r) ∙ hexes-stand (all-take (p .len) (all-drop (p .at) bytes))
+
+  -- the length of a part's string, raw and plain
+  pub raw-length : IsBytes s → (p : Part) → p .raw ≡ true → length (quoted (textOf s p)) ≡ 2 * length (bytesOf s p) + 2
+  raw-length bytes p r = length-quoted (textOf s p) ∙ rw (raw-text bytes p r, length-hexes (bytesOf s p))
+
+  pub plain-length : (p : Part) → p .raw ≡ false → length (quoted (textOf s p)) ≡ length (escaped canonicalByte (bytesOf s p)) + 2
+  plain-length p r = length-quoted (textOf s p) ∙ rw (text-plain s p r)
+
   -- ---- the turns of the loops
 
   -- an element more: its string, a comma where more follow, and the others
@@ -52,6 +71,14 @@ module _ (s : List ℕ) where
   unfolding elementsText elementsEnd
   elements-turn zero at f p c h e k = absurd (omega arith)
   elements-turn (suc left) at f p c h e k = let r = sym e ∙ ap partRead k in (rw (r, sub-one), rw (r, sub-one))
+
+  -- and their lengths
+  pub elements-count : (left at : ℕ) (f : PartRead) (p : Part) (c : Cursor) → 0 < left → partRead f ≡ partAt s at → f ≡ part.Found p c
+      → length (elementsText left s at) ≡ length (quoted (textOf s p)) + length (comma (left - 1)) + length (elementsText (left - 1) s (c .at))
+  elements-count left at f p c h e k =
+      let x = quoted (textOf s p) in
+      let m = elementsText (left - 1) s (c .at) in
+      ap length (elements-turn left at f p c h e k .0) ∙ omega (arith, length-append x (comma (left - 1) ++ m), length-append (comma (left - 1)) m)
 
   pub elements-stop : (left at : ℕ) (f : PartRead) (n q : ℕ) → 0 < left → partRead f ≡ partAt s at → partRead f ≡ refused n q
       → (elementsText left s at ≡ []) × (elementsEnd left s at ≡ at)
@@ -70,6 +97,14 @@ module _ (s : List ℕ) where
   unfolding tagsText
   tags-turn zero at n f c h e k = absurd (omega arith)
   tags-turn (suc left) at n f c h e k = let r = sym e ∙ ap numberRead k in rw (r, sub-one)
+
+  pub tags-count : (left at n : ℕ) (f : NumberRead) (c : Cursor) → 0 < left → numberRead f ≡ tagCountAt s at → f ≡ number.Number n c
+      → length (tagsText left s at) ≡ length (elementsText n s (c .at)) + 2 + length (comma (left - 1)) + length (tagsText (left - 1) s (elementsEnd n s (c .at)))
+  tags-count left at n f c h e k =
+      let es = elementsText n s (c .at) in
+      let m = tagsText (left - 1) s (elementsEnd n s (c .at)) in
+      ap length (tags-turn left at n f c h e k)
+      ∙ omega (arith, length-append es ((0x5D ∷ []) ++ (comma (left - 1) ++ m)), length-append (comma (left - 1)) m)
 
   pub tags-stop : (left at : ℕ) (f : NumberRead) (n q : ℕ) → 0 < left → numberRead f ≡ tagCountAt s at → numberRead f ≡ refused n q → tagsText left s at ≡ []
   unfolding tagsText

@@ -1,68 +1,59 @@
+-- `elements_len` measures the elements as it reads them again. The invariant: what is counted and the length of the elements left are the length of all,
+-- and they end where all end. Each turn is one law; the sum is at most three times the input.
+use Prim.Native.Nat.{_+_, _≤_}
+use mathlib.Core.Path.{_≡_, refl, sym, ap, _∙_}
+use native.Mathlib.Omega.{arith}
+use lib.ListN.{length}
+use borrow.Author.Needs.{needs}
+use Rattle.scan.proofs.AllLaws.{all-places}
+use Rattle.notepack.specs.Answers.{partRead}
+use Rattle.canonical.specs.Copy.{elementsText, elementsEnd}
+use Rattle.canonical.proofs.Again.{elements-turn, elements-count, elements-stop, elements-left, elements-room}
 use Rattle.canonical.proofs.elements_len.Statement.{statement}
 use Rattle.canonical.proofs.elements_len.Tie as tie
-use Rattle.canonical.proofs.elements_len.Reads as reads
-use Rattle.canonical.proofs.elements_len.Lts as lts
-use Rattle.canonical.proofs.comma_len.Reads as comma-len-reads
-use Rattle.canonical.proofs.quoted_len.Reads as quoted-len-reads
-use Rattle.canonical.proofs.read_part.Reads as read-part-reads
 
 abbrev Inv-loop : tie.InvT-loop
-Inv-loop s from count n₀ at₀ left₀ n at left = ?
+Inv-loop s from count n₀ at₀ left₀ n at left =
+    (n + length (elementsText left s at) ≡ n₀ + length (elementsText left₀ s at₀)) × (elementsEnd left₀ s at₀ ≡ elementsEnd left s at)
 
 abbrev μ-loop : tie.MeasureT-loop
-μ-loop s from count n₀ at₀ left₀ n at left = ?
+μ-loop s from count n₀ at₀ left₀ n at left = left
 
--- src/lib.rt:77:5
-loop-holds : tie.Need-loop-holds Inv-loop μ-loop
-loop-holds c = ?
+fits : tie.Need-add-n-2 Inv-loop μ-loop
+fits c =
+    let q = c .before .before .before .before .before .before .before .loop in
+    let known = c .before .before .before .before .before .before .before .before in
+    let a = known .before .args in
+    let bytes = all-places (a .s .now) (λ i. omega (arith, known .shared-slice-known .given i)) in
+    let most = elements-room (a .s .now) bytes (a .count) (a .from) in
+    omega (arith, q .inv .0, most, known .before .pre, c .comma-len .ensures .1, c .before .quoted-len .ensures .1)
 
--- src/lib.rt:78:13
-read-part-requires : tie.Need-read-part-requires Inv-loop μ-loop
-read-part-requires c κs = ?
+again : tie.Need-loop-again Inv-loop μ-loop
+again c =
+    let told = c .before .before .before in
+    let called = told .before .before in
+    let turn = called .before in
+    let q = turn .before .loop in
+    let s = turn .before .before .before .args .s .now in
+    let test = turn .loop-test .taken in
+    let t = elements-turn s (q .left) (q .at) _ _ _ test (called .read-part .ensures) (told .found .given .1) in
+    let n = elements-count s (q .left) (q .at) _ _ _ test (called .read-part .ensures) (told .found .given .1) in
+    (omega (arith, q .inv .0, n, c .comma-len .ensures .0, c .before .quoted-len .ensures .0), q .inv .1 ∙ t .1)
 
--- src/lib.rt:80:29
-enum-known-found : tie.Need-enum-known-found Inv-loop μ-loop
-enum-known-found c = ?
+stop : tie.Need-returns Inv-loop μ-loop
+stop c =
+    let called = c .before .before in
+    let turn = called .before in
+    let q = turn .before .loop in
+    let s = turn .before .before .before .args .s .now in
+    let t = elements-stop s (q .left) (q .at) (called .read-part .result) _ _ (turn .loop-test .taken) (called .read-part .ensures) (ap partRead (c .enum-told .given .1)) in
+    (omega (arith, q .inv .0, ap length (t .0)), sym (q .inv .1 ∙ t .1))
 
--- src/lib.rt:81:17
-sub-left : tie.Need-sub-left Inv-loop μ-loop
-sub-left c = ?
-
--- src/lib.rt:82:22
-quoted-len-requires : tie.Need-quoted-len-requires Inv-loop μ-loop
-quoted-len-requires c κs = ?
-
--- src/lib.rt:82:41
-comma-len-requires : tie.Need-comma-len-requires Inv-loop μ-loop
-comma-len-requires c κs = ?
-
--- src/lib.rt:82:22
-add-n : tie.Need-add-n Inv-loop μ-loop
-add-n c = ?
-
--- src/lib.rt:82:17
-add-n-2 : tie.Need-add-n-2 Inv-loop μ-loop
-add-n-2 c = ?
-
--- src/lib.rt:77:5
-loop-less : tie.Need-loop-less Inv-loop μ-loop
-loop-less c = ?
-
--- src/lib.rt:77:5
-loop-again : tie.Need-loop-again Inv-loop μ-loop
-loop-again c = ?
-
--- src/lib.rt:85:37
-enum-told : tie.Need-enum-told Inv-loop μ-loop
-enum-told c = ?
-
--- src/lib.rt:85:37
-returns : tie.Need-returns Inv-loop μ-loop
-returns c = ?
-
--- src/lib.rt:69:1
-returns-2 : tie.Need-returns-2 Inv-loop μ-loop
-returns-2 c = ?
+end : tie.Need-returns-2 Inv-loop μ-loop
+end c =
+    let q = c .before .loop in
+    let t = elements-left (c .before .before .before .args .s .now) (q .left) (q .at) (c .loop-test .left) in
+    (omega (arith, q .inv .0, ap length (t .0)), sym (q .inv .1 ∙ t .1))
 
 pub elements-len-spec : {M : Type 1} → statement M
 elements-len-spec =
@@ -70,16 +61,16 @@ elements-len-spec =
     (tie.spec
     Inv-loop
     μ-loop
-    loop-holds
-    read-part-requires
-    enum-known-found
-    sub-left
-    quoted-len-requires
-    comma-len-requires
-    add-n
-    add-n-2
-    loop-less
-    loop-again
-    enum-told
-    returns
-    returns-2)
+    (λ c. (refl, refl))
+    (λ c κs. search needs)
+    (λ c. search needs)
+    (λ c. search needs)
+    (λ c κs. c .before .before .before .before .before .before .before .pre)
+    (λ c κs. search needs)
+    (λ c. omega (arith, c .before .before .before .before .before .before .before .before .before .pre, c .comma-len .ensures .1, c .before .quoted-len .ensures .1))
+    fits
+    (λ c. search needs)
+    again
+    (λ c. search needs)
+    stop
+    end)

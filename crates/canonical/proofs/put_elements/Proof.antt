@@ -1,68 +1,47 @@
+-- `put_elements` writes the elements as it reads them again. The invariant: what is left to write is the text of the elements left,
+-- and they end where all end. Each turn is one law; a refusal ends both alike.
+use mathlib.Core.Path.{_≡_, refl, sym, ap, _∙_}
+use borrow.Author.Needs.{needs}
+use Rattle.store.proofs.Laws.{Left, start, part, done, also, same}
+use Rattle.notepack.specs.Answers.{partRead}
+use Rattle.canonical.specs.Copy.{elementsText, elementsEnd}
+use Rattle.canonical.proofs.Again.{elements-turn, elements-stop, elements-left}
 use Rattle.canonical.proofs.put_elements.Statement.{statement}
 use Rattle.canonical.proofs.put_elements.Tie as tie
-use Rattle.canonical.proofs.put_elements.Reads as reads
-use Rattle.canonical.proofs.put_elements.Lts as lts
-use Rattle.canonical.proofs.put_comma.Reads as put-comma-reads
-use Rattle.canonical.proofs.put_quoted.Reads as put-quoted-reads
-use Rattle.canonical.proofs.read_part.Reads as read-part-reads
 
 abbrev Inv-loop : tie.InvT-loop
-Inv-loop out₀ at s from count o₀ i₀ left₀ out o i left = ?
+Inv-loop out₀ at s from count o₀ i₀ left₀ out o i left =
+    Left out₀ o₀ (elementsText left₀ s i₀) out o (elementsText left s i) × (elementsEnd left₀ s i₀ ≡ elementsEnd left s i)
 
 abbrev μ-loop : tie.MeasureT-loop
-μ-loop out₀ at s from count o₀ i₀ left₀ out o i left = ?
+μ-loop out₀ at s from count o₀ i₀ left₀ out o i left = left
 
--- src/lib.rt:166:5
-loop-holds : tie.Need-loop-holds Inv-loop μ-loop
-loop-holds c = ?
+again : tie.Need-loop-again Inv-loop μ-loop
+again c =
+    let last = c .before .before in
+    let text = last .before .before .before .before in
+    let told = text .before .before .before in
+    let called = told .before .before in
+    let turn = called .before in
+    let q = turn .before .loop in
+    let s = turn .before .before .before .before .args .s .now in
+    let t = elements-turn s (q .left) (q .i) _ _ _ (turn .loop-test .taken) (called .read-part .ensures) (told .found .given .1) in
+    (part (part (also (t .0) (q .inv .0)) (text .put-quoted .ensures)) (last .put-comma .ensures), q .inv .1 ∙ t .1)
 
--- src/lib.rt:167:13
-read-part-requires : tie.Need-read-part-requires Inv-loop μ-loop
-read-part-requires c κs = ?
+stop : tie.Need-returns Inv-loop μ-loop
+stop c =
+    let called = c .before .before in
+    let turn = called .before in
+    let q = turn .before .loop in
+    let s = turn .before .before .before .before .args .s .now in
+    let t = elements-stop s (q .left) (q .i) (called .read-part .result) _ _ (turn .loop-test .taken) (called .read-part .ensures) (ap partRead (c .enum-told .given .1)) in
+    (done (also (t .0) (q .inv .0)), sym (q .inv .1 ∙ t .1))
 
--- src/lib.rt:169:29
-enum-known-found : tie.Need-enum-known-found Inv-loop μ-loop
-enum-known-found c = ?
-
--- src/lib.rt:170:17
-sub-left : tie.Need-sub-left Inv-loop μ-loop
-sub-left c = ?
-
--- src/lib.rt:171:17
-put-quoted-requires : tie.Need-put-quoted-requires Inv-loop μ-loop
-put-quoted-requires c κs = ?
-
--- src/lib.rt:172:17
-put-comma-requires : tie.Need-put-comma-requires Inv-loop μ-loop
-put-comma-requires c κs = ?
-
--- src/lib.rt:166:5
-loop-less : tie.Need-loop-less Inv-loop μ-loop
-loop-less c = ?
-
--- src/lib.rt:166:5
-loop-again : tie.Need-loop-again Inv-loop μ-loop
-loop-again c = ?
-
--- src/lib.rt:175:37
-enum-told : tie.Need-enum-told Inv-loop μ-loop
-enum-told c = ?
-
--- src/lib.rt:175:37
-same-length : tie.Need-same-length Inv-loop μ-loop
-same-length c = ?
-
--- src/lib.rt:175:37
-returns : tie.Need-returns Inv-loop μ-loop
-returns c = ?
-
--- src/lib.rt:159:1
-same-length-2 : tie.Need-same-length-2 Inv-loop μ-loop
-same-length-2 c = ?
-
--- src/lib.rt:159:1
-returns-2 : tie.Need-returns-2 Inv-loop μ-loop
-returns-2 c = ?
+end : tie.Need-returns-2 Inv-loop μ-loop
+end c =
+    let q = c .before .loop in
+    let t = elements-left (c .before .before .before .before .args .s .now) (q .left) (q .i) (c .loop-test .left) in
+    (done (also (t .0) (q .inv .0)), sym (q .inv .1 ∙ t .1))
 
 pub put-elements-spec : {M : Type 1} → statement M
 put-elements-spec =
@@ -70,16 +49,16 @@ put-elements-spec =
     (tie.spec
     Inv-loop
     μ-loop
-    loop-holds
-    read-part-requires
-    enum-known-found
-    sub-left
-    put-quoted-requires
-    put-comma-requires
-    loop-less
-    loop-again
-    enum-told
-    same-length
-    returns
-    same-length-2
-    returns-2)
+    (λ c. (start, refl))
+    (λ c κs. search needs)
+    (λ c. search needs)
+    (λ c. search needs)
+    (λ c κs. search needs)
+    (λ c κs. search needs)
+    (λ c. search needs)
+    again
+    (λ c. search needs)
+    (λ c. same (c .before .before .before .before .loop .inv .0))
+    stop
+    (λ c. same (c .before .loop .inv .0))
+    end)

@@ -1,32 +1,19 @@
+-- `put_quoted` writes a part's text as a string.
+-- Three writers in a row are one.
 use borrow.Author.Needs.{needs}
+use mathlib.Core.List.{append-assoc}
+use Rattle.store.proofs.Laws.{then}
+use Rattle.canonical.specs.Canonical.{quoted}
 use Rattle.canonical.proofs.put_quoted.Statement.{statement}
 use Rattle.canonical.proofs.put_quoted.Tie as tie
-use Rattle.canonical.proofs.put_quoted.Reads as reads
-use Rattle.canonical.proofs.put_quoted.Lts as lts
-use Rattle.canonical.proofs.put_text.Reads as put-text-reads
-use Rattle.store.proofs.put_byte.Reads as put-byte-reads
 
--- src/lib.rt:153:9
-put-byte-requires : tie.Need-put-byte-requires
-put-byte-requires c κs = search needs
-
--- src/lib.rt:154:9
-put-text-requires : tie.Need-put-text-requires
-put-text-requires c κs = search needs
-
--- src/lib.rt:155:5
-put-byte-requires-2 : tie.Need-put-byte-requires-2
-put-byte-requires-2 c κs = search needs
-
--- src/lib.rt:150:1
-same-length : tie.Need-same-length
-same-length c = search needs
-
--- src/lib.rt:150:1
 returns : tie.Need-returns
-returns c = ?
+unfolding quoted
+returns c =
+    let last = c .before .before in
+    let text = last .before .before .before .before in
+    then (then (text .before .before .before .before .put-byte .ensures) (text .put-text .ensures)) (last .put-byte2 .ensures)
 
 pub put-quoted-spec : {M : Type 1} → statement M
 put-quoted-spec =
-    tie.close
-    (tie.spec put-byte-requires put-text-requires put-byte-requires-2 same-length returns)
+    tie.close (tie.spec (λ c κs. search needs) (λ c κs. search needs) (λ c κs. search needs) (λ c. search needs) returns)

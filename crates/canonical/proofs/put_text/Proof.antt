@@ -1,52 +1,35 @@
-use Rattle.notepack.specs.Unpack.{textOf}
-use Rattle.escape.specs.Escape.{canonicalByte}
+-- `put_text` writes a part's text escaped.
+-- Raw bytes go as their hex, which needs no escape; a slice's numbers are bytes.
+use native.Mathlib.Omega.{arith}
 use borrow.Author.Needs.{needs}
+use Rattle.scan.proofs.AllLaws.{all-places}
+use Rattle.notepack.proofs.Walking.{text-plain}
+use Rattle.canonical.proofs.Again.{raw-text}
 use Rattle.canonical.proofs.put_text.Statement.{statement}
 use Rattle.canonical.proofs.put_text.Tie as tie
-use Rattle.canonical.proofs.put_text.Reads as reads
-use Rattle.canonical.proofs.put_text.Lts as lts
-use Rattle.escape.proofs.put_canonical.Reads as put-canonical-reads
-use Rattle.hex.proofs.put_hex.Reads as put-hex-reads
-use Rattle.scan.proofs.part.Reads as part-reads
 
--- src/lib.rt:142:9
-part-requires : tie.Need-part-requires
-part-requires c κs = search needs
+raw : tie.Need-returns
+raw c =
+    let tested = c .before .before .before .before in
+    let known = tested .before .before in
+    let a = known .before .before .args in
+    let bytes = all-places (a .s .now) (λ i. omega (arith, known .shared-slice-known .given i)) in
+    rw (raw-text (a .s .now) bytes (a .p) (tested .if1 .taken), ← tested .before .part .ensures) (c .before .before .put-hex .ensures)
 
--- src/lib.rt:144:9
-put-hex-requires : tie.Need-put-hex-requires
-put-hex-requires c κs = search needs
-
--- src/lib.rt:144:9
-same-length : tie.Need-same-length
-same-length c = search needs
-
--- src/lib.rt:144:9
-returns : tie.Need-returns
-unfolding canonicalByte textOf
-returns c = simp (← c .before .before .before .before .before .part .ensures, c .before .before .before .before .if1 .taken) ?
-
--- src/lib.rt:146:5
-put-canonical-requires : tie.Need-put-canonical-requires
-put-canonical-requires c κs = search needs
-
--- src/lib.rt:139:1
-same-length-2 : tie.Need-same-length-2
-same-length-2 c = search needs
-
--- src/lib.rt:139:1
-returns-2 : tie.Need-returns-2
-unfolding canonicalByte textOf
-returns-2 c = simp (← c .before .before .before .before .before .part .ensures, c .before .before .before .before .if1 .left) ?
+plain : tie.Need-returns-2
+plain c =
+    let tested = c .before .before .before .before in
+    let a = tested .before .before .before .before .args in
+    rw (text-plain (a .s .now) (a .p) (tested .if1 .left), ← tested .before .part .ensures) (c .before .before .put-canonical .ensures)
 
 pub put-text-spec : {M : Type 1} → statement M
 put-text-spec =
     tie.close
     (tie.spec
-    part-requires
-    put-hex-requires
-    same-length
-    returns
-    put-canonical-requires
-    same-length-2
-    returns-2)
+    (λ c κs. search needs)
+    (λ c κs. search needs)
+    (λ c. search needs)
+    raw
+    (λ c κs. search needs)
+    (λ c. search needs)
+    plain)

@@ -1,51 +1,50 @@
-use Rattle.notepack.specs.Unpack.{textOf}
-use Rattle.canonical.specs.Canonical.{quoted}
+-- `quoted_len` is the length of a part's text as a string.
+-- Two digits for each raw byte, which need no escape; else the escaped length. An input is short, so the sums fit.
+use mathlib.Core.Path.{_≡_, sym, ap, _∙_}
+use Prim.Native.Nat.{_+_, _*_, _≤_}
+use native.Mathlib.Omega.{arith}
+use lib.ListN.{length}
 use borrow.Author.Needs.{needs}
+use Rattle.scan.proofs.AllLaws.{all-places}
+use Rattle.canonical.proofs.Again.{part-short, raw-length, plain-length}
 use Rattle.canonical.proofs.quoted_len.Statement.{statement}
 use Rattle.canonical.proofs.quoted_len.Tie as tie
-use Rattle.canonical.proofs.quoted_len.Reads as reads
-use Rattle.canonical.proofs.quoted_len.Lts as lts
-use Rattle.escape.proofs.canonical_len.Reads as canonical-len-reads
-use Rattle.scan.proofs.part.Reads as part-reads
 
--- src/lib.rt:61:9
-part-requires : tie.Need-part-requires
-part-requires c κs = search needs
+raw-fits : tie.Need-add-result
+raw-fits c =
+    let a = c .before .before .before .args in
+    omega (arith, ap length (c .before .part .ensures), part-short (a .s .now) (a .p), c .before .before .before .pre)
 
--- src/lib.rt:63:16
-mul-result : tie.Need-mul-result
-mul-result c = search needs
+raw : tie.Need-returns
+raw c =
+    let known = c .before .before in
+    let a = known .before .args in
+    let e = ap length (c .before .part .ensures) in
+    let bytes = all-places (a .s .now) (λ i. omega (arith, known .shared-slice-known .given i)) in
+    let n = raw-length (a .s .now) bytes (a .p) (c .if1 .taken) in
+    (omega (arith, e, n), omega (arith, e, part-short (a .s .now) (a .p)))
 
--- src/lib.rt:63:16
-add-result : tie.Need-add-result
-add-result c = ?
+plain-fits : tie.Need-add-result-2
+plain-fits c =
+    let a = c .before .before .before .before .args in
+    omega (arith, ap length (c .before .before .part .ensures), part-short (a .s .now) (a .p), c .before .before .before .before .pre, c .canonical-len .ensures .1)
 
--- src/lib.rt:63:9
-returns : tie.Need-returns
-unfolding quoted textOf
-returns c = simp (← c .before .part .ensures, c .if1 .taken) ?
-
--- src/lib.rt:65:5
-canonical-len-requires : tie.Need-canonical-len-requires
-canonical-len-requires c κs = search needs
-
--- src/lib.rt:65:5
-add-result-2 : tie.Need-add-result-2
-add-result-2 c = ?
-
--- src/lib.rt:56:1
-returns-2 : tie.Need-returns-2
-unfolding quoted textOf
-returns-2 c = simp (← c .before .before .part .ensures, c .before .if1 .left, ← c .canonical-len .ensures .0) ?
+plain : tie.Need-returns-2
+plain c =
+    let a = c .before .before .before .before .args in
+    let part = c .before .before .part .ensures in
+    let n = plain-length (a .s .now) (a .p) (c .before .if1 .left) in
+    let m = rw part at (c .canonical-len .ensures .0) in
+    (omega (arith, n, m), omega (arith, ap length part, c .canonical-len .ensures .1, part-short (a .s .now) (a .p)))
 
 pub quoted-len-spec : {M : Type 1} → statement M
 quoted-len-spec =
     tie.close
     (tie.spec
-    part-requires
-    mul-result
-    add-result
-    returns
-    canonical-len-requires
-    add-result-2
-    returns-2)
+    (λ c κs. search needs)
+    (λ c. search needs)
+    raw-fits
+    raw
+    (λ c κs. search needs)
+    plain-fits
+    plain)
