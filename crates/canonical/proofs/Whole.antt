@@ -4,7 +4,7 @@ use Prim.Native.Nat.{ℕ, _+_, _*_, _≤_, _<_}
 use mathlib.Core.Path.{_≡_, refl, sym, ap, _∙_, subst}
 use mathlib.Core.List.{List, [], _∷_, _++_, map, append-assoc}
 use native.Mathlib.Omega.{arith}
-use lib.ListN.{length, take, drop}
+use lib.ListN.{length, take, drop, length-append, length-take}
 use Rattle.scan.specs.Choice.{Answer, shown, refused, Read}
 use Rattle.scan.specs.Span.{IsBytes}
 use Rattle.scan.proofs.AllLaws.{all-take, all-drop}
@@ -12,6 +12,7 @@ use Rattle.store.specs.Store.{Wrote}
 use Rattle.store.specs.Entry.{writes, leaves}
 use Rattle.store.proofs.EntryLaws.{short, fitted}
 use Rattle.hex.specs.Hex.{hexes}
+use Rattle.hex.proofs.Texts.{length-hexes}
 use Rattle.decimal.specs.Decimal.{decimal}
 use Rattle.event.specs.Event.{Event}
 use Rattle.notepack.specs.declared.Head.{Head}
@@ -32,11 +33,35 @@ pub record Shows (s : List ℕ) (h : Head) : Type 0 where
   pub text : wholeText s h ≡ canonical event
   pub short : length s ≤ 65_536
 
--- the writer's pieces make the array
-row : (key time kind tags content : List ℕ) → IsBytes key
-    → (0x5B ∷ 0x30 ∷ 0x2C ∷ 0x22 ∷ []) ++ hexes key ++ (0x22 ∷ 0x2C ∷ []) ++ time ++ (0x2C ∷ []) ++ kind ++ (0x2C ∷ 0x5B ∷ []) ++ tags ++ (0x5D ∷ 0x2C ∷ []) ++ content ++ (0x5D ∷ [])
-    ≡ array ((0x30 ∷ []) ∷ quoted (hexes key) ∷ time ∷ kind ∷ (0x5B ∷ (tags ++ (0x5D ∷ []))) ∷ content ∷ [])
-row key time kind tags content b = rw (quoted-hexes b) (simp append-assoc)
+-- the writer's pieces in a row
+abbrev row : (key time kind tags content : List ℕ) → List ℕ
+row key time kind tags content =
+    (0x5B ∷ 0x30 ∷ 0x2C ∷ 0x22 ∷ []) ++ hexes key ++ (0x22 ∷ 0x2C ∷ []) ++ time ++ (0x2C ∷ []) ++ kind ++ (0x2C ∷ 0x5B ∷ []) ++ tags ++ (0x5D ∷ 0x2C ∷ []) ++ content ++ (0x5D ∷ [])
+
+-- they make the array
+row-array : (key time kind tags content : List ℕ) → IsBytes key
+    → row key time kind tags content ≡ array ((0x30 ∷ []) ∷ quoted (hexes key) ∷ time ∷ kind ∷ (0x5B ∷ (tags ++ (0x5D ∷ []))) ∷ content ∷ [])
+row-array key time kind tags content b = rw (quoted-hexes b) (simp append-assoc)
+
+row-length : (key time kind tags content : List ℕ)
+    → length (row key time kind tags content) ≡ 12 + 2 * length key + length time + length kind + length tags + length content
+row-length key time kind tags content = simp (length-append, length-hexes) (omega arith)
+
+-- a part has no more bytes than are asked for
+pub part-most : (s part : List ℕ) (from n : ℕ) → part ≡ take n (drop from s) → length part ≤ n
+part-most s part from n e = omega (arith, ap length e, length-take n (drop from s))
+
+-- the length of the writer's text
+pub whole-length : (s : List ℕ) (h : Head) (key : List ℕ) → key ≡ take 32 (drop 32 s)
+    → length (wholeText s h)
+    ≡ 12 + 2 * length key + length (decimal (h .«created_at»)) + length (decimal (h .kind)) + length (tagsText (h .«tag_count») s (h .«tags_at»)) + length (quoted (textOf s (h .content)))
+unfolding wholeText frontText
+whole-length s h key e =
+    let time = decimal (h .«created_at») in
+    let kind = decimal (h .kind) in
+    let tags = tagsText (h .«tag_count») s (h .«tags_at») in
+    let content = quoted (textOf s (h .content)) in
+    ap (λ (k : List ℕ). length (row k time kind tags content)) (sym e) ∙ row-length key time kind tags content
 
 packed-shows : (s : List ℕ) → IsBytes s → (p : Packed) → packedAt s ≡ shown p → Shows s (p .head)
 unfolding unpack eventOf canonical wholeText frontText
@@ -51,7 +76,7 @@ packed-shows s bytes p e =
     record {
       event = eventOf s p;
       shows = u;
-      text = row key time kind (tagsText (p .head .«tag_count») s (p .head .«tags_at»)) content (all-take 32 (all-drop 32 bytes))
+      text = row-array key time kind (tagsText (p .head .«tag_count») s (p .head .«tags_at»)) content (all-take 32 (all-drop 32 bytes))
       ∙ ap (λ (l : List ℕ). array ((0x30 ∷ []) ∷ quoted (hexes key) ∷ time ∷ kind ∷ (0x5B ∷ (l ++ (0x5D ∷ []))) ∷ content ∷ [])) tags;
       short = sound s bytes (eventOf s p) u .short;
     }

@@ -70,6 +70,7 @@ fn elements_len(s: &[u8], from: usize, count: u64) -> Copied
     requires { ⌜ length (now s) ≤ 65536 ⌝ }
     ensures { λ r. ⌜ r .out ≡ length (elementsText count (now (s .entry)) from) ⌝ }
     ensures { λ r. ⌜ r .next ≡ elementsEnd count (now (s .entry)) from ⌝ }
+    ensures { λ r. ⌜ r .out ≤ 3 * length (now (s .entry)) ⌝ }
 {
     let mut n = 0;
     let mut at = from;
@@ -92,6 +93,7 @@ fn elements_len(s: &[u8], from: usize, count: u64) -> Copied
 fn tags_len(s: &[u8], from: usize, count: u64) -> usize
     requires { ⌜ length (now s) ≤ 65536 ⌝ }
     ensures { λ r. ⌜ r ≡ length (tagsText count (now (s .entry)) from) ⌝ }
+    ensures { λ r. ⌜ r ≤ 3 * length (now (s .entry)) ⌝ }
 {
     let mut n = 0;
     let mut at = from;

@@ -45,15 +45,24 @@ stop c =
     let called = c .before .before in
     let turn = called .before in
     let q = turn .before .loop in
-    let s = turn .before .before .before .args .s .now in
+    let known = turn .before .before in
+    let a = known .before .args in
+    let s = a .s .now in
+    let bytes = all-places s (λ i. omega (arith, known .shared-slice-known .given i)) in
+    let most = elements-room s bytes (a .count) (a .from) in
     let t = elements-stop s (q .left) (q .at) (called .read-part .result) _ _ (turn .loop-test .taken) (called .read-part .ensures) (ap partRead (c .enum-told .given .1)) in
-    (omega (arith, q .inv .0, ap length (t .0)), sym (q .inv .1 ∙ t .1))
+    (omega (arith, q .inv .0, ap length (t .0)), (sym (q .inv .1 ∙ t .1), omega (arith, q .inv .0, most)))
 
 end : tie.Need-returns-2 Inv-loop μ-loop
 end c =
     let q = c .before .loop in
-    let t = elements-left (c .before .before .before .args .s .now) (q .left) (q .at) (c .loop-test .left) in
-    (omega (arith, q .inv .0, ap length (t .0)), sym (q .inv .1 ∙ t .1))
+    let known = c .before .before in
+    let a = known .before .args in
+    let s = a .s .now in
+    let bytes = all-places s (λ i. omega (arith, known .shared-slice-known .given i)) in
+    let most = elements-room s bytes (a .count) (a .from) in
+    let t = elements-left s (q .left) (q .at) (c .loop-test .left) in
+    (omega (arith, q .inv .0, ap length (t .0)), (sym (q .inv .1 ∙ t .1), omega (arith, q .inv .0, most)))
 
 pub elements-len-spec : {M : Type 1} → statement M
 elements-len-spec =

@@ -1,77 +1,46 @@
+-- `put_tags` writes the tags as it reads them again. The invariant: what is left to write is the text of the tags left.
+-- Each turn is one law: a bracket, the elements, a bracket, a comma, and the tags behind where they end; a refusal ends both alike.
+use mathlib.Core.Path.{_≡_, refl, sym, ap, _∙_}
+use Prim.Native.Nat.{_-_}
+use borrow.Author.Needs.{needs}
+use Rattle.store.proofs.Laws.{Left, start, part, one, done, also, same}
+use Rattle.notepack.specs.Answers.{numberRead}
+use Rattle.canonical.specs.Copy.{tagsText}
+use Rattle.canonical.proofs.Again.{tags-turn, tags-stop, tags-left}
 use Rattle.canonical.proofs.put_tags.Statement.{statement}
 use Rattle.canonical.proofs.put_tags.Tie as tie
-use Rattle.canonical.proofs.put_tags.Reads as reads
-use Rattle.canonical.proofs.put_tags.Lts as lts
-use Rattle.canonical.proofs.put_comma.Reads as put-comma-reads
-use Rattle.canonical.proofs.put_elements.Reads as put-elements-reads
-use Rattle.notepack.proofs.Cursor.tag_count.Reads as tag-count-reads
-use Rattle.store.proofs.put_byte.Reads as put-byte-reads
 
 abbrev Inv-loop : tie.InvT-loop
-Inv-loop out₀ at s from count o₀ i₀ left₀ out o i left = ?
+Inv-loop out₀ at s from count o₀ i₀ left₀ out o i left = Left out₀ o₀ (tagsText left₀ s i₀) out o (tagsText left s i)
 
 abbrev μ-loop : tie.MeasureT-loop
-μ-loop out₀ at s from count o₀ i₀ left₀ out o i left = ?
+μ-loop out₀ at s from count o₀ i₀ left₀ out o i left = left
 
--- src/lib.rt:188:5
-loop-holds : tie.Need-loop-holds Inv-loop μ-loop
-loop-holds c = ?
+again : tie.Need-loop-again Inv-loop μ-loop
+again c =
+    let last = c .before .before in
+    let closed = last .before .before .before .before in
+    let elements = closed .before .before .before .before in
+    let opened = elements .before .before .before .before in
+    let told = opened .before .before .before in
+    let called = told .before .before in
+    let turn = called .before in
+    let q = turn .before .loop in
+    let s = turn .before .before .before .before .args .s .now in
+    let t = tags-turn s (q .left) (q .i) _ _ _ (turn .loop-test .taken) (called .tag-count .ensures) (told .found .given .1) in
+    let left = part (part (also t (q .inv)) (opened .put-byte .ensures)) (elements .put-elements .ensures .0) in
+    also (ap (tagsText (q .left - 1) s) (sym (elements .put-elements .ensures .1))) (part (part left (closed .put-byte2 .ensures)) (last .put-comma .ensures))
 
--- src/lib.rt:189:13
-tag-count-requires : tie.Need-tag-count-requires Inv-loop μ-loop
-tag-count-requires c κs = ?
+stop : tie.Need-returns Inv-loop μ-loop
+stop c =
+    let called = c .before .before in
+    let turn = called .before in
+    let q = turn .before .loop in
+    let s = turn .before .before .before .before .args .s .now in
+    done (also (tags-stop s (q .left) (q .i) (called .tag-count .result) _ _ (turn .loop-test .taken) (called .tag-count .ensures) (ap numberRead (c .enum-told .given .1))) (q .inv))
 
--- src/lib.rt:191:32
-enum-known-found : tie.Need-enum-known-found Inv-loop μ-loop
-enum-known-found c = ?
-
--- src/lib.rt:192:17
-sub-left : tie.Need-sub-left Inv-loop μ-loop
-sub-left c = ?
-
--- src/lib.rt:193:17
-put-byte-requires : tie.Need-put-byte-requires Inv-loop μ-loop
-put-byte-requires c κs = ?
-
--- src/lib.rt:194:21
-put-elements-requires : tie.Need-put-elements-requires Inv-loop μ-loop
-put-elements-requires c κs = ?
-
--- src/lib.rt:195:17
-put-byte-requires-2 : tie.Need-put-byte-requires-2 Inv-loop μ-loop
-put-byte-requires-2 c κs = ?
-
--- src/lib.rt:196:17
-put-comma-requires : tie.Need-put-comma-requires Inv-loop μ-loop
-put-comma-requires c κs = ?
-
--- src/lib.rt:188:5
-loop-less : tie.Need-loop-less Inv-loop μ-loop
-loop-less c = ?
-
--- src/lib.rt:188:5
-loop-again : tie.Need-loop-again Inv-loop μ-loop
-loop-again c = ?
-
--- src/lib.rt:199:39
-enum-told : tie.Need-enum-told Inv-loop μ-loop
-enum-told c = ?
-
--- src/lib.rt:199:39
-same-length : tie.Need-same-length Inv-loop μ-loop
-same-length c = ?
-
--- src/lib.rt:199:39
-returns : tie.Need-returns Inv-loop μ-loop
-returns c = ?
-
--- src/lib.rt:182:1
-same-length-2 : tie.Need-same-length-2 Inv-loop μ-loop
-same-length-2 c = ?
-
--- src/lib.rt:182:1
-returns-2 : tie.Need-returns-2 Inv-loop μ-loop
-returns-2 c = ?
+end : tie.Need-returns-2 Inv-loop μ-loop
+end c = let q = c .before .loop in done (also (tags-left (c .before .before .before .before .args .s .now) (q .left) (q .i) (c .loop-test .left)) (q .inv))
 
 pub put-tags-spec : {M : Type 1} → statement M
 put-tags-spec =
@@ -79,18 +48,18 @@ put-tags-spec =
     (tie.spec
     Inv-loop
     μ-loop
-    loop-holds
-    tag-count-requires
-    enum-known-found
-    sub-left
-    put-byte-requires
-    put-elements-requires
-    put-byte-requires-2
-    put-comma-requires
-    loop-less
-    loop-again
-    enum-told
-    same-length
-    returns
-    same-length-2
-    returns-2)
+    (λ c. start)
+    (λ c κs. search needs)
+    (λ c. search needs)
+    (λ c. search needs)
+    (λ c κs. search needs)
+    (λ c κs. search needs)
+    (λ c κs. search needs)
+    (λ c κs. search needs)
+    (λ c. search needs)
+    again
+    (λ c. search needs)
+    (λ c. same (c .before .before .before .before .loop .inv))
+    stop
+    (λ c. same (c .before .loop .inv))
+    end)

@@ -1,72 +1,67 @@
+-- `tags_len` measures the tags as it reads them again. The invariant: what is counted and the length of the tags left are the length of all.
+-- Each turn is one law; the sum is at most three times the input.
+use Prim.Native.Nat.{ℕ, _+_, _-_, _≤_}
+use mathlib.Core.Path.{_≡_, refl, sym, ap, _∙_}
+use native.Mathlib.Omega.{arith}
+use lib.ListN.{length}
+use borrow.Author.Needs.{needs}
+use Rattle.scan.proofs.AllLaws.{all-places}
+use Rattle.notepack.specs.Answers.{numberRead}
+use Rattle.canonical.specs.Copy.{tagsText}
+use Rattle.canonical.proofs.Again.{tags-count, tags-stop, tags-left, tags-room}
 use Rattle.canonical.proofs.tags_len.Statement.{statement}
 use Rattle.canonical.proofs.tags_len.Tie as tie
-use Rattle.canonical.proofs.tags_len.Reads as reads
-use Rattle.canonical.proofs.tags_len.Lts as lts
-use Rattle.canonical.proofs.comma_len.Reads as comma-len-reads
-use Rattle.canonical.proofs.elements_len.Reads as elements-len-reads
-use Rattle.notepack.proofs.Cursor.tag_count.Reads as tag-count-reads
 
 abbrev Inv-loop : tie.InvT-loop
-Inv-loop s from count n₀ at₀ left₀ n at left = ?
+Inv-loop s from count n₀ at₀ left₀ n at left = n + length (tagsText left s at) ≡ n₀ + length (tagsText left₀ s at₀)
 
 abbrev μ-loop : tie.MeasureT-loop
-μ-loop s from count n₀ at₀ left₀ n at left = ?
+μ-loop s from count n₀ at₀ left₀ n at left = left
 
--- src/lib.rt:99:5
-loop-holds : tie.Need-loop-holds Inv-loop μ-loop
-loop-holds c = ?
+fits : tie.Need-add-n-3 Inv-loop μ-loop
+fits c =
+    let q = c .before .before .before .before .before .before .before .before .loop in
+    let known = c .before .before .before .before .before .before .before .before .before in
+    let a = known .before .args in
+    let bytes = all-places (a .s .now) (λ i. omega (arith, known .shared-slice-known .given i)) in
+    let most = tags-room (a .s .now) bytes (a .count) (a .from) in
+    omega (arith, q .inv, most, known .before .pre, c .comma-len .ensures .1, c .before .before .elements-len .ensures .1 .1)
 
--- src/lib.rt:100:13
-tag-count-requires : tie.Need-tag-count-requires Inv-loop μ-loop
-tag-count-requires c κs = ?
+again : tie.Need-loop-again Inv-loop μ-loop
+again c =
+    let elements = c .before .before .elements-len .ensures in
+    let told = c .before .before .before .before in
+    let called = told .before .before in
+    let turn = called .before in
+    let q = turn .before .loop in
+    let s = turn .before .before .before .args .s .now in
+    let n = tags-count s (q .left) (q .at) _ _ _ (turn .loop-test .taken) (called .tag-count .ensures) (told .found .given .1) in
+    let rest = ap (λ (i : ℕ). length (tagsText (q .left - 1) s i)) (elements .1 .0) in
+    omega (arith, q .inv, n, rest, elements .0, c .comma-len .ensures .0)
 
--- src/lib.rt:102:32
-enum-known-found : tie.Need-enum-known-found Inv-loop μ-loop
-enum-known-found c = ?
+stop : tie.Need-returns Inv-loop μ-loop
+stop c =
+    let called = c .before .before in
+    let turn = called .before in
+    let q = turn .before .loop in
+    let known = turn .before .before in
+    let a = known .before .args in
+    let s = a .s .now in
+    let bytes = all-places s (λ i. omega (arith, known .shared-slice-known .given i)) in
+    let most = tags-room s bytes (a .count) (a .from) in
+    let t = tags-stop s (q .left) (q .at) (called .tag-count .result) _ _ (turn .loop-test .taken) (called .tag-count .ensures) (ap numberRead (c .enum-told .given .1)) in
+    (omega (arith, q .inv, ap length t), omega (arith, q .inv, most))
 
--- src/lib.rt:103:17
-sub-left : tie.Need-sub-left Inv-loop μ-loop
-sub-left c = ?
-
--- src/lib.rt:104:21
-elements-len-requires : tie.Need-elements-len-requires Inv-loop μ-loop
-elements-len-requires c κs = ?
-
--- src/lib.rt:105:22
-add-n : tie.Need-add-n Inv-loop μ-loop
-add-n c = ?
-
--- src/lib.rt:105:41
-comma-len-requires : tie.Need-comma-len-requires Inv-loop μ-loop
-comma-len-requires c κs = ?
-
--- src/lib.rt:105:22
-add-n-2 : tie.Need-add-n-2 Inv-loop μ-loop
-add-n-2 c = ?
-
--- src/lib.rt:105:17
-add-n-3 : tie.Need-add-n-3 Inv-loop μ-loop
-add-n-3 c = ?
-
--- src/lib.rt:99:5
-loop-less : tie.Need-loop-less Inv-loop μ-loop
-loop-less c = ?
-
--- src/lib.rt:99:5
-loop-again : tie.Need-loop-again Inv-loop μ-loop
-loop-again c = ?
-
--- src/lib.rt:108:39
-enum-told : tie.Need-enum-told Inv-loop μ-loop
-enum-told c = ?
-
--- src/lib.rt:108:39
-returns : tie.Need-returns Inv-loop μ-loop
-returns c = ?
-
--- src/lib.rt:92:1
-returns-2 : tie.Need-returns-2 Inv-loop μ-loop
-returns-2 c = ?
+end : tie.Need-returns-2 Inv-loop μ-loop
+end c =
+    let q = c .before .loop in
+    let known = c .before .before in
+    let a = known .before .args in
+    let s = a .s .now in
+    let bytes = all-places s (λ i. omega (arith, known .shared-slice-known .given i)) in
+    let most = tags-room s bytes (a .count) (a .from) in
+    let t = tags-left s (q .left) (q .at) (c .loop-test .left) in
+    (omega (arith, q .inv, ap length t), omega (arith, q .inv, most))
 
 pub tags-len-spec : {M : Type 1} → statement M
 tags-len-spec =
@@ -74,17 +69,17 @@ tags-len-spec =
     (tie.spec
     Inv-loop
     μ-loop
-    loop-holds
-    tag-count-requires
-    enum-known-found
-    sub-left
-    elements-len-requires
-    add-n
-    comma-len-requires
-    add-n-2
-    add-n-3
-    loop-less
-    loop-again
-    enum-told
-    returns
-    returns-2)
+    (λ c. refl)
+    (λ c κs. search needs)
+    (λ c. search needs)
+    (λ c. search needs)
+    (λ c κs. c .before .before .before .before .before .before .before .pre)
+    (λ c. omega (arith, c .before .before .before .before .before .before .before .before .before .pre, c .before .elements-len .ensures .1 .1))
+    (λ c κs. search needs)
+    (λ c. omega (arith, c .before .before .before .before .before .before .before .before .before .before .pre, c .comma-len .ensures .1, c .before .before .elements-len .ensures .1 .1))
+    fits
+    (λ c. search needs)
+    again
+    (λ c. search needs)
+    stop
+    end)
