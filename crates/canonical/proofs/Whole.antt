@@ -1,6 +1,6 @@
 -- The text that the writer goes over is the canonical text of the event that the reader shows; and what the entry answers and leaves.
 -- The fields of the event stand in the input; the tags by `tags-again`.
-use Prim.Native.Nat.{ℕ, _+_, _*_, _≤_, _<_}
+use Prim.Native.Nat.{ℕ, _+_, _*_, _≤_, _<_, _^_}
 use mathlib.Core.Path.{_≡_, refl, sym, ap, _∙_, subst}
 use mathlib.Core.List.{List, [], _∷_, _++_, map, append-assoc}
 use native.Mathlib.Omega.{arith}
@@ -8,30 +8,28 @@ use lib.ListN.{length, take, drop, length-append, length-take}
 use Rattle.scan.specs.Choice.{Answer, shown, refused, Read}
 use Rattle.scan.specs.Span.{IsBytes}
 use Rattle.scan.proofs.AllLaws.{all-take, all-drop}
+use Rattle.scan.proofs.SpanLaws.{span-length, span-fits}
+use Rattle.scan.proofs.Reading.{shown-gives}
+use Rattle.scan.proofs.Many.{then-shown}
+use Rattle.varint.proofs.UlebLaws.{spells-one}
 use Rattle.store.specs.Store.{Wrote}
 use Rattle.store.specs.Entry.{writes, leaves}
 use Rattle.store.proofs.EntryLaws.{short, fitted}
 use Rattle.hex.specs.Hex.{hexes}
 use Rattle.hex.proofs.Texts.{length-hexes}
 use Rattle.decimal.specs.Decimal.{decimal}
+use Rattle.decimal.proofs.Spelling.{length-u64}
 use Rattle.event.specs.Event.{Event}
 use Rattle.notepack.specs.declared.Head.{Head}
-use Rattle.notepack.specs.Unpack.{textOf, Packed, packedAt, eventOf, unpack}
+use Rattle.notepack.specs.Unpack.{textOf, headAt, Packed, packedAt, eventOf, unpack}
 use Rattle.notepack.specs.Answers.{Walked, walkAt}
-use Rattle.notepack.proofs.Sound.{sound}
+use Rattle.notepack.proofs.Sound.{sized-text, head-gives, sound}
 use Rattle.notepack.proofs.Walking.{walked-packed, walk-refuses}
-use Rattle.notepack.proofs.Viewing.{packed-apart}
+use Rattle.notepack.proofs.Viewing.{packed-head, packed-apart}
 use Rattle.canonical.specs.Canonical.{quoted, array, canonical}
 use Rattle.canonical.specs.Copy.{tagsText, frontText, wholeText}
 use Rattle.canonical.proofs.Texts.{quoted-hexes}
-use Rattle.canonical.proofs.Again.{tags-again}
-
--- a walked event and its text
-pub record Shows (s : List ℕ) (h : Head) : Type 0 where
-  pub event : Event
-  pub shows : unpack s ≡ shown event
-  pub text : wholeText s h ≡ canonical event
-  pub short : length s ≤ 65_536
+use Rattle.canonical.proofs.Again.{tags-again, quoted-room, tags-room}
 
 -- the writer's pieces in a row
 abbrev row : (key time kind tags content : List ℕ) → List ℕ
@@ -63,6 +61,39 @@ whole-length s h key e =
     let content = quoted (textOf s (h .content)) in
     ap (λ (k : List ℕ). length (row k time kind tags content)) (sym e) ∙ row-length key time kind tags content
 
+-- the text is at most three times as long as the packed event: what stands in front of the tags has room for the fixed bytes, the key and the numbers
+whole-most : (s : List ℕ) → IsBytes s → (h : Head) → headAt s ≡ shown h → length (wholeText s h) ≤ 3 * length s
+whole-most s bytes h found =
+    let d = shown-gives (rw found at (head-gives s bytes)) in
+    let c = sized-text (d .content .2) in
+    omega (
+      arith,
+      whole-length s h (take 32 (drop 32 s)) refl,
+      d .ids .1,
+      length-u64 (h .«created_at») (let w = d .time .2 .within in omega arith),
+      length-u64 (h .kind) (let w = d .kind .2 .within in omega arith),
+      tags-room s bytes (h .«tag_count») (h .«tags_at»),
+      quoted-room s bytes (h .content),
+      ap length (c .5),
+      c .4,
+      ap length (c .1),
+      length-append (c .0) (textOf s (h .content)),
+      spells-one (d .count .1 .spells),
+      span-length (d .time .3),
+      span-length (d .kind .3),
+      span-length (d .content .3),
+      span-length (d .count .2),
+      span-fits (d .count .2),
+    )
+
+-- a walked event, its text, and how long both can be
+pub record Shows (s : List ℕ) (h : Head) : Type 0 where
+  pub event : Event
+  pub shows : unpack s ≡ shown event
+  pub text : wholeText s h ≡ canonical event
+  pub short : length s ≤ 65_536
+  pub most : length (wholeText s h) ≤ 3 * length s
+
 packed-shows : (s : List ℕ) → IsBytes s → (p : Packed) → packedAt s ≡ shown p → Shows s (p .head)
 unfolding unpack eventOf canonical wholeText frontText
 packed-shows s bytes p e =
@@ -79,12 +110,24 @@ packed-shows s bytes p e =
       text = row-array key time kind (tagsText (p .head .«tag_count») s (p .head .«tags_at»)) content (all-take 32 (all-drop 32 bytes))
       ∙ ap (λ (l : List ℕ). array ((0x30 ∷ []) ∷ quoted (hexes key) ∷ time ∷ kind ∷ (0x5B ∷ (l ++ (0x5D ∷ []))) ∷ content ∷ [])) tags;
       short = sound s bytes (eventOf s p) u .short;
+      most = whole-most s bytes (p .head) (packed-head s p e);
     }
 
-pub walk-shows : (s : List ℕ) → IsBytes s → (w : Walked) → walkAt s ≡ shown w → Shows s (w .head)
-walk-shows s bytes w e =
-    let p = walked-packed s w e in
+-- what the reader's walk shows
+pub walk-shows : (s : List ℕ) → IsBytes s → (w : Walked) (r : Answer Walked) → r ≡ walkAt s → r ≡ shown w → Shows s (w .head)
+walk-shows s bytes w r e k =
+    let p = walked-packed s w (sym e ∙ k) in
     subst (λ (h : Head). Shows s h) (sym (p .2)) (packed-shows s bytes (p .0) (p .1))
+
+-- three times the packed length is always room enough
+pub canonical-most : (s : List ℕ) → IsBytes s → (e : Event) → unpack s ≡ shown e → length (canonical e) ≤ 3 * length s
+unfolding unpack
+canonical-most s bytes e u =
+    let p = then-shown (packedAt s) _ e u in
+    let g = packed-shows s bytes (p .0) (p .1) in
+    let q : shown (g .event) ≡ shown e = sym (g .shows) ∙ u in
+    let same : g .event ≡ e = cc in
+    omega (arith, g .most, ap length (g .text), ap (λ (x : Event). length (canonical x)) same)
 
 -- ---- the entry: its answer and what it leaves
 
@@ -102,3 +145,8 @@ module _ (s : List ℕ) (d : List ℕ) where
       let v = subst (λ (t : List ℕ). Wrote d 0 t d′ r) (g .text) w in
       let f = fitted (m ∙ ap length (g .text)) l v in
       (rw (g .shows) (f .0), rw (g .shows) (f .1))
+
+  -- room by the bound
+  pub write-wide : {h : Head} {d′ : List ℕ} {r : ℕ} → Shows s h → 3 * length s ≤ length d → Wrote d 0 (wholeText s h) d′ r
+      → (shown r ≡ writes canonical (unpack s) d) × (d′ ≡ leaves canonical (unpack s) d)
+  write-wide {h} g l w = write-fitted g refl (let m = g .most in omega arith) w
