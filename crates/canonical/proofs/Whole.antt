@@ -108,7 +108,7 @@ packed-shows s bytes p e =
       event = eventOf s p;
       shows = u;
       text = row-array key time kind (tagsText (p .head .«tag_count») s (p .head .«tags_at»)) content (all-take 32 (all-drop 32 bytes))
-      ∙ ap (λ (l : List ℕ). array ((0x30 ∷ []) ∷ quoted (hexes key) ∷ time ∷ kind ∷ (0x5B ∷ (l ++ (0x5D ∷ []))) ∷ content ∷ [])) tags;
+          ∙ ap (λ (l : List ℕ). array ((0x30 ∷ []) ∷ quoted (hexes key) ∷ time ∷ kind ∷ (0x5B ∷ (l ++ (0x5D ∷ []))) ∷ content ∷ [])) tags;
       short = sound s bytes (eventOf s p) u .short;
       most = whole-most s bytes (p .head) (packed-head s p e);
     }

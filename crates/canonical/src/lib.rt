@@ -119,7 +119,8 @@ fn whole_len(s: &[u8], h: Head) -> usize
     ensures { λ r. ⌜ r ≡ length (wholeText (now (s .entry)) h) ⌝ }
 {
     let pubkey = scan::part(s, 32, 32);
-    12 + 2 * pubkey.len()
+    12
+        + 2 * pubkey.len()
         + decimal::decimal_len(h.created_at)
         + decimal::decimal_len(h.kind)
         + tags_len(s, h.tags_at, h.tag_count)
