@@ -1,7 +1,7 @@
 -- The laws of strings, arrays and the whole canonical text: what needs no escape, where a string ends, how long each is.
 -- Hex digits are none of the seven bytes that are escaped; the rest is counting.
 use Prim.Native.Nat.{ℕ, suc, _+_, _*_, _≤_}
-use mathlib.Core.Path.{_≡_, refl, sym, ap, _∙_}
+use mathlib.Core.Path.{_≡_, sym, ap, _∙_}
 use mathlib.Core.List.{List, [], _∷_, _++_, map, append-assoc, append-nil}
 use native.Mathlib.Omega.{arith}
 use lib.ListN.{length, length-append}

@@ -1,11 +1,11 @@
 -- The text that the writer goes over is the canonical text of the event that the reader shows; and what the entry answers and leaves.
 -- The fields of the event stand in the input; the tags by `tags-again`.
-use Prim.Native.Nat.{ℕ, _+_, _*_, _≤_, _<_, _^_}
+use Prim.Native.Nat.{ℕ, _+_, _*_, _≤_, _<_}
 use mathlib.Core.Path.{_≡_, refl, sym, ap, _∙_, subst}
-use mathlib.Core.List.{List, [], _∷_, _++_, map, append-assoc}
+use mathlib.Core.List.{List, [], _∷_, _++_, append-assoc}
 use native.Mathlib.Omega.{arith}
 use lib.ListN.{length, take, drop, length-append, length-take}
-use Rattle.scan.specs.Choice.{Answer, shown, refused, Read}
+use Rattle.scan.specs.Choice.{Answer, shown, refused}
 use Rattle.scan.specs.Span.{IsBytes}
 use Rattle.scan.proofs.AllLaws.{all-take, all-drop}
 use Rattle.scan.proofs.SpanLaws.{span-length, span-fits}
@@ -29,7 +29,8 @@ use Rattle.notepack.proofs.Viewing.{packed-head, packed-apart}
 use Rattle.canonical.specs.Canonical.{quoted, array, canonical}
 use Rattle.canonical.specs.Copy.{tagsText, frontText, wholeText}
 use Rattle.canonical.proofs.Texts.{quoted-hexes}
-use Rattle.canonical.proofs.Again.{tags-again, quoted-room, tags-room}
+use Rattle.canonical.proofs.Again.{tags-again}
+use Rattle.canonical.proofs.Room.{quoted-room, tags-room}
 
 -- the writer's pieces in a row
 abbrev row : (key time kind tags content : List ℕ) → List ℕ

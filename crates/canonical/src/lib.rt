@@ -8,7 +8,6 @@ use notepack::Walk;
 use varint::VarintRead;
 ghost use Prim.Native.Nat.{_+_, _*_, _≤_};
 ghost use mathlib.Core.Path.{_≡_};
-ghost use mathlib.Core.List.{[], _∷_, _++_};
 ghost use lib.ListN.{length};
 ghost use Rattle.store.specs.Store.{Wrote};
 ghost use Rattle.store.specs.Entry.{writes, leaves};

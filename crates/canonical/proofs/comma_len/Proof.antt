@@ -1,6 +1,6 @@
 -- `comma_len` is the length of the comma in front of more items.
 -- By its one test.
-use mathlib.Core.Path.{_≡_, refl}
+use mathlib.Core.Path.{refl}
 use native.Mathlib.Omega.{arith}
 use borrow.Author.Tests.{le-ltb, lt-ltb}
 use Rattle.canonical.proofs.comma_len.Statement.{statement}

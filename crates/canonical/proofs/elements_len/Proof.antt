@@ -1,6 +1,6 @@
 -- `elements_len` measures the elements as it reads them again. The invariant: what is counted and the length of the elements left are the length of all,
 -- and they end where all end. Each turn is one law; the sum is at most three times the input.
-use Prim.Native.Nat.{_+_, _≤_}
+use Prim.Native.Nat.{_+_}
 use mathlib.Core.Path.{_≡_, refl, sym, ap, _∙_}
 use native.Mathlib.Omega.{arith}
 use lib.ListN.{length}
@@ -8,7 +8,8 @@ use borrow.Author.Needs.{needs}
 use Rattle.scan.proofs.AllLaws.{all-places}
 use Rattle.notepack.specs.Answers.{partRead}
 use Rattle.canonical.specs.Copy.{elementsText, elementsEnd}
-use Rattle.canonical.proofs.Again.{elements-turn, elements-count, elements-stop, elements-left, elements-room}
+use Rattle.canonical.proofs.Again.{elements-turn, elements-count, elements-stop, elements-left}
+use Rattle.canonical.proofs.Room.{elements-room}
 use Rattle.canonical.proofs.elements_len.Statement.{statement}
 use Rattle.canonical.proofs.elements_len.Tie as tie
 

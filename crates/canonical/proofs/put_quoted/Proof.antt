@@ -1,7 +1,6 @@
 -- `put_quoted` writes a part's text as a string.
 -- Three writers in a row are one.
 use borrow.Author.Needs.{needs}
-use mathlib.Core.List.{append-assoc}
 use Rattle.store.proofs.Laws.{then}
 use Rattle.canonical.specs.Canonical.{quoted}
 use Rattle.canonical.proofs.put_quoted.Statement.{statement}

@@ -1,6 +1,6 @@
 -- `put_tags` writes the tags as it reads them again. The invariant: what is left to write is the text of the tags left.
 -- Each turn is one law: a bracket, the elements, a bracket, a comma, and the tags behind where they end; a refusal ends both alike.
-use mathlib.Core.Path.{_≡_, refl, sym, ap, _∙_}
+use mathlib.Core.Path.{sym, ap}
 use Prim.Native.Nat.{_-_}
 use borrow.Author.Needs.{needs}
 use Rattle.store.proofs.Laws.{Left, start, part, one, done, also, same}

@@ -1,7 +1,6 @@
 -- `quoted_len` is the length of a part's text as a string.
 -- Two digits for each raw byte, which need no escape; else the escaped length. An input is short, so the sums fit.
-use mathlib.Core.Path.{_≡_, sym, ap, _∙_}
-use Prim.Native.Nat.{_+_, _*_, _≤_}
+use mathlib.Core.Path.{ap}
 use native.Mathlib.Omega.{arith}
 use lib.ListN.{length}
 use borrow.Author.Needs.{needs}

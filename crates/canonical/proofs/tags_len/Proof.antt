@@ -1,14 +1,15 @@
 -- `tags_len` measures the tags as it reads them again. The invariant: what is counted and the length of the tags left are the length of all.
 -- Each turn is one law; the sum is at most three times the input.
-use Prim.Native.Nat.{ℕ, _+_, _-_, _≤_}
-use mathlib.Core.Path.{_≡_, refl, sym, ap, _∙_}
+use Prim.Native.Nat.{ℕ, _+_, _-_}
+use mathlib.Core.Path.{_≡_, refl, ap}
 use native.Mathlib.Omega.{arith}
 use lib.ListN.{length}
 use borrow.Author.Needs.{needs}
 use Rattle.scan.proofs.AllLaws.{all-places}
 use Rattle.notepack.specs.Answers.{numberRead}
 use Rattle.canonical.specs.Copy.{tagsText}
-use Rattle.canonical.proofs.Again.{tags-count, tags-stop, tags-left, tags-room}
+use Rattle.canonical.proofs.Again.{tags-count, tags-stop, tags-left}
+use Rattle.canonical.proofs.Room.{tags-room}
 use Rattle.canonical.proofs.tags_len.Statement.{statement}
 use Rattle.canonical.proofs.tags_len.Tie as tie
 

@@ -1,6 +1,5 @@
 -- `whole_len` is the length of the whole text: twelve fixed bytes, and each piece's own.
 -- By the law of the whole length; every piece is bounded, so the sums fit.
-use mathlib.Core.Path.{_≡_}
 use native.Mathlib.Omega.{arith}
 use borrow.Author.Needs.{needs}
 use Rattle.canonical.proofs.Whole.{part-most, whole-length}

@@ -1,6 +1,6 @@
 -- The entry answers the two numbers of the canonical writer and leaves the buffer as that does.
 -- By what its callee told, case by case.
-use mathlib.Core.Path.{_≡_, refl}
+use mathlib.Core.Path.{refl}
 use borrow.Author.Needs.{needs}
 use Rattle.kezubimoryu.proofs.kez_canonical_write.Statement.{statement}
 use Rattle.kezubimoryu.proofs.kez_canonical_write.Tie as tie
