@@ -1,4 +1,4 @@
-/* Nanoseconds for a call of each entry on four records: the library as linked, host/reference by its shared library
+/* Nanoseconds for a call of each entry on its records: the library as linked, host/reference by its shared library
  * (first word), a program that takes `--bench ENTRY FILE N` (second word, may be missing), and a plain memcpy.
  * The table is gone through several times and the best figure of each kept, so that a busy moment of the machine does
  * not count. Built with -DKIND_.. as the driver. */
@@ -18,11 +18,12 @@ enum { PASSES = 12, ROUNDS = 3, ROUND_NS = 1500000, ROOM = 1 << 19 };
 
 typedef struct {
     const char *name;
+    const char *only; /* the one entry that it is for, or NULL */
     uint8_t packed[69632], text[69632];
     size_t packed_len, text_len;
 } __attribute__((aligned(4096))) record;
 
-static record records[4];
+static record records[7];
 
 static void put(record *r, const void *part, size_t len)
 {
@@ -62,6 +63,21 @@ static void make(record *r, const char *name, size_t size, size_t tags, const ch
         put(r, r->packed + i, 32);
         put_varint(r, 2 * (sizeof relay - 1));
         put(r, relay, sizeof relay - 1);
+    }
+}
+
+/* A strict record without content, of so many tags of a name and 32 raw bytes. */
+static void make_hex(record *r, const char *name, size_t tags)
+{
+    make(r, name, 300, 0, ".");
+    r->packed_len = 128;
+    put_varint(r, 1720000000);
+    put_varint(r, 30078);
+    put_varint(r, 0);
+    put_varint(r, tags);
+    for (size_t i = 0; i < tags; i++) {
+        put(r, "\x02\x02p\x41", 4);
+        put(r, r->packed + i % 96, 32);
     }
 }
 
@@ -215,6 +231,11 @@ static void print_ratio(double library, double ns)
         printf("  %10s %6s", "-", "-");
 }
 
+static int is_for(const record *r, const entry *e)
+{
+    return !r->only || !strcmp(r->only, e->name);
+}
+
 enum { ENTRIES = sizeof entries / sizeof *entries, RECORDS = sizeof records / sizeof *records };
 
 int main(int count, char **words)
@@ -231,6 +252,11 @@ int main(int count, char **words)
     make(&records[1], "middle", 4000, 16, "Threshold 42 dB at 1000 Hz, \"comfort\" 61 dB.\n");
     make(&records[2], "large, ASCII", 60000, 16, "Threshold 42 dB at 1000 Hz, comfort 61 dB; the next visit is in spring.\n");
     make(&records[3], "large, other", 60000, 16, "Порог слышимости 42 дБ при 1000 Гц — 聴力検査の結果は良好です 👂\n");
+    make(&records[4], "plain", 60000, 0, "Threshold 42 dB at 1000 Hz, comfort 61 dB; the next visit is in spring. ");
+    make(&records[5], "lines of 80", 60000, 0, "Threshold 42 dB at 1000 Hz, comfort 61 dB; the next visit is in spring, at ten.\n");
+    make_hex(&records[6], "hex in tags", 1000);
+    for (int j = 4; j < RECORDS; j++)
+        records[j].only = "canonical";
     for (int j = 0; j < RECORDS; j++) {
         record *r = &records[j];
         r->text_len = nson_write(r->packed, r->packed_len, r->text, sizeof r->text).value;
@@ -238,13 +264,16 @@ int main(int count, char **words)
     for (int pass = 0; pass < PASSES; pass++)
         for (int i = 0; i < ENTRIES; i++)
             for (int j = 0; j < RECORDS; j++)
-                measure(&rows[i][j], &entries[i], &records[j], reference, program);
+                if (is_for(&records[j], &entries[i]))
+                    measure(&rows[i][j], &entries[i], &records[j], reference, program);
     printf("nanoseconds for a call; ratio: the library to what stands left of it\n");
     printf("%-10s  %-12s %6s  %10s  %10s %6s", "entry", "record", "bytes", "library", "reference", "ratio");
     printf(program ? "  %10s %6s  %10s\n" : "%s%s  %10s\n", program ? "program" : "", program ? "ratio" : "", "memcpy");
     for (int i = 0; i < ENTRIES; i++)
         for (int j = 0; j < RECORDS; j++) {
             row *b = &rows[i][j];
+            if (!is_for(&records[j], &entries[i]))
+                continue;
             printf("%-10s  %-12s %6zu  %10.1f", entries[i].name, records[j].name, b->len, b->library);
             print_ratio(b->library, b->reference);
             if (program)

@@ -62,14 +62,14 @@ kez_answer kez_notepack_element(const uint8_t *packed, size_t packed_len,
 kez_answer kez_rivals(const uint8_t *first, size_t first_len,
                       const uint8_t *second, size_t second_len);
 
-/* Not in the library yet: define KEZ_ALL once they are. */
-#ifdef KEZ_ALL
-
 /* Writes the canonical text of NIP-01, over which an event's id is taken: [0,"pubkey",created_at,kind,tags,"content"].
  * Bytes that kez_notepack_read refuses get its refusal; then 11.
  * value: the length written */
 kez_answer kez_canonical_write(const uint8_t *packed, size_t packed_len,
                                uint8_t *out, size_t out_len);
+
+/* Not in the library yet: define KEZ_ALL once they are. */
+#ifdef KEZ_ALL
 
 /* Writes a packed event as NSON; both readers below then show the same event.
  * Bytes that kez_notepack_read refuses get its refusal; then 17 if NSON can't carry the event; then 11.

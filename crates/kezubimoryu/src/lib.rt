@@ -1,4 +1,5 @@
 // The C entries: thin and total over the crates below. Each takes numbers and byte buffers and answers two numbers.
+use canonical::CanonicalWrite;
 use event::Refusal;
 use notepack::CountRead;
 use notepack::ElementRead;
@@ -15,6 +16,7 @@ ghost use Rattle.notepack.specs.Strict.{pack};
 ghost use Rattle.notepack.specs.Unpack.{unpack};
 ghost use Rattle.notepack.specs.Views.{numbersOf, textsIn, elementOf};
 ghost use Rattle.strict.specs.Strict.{strict};
+ghost use Rattle.canonical.specs.Canonical.{canonical};
 ghost use Rattle.rivals.specs.Rivals.{rivals};
 ghost use Rattle.kezubimoryu.specs.Entries.{ok, yesNo, told, keptNumber};
 
@@ -135,6 +137,18 @@ pub extern "C" fn kez_notepack_element(
             shown(0)
         }
         ElementRead::Refused(r) => refused(r),
+    }
+}
+
+#[no_mangle]
+pub extern "C" fn kez_canonical_write(packed: &[u8], out: &mut [u8]) -> KezAnswer
+    ensures { λ a. ⌜ (a .refusal, a .value) ≡ twoNumbers (writes canonical (unpack (now (packed .entry))) (now (out .entry))) ⌝ }
+    ensures { λ _. ⌜ now (out .exit) ≡ leaves canonical (unpack (now (packed .entry))) (now (out .entry)) ⌝ }
+{
+    let done = canonical::write_canonical(packed, out);
+    match done {
+        CanonicalWrite::Written(n) => shown(n as u64),
+        CanonicalWrite::Refused(r) => refused(r),
     }
 }
 

@@ -1,0 +1,4 @@
+pub mod Texts
+pub mod Again
+pub mod Room
+pub mod Whole
