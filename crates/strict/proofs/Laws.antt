@@ -4,6 +4,7 @@ use Prim.Native.Nat.{ℕ, zero, suc, _+_, _*_, _-_, _/_, _≤_, _<_}
 use mathlib.Core.Path.{_≡_, refl, sym, ap, _∙_, subst}
 use mathlib.Core.Bool.{Bool, true, false, not}
 use mathlib.Core.List.{List, [], _∷_, _++_, map, append-assoc, append-nil}
+use mathlib.Core.Logic.{_↔_}
 use native.Mathlib.Numerals.{sub-one}
 use native.Mathlib.Omega.{arith}
 use lib.ListN.{length, length-map}
@@ -18,6 +19,7 @@ use Rattle.store.specs.Entry.{writes, leaves}
 use Rattle.store.proofs.EntryLaws.{short, fitted}
 use Rattle.varint.specs.Uleb.{uleb}
 use Rattle.event.specs.Event.{Event, sameText}
+use Rattle.event.proofs.Laws.{same-text, text-same}
 use Rattle.notepack.specs.declared.Part.{Part}
 use Rattle.notepack.specs.declared.Head.{Head}
 use Rattle.notepack.specs.declared.Tally.{Tally}
@@ -170,3 +172,17 @@ module _ (s : List ℕ) (bytes : IsBytes s) (d : List ℕ) where
           let same : g .event ≡ c .event = cc in
           let f = fitted (g .len ∙ ap (λ (x : Event). length (pack x)) same) l (c .wrote) in
           (rw (c .shows) (f .0), rw (c .shows) (f .1))
+
+-- ---- the theorem
+
+-- Bytes are strict exactly if they are the strict form of the event that they show.
+pub strict-exactly : (s : List ℕ) → (strict s ≡ shown true) ↔ ((e : Event) × (unpack s ≡ shown e) × (s ≡ pack e))
+unfolding strict
+strict-exactly s = (λ h. there (unpack s) refl h, λ p. back (p .0) (p .1) (p .2))
+  where
+    there : (r : Answer Event) → unpack s ≡ r → andThen r (λ (e : Event). shown (sameText s (pack e))) ≡ shown true → (e : Event) × (unpack s ≡ shown e) × (s ≡ pack e)
+    there (shown e) u h = let t : sameText s (pack e) ≡ true = cc in (e, u, text-same s (pack e) t)
+    there (refused n q) u h = let z : _≡_ {A = ℕ} 0 1 = cc in absurd (omega arith)
+
+    back : (e : Event) → unpack s ≡ shown e → s ≡ pack e → andThen (unpack s) (λ (x : Event). shown (sameText s (pack x))) ≡ shown true
+    back e u q = rw u (ap shown (ap (λ (l : List ℕ). sameText l (pack e)) q ∙ same-text (pack e)))
