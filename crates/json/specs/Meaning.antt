@@ -1,0 +1,96 @@
+-- Which event a JSON value is (document 01, "Plain JSON reader"): a statement about RFC 8259's tree alone, with no reader in it. Assumes nothing.
+use Prim.Native.Nat.{ℕ, _≤_}
+use mathlib.Core.Path.{_≡_}
+use mathlib.Core.List.{List, [], _∷_}
+use Rattle.scan.specs.Choice.{pick}
+use Rattle.scan.specs.Span.{All}
+use Rattle.hex.specs.Hex.{hexes}
+use Rattle.decimal.specs.Decimal.{numberOf}
+use Rattle.event.specs.Event.{Text, Tag, Event, Valid, sameText}
+use Rattle.jsontext.specs.Grammar as json
+use Rattle.jsontext.specs.Escape.{unescape}
+
+-- ---- the seven names
+
+abbrev pub idName : Text
+idName = 0x69 ∷ 0x64 ∷ []
+
+abbrev pub pubkeyName : Text
+pubkeyName = 0x70 ∷ 0x75 ∷ 0x62 ∷ 0x6B ∷ 0x65 ∷ 0x79 ∷ []
+
+abbrev pub sigName : Text
+sigName = 0x73 ∷ 0x69 ∷ 0x67 ∷ []
+
+abbrev pub createdAtName : Text
+createdAtName = 0x63 ∷ 0x72 ∷ 0x65 ∷ 0x61 ∷ 0x74 ∷ 0x65 ∷ 0x64 ∷ 0x5F ∷ 0x61 ∷ 0x74 ∷ []
+
+abbrev pub kindName : Text
+kindName = 0x6B ∷ 0x69 ∷ 0x6E ∷ 0x64 ∷ []
+
+abbrev pub tagsName : Text
+tagsName = 0x74 ∷ 0x61 ∷ 0x67 ∷ 0x73 ∷ []
+
+abbrev pub contentName : Text
+contentName = 0x63 ∷ 0x6F ∷ 0x6E ∷ 0x74 ∷ 0x65 ∷ 0x6E ∷ 0x74 ∷ []
+
+abbrev pub names : List Text
+names = idName ∷ pubkeyName ∷ sigName ∷ createdAtName ∷ kindName ∷ tagsName ∷ contentName ∷ []
+
+-- the values of the members that have a name, compared after unescaping
+unfoldable pub valuesOf : Text → json.Members → List json.Json
+valuesOf t json.no-member = []
+valuesOf t (json.member n v m) = pick (sameText (unescape n) t) (v ∷ valuesOf t m) (valuesOf t m)
+
+-- ---- what a value says
+
+-- a string says its text
+pub data IsText : json.Json → Text → Type 0 where
+  is-text : {l : List ℕ} → IsText (json.string l) (unescape l)
+
+-- bytes in lowercase hex
+pub data IsHex : json.Json → List ℕ → Type 0 where
+  is-hex : {l b : List ℕ} → unescape l ≡ hexes b → IsHex (json.string l) b
+
+-- digits alone: no sign, fraction or exponent
+pub data IsNumber : json.Json → ℕ → Type 0 where
+  is-number : {l : List ℕ} → All json.Digit l → IsNumber (json.number l) (numberOf l)
+
+-- an array, item by item
+pub data Each {A : Type 0} (Is : json.Json → A → Type 0) : json.Items → List A → Type 0 where
+  none : Each Is json.no-item []
+  also : {v : json.Json} {i : json.Items} {x : A} {l : List A} → Is v x → Each Is i l → Each Is (json.item v i) (x ∷ l)
+
+pub data IsArray {A : Type 0} (Is : json.Json → A → Type 0) : json.Json → List A → Type 0 where
+  is-array : {i : json.Items} {l : List A} → Each Is i l → IsArray Is (json.array i) l
+
+abbrev pub IsTag : json.Json → Tag → Type 0
+IsTag = IsArray IsText
+
+-- the name stands once, and its value says x
+pub data Once {A : Type 0} (m : json.Members) (t : Text) (Is : json.Json → A → Type 0) (x : A) : Type 0 where
+  once : {v : json.Json} → valuesOf t m ≡ v ∷ [] → Is v x → Once m t Is x
+
+-- the members of an object that say an event: the seven once each, nothing filled in, other names ignored
+pub record Says (m : json.Members) (e : Event) : Type 0 where
+  pub id : Once m idName IsHex (e .id)
+  pub pubkey : Once m pubkeyName IsHex (e .pubkey)
+  pub sig : Once m sigName IsHex (e .sig)
+  pub createdAt : Once m createdAtName IsNumber (e .createdAt)
+  pub kind : Once m kindName IsNumber (e .kind)
+  pub tags : Once m tagsName (IsArray IsTag) (e .tags)
+  pub content : Once m contentName IsText (e .content)
+
+-- a name is one of the seven
+pub data OneOf : List Text → Text → Type 0 where
+  first : {t : Text} {l : List Text} → OneOf (t ∷ l) t
+  later : {t u : Text} {l : List Text} → OneOf l t → OneOf (u ∷ l) t
+
+-- a value of no known name nests at most 16 arrays and objects
+pub data Shallow : json.Members → Type 0 where
+  no-member : Shallow json.no-member
+  known : {n : List ℕ} {v : json.Json} {m : json.Members} → OneOf names (unescape n) → Shallow m → Shallow (json.member n v m)
+  ignored : {n : List ℕ} {v : json.Json} {m : json.Members} → json.nesting v ≤ 16 → Shallow m → Shallow (json.member n v m)
+
+-- the event that a JSON value is
+pub data IsEvent : json.Json → Event → Type 0 where
+  is-event : {m : json.Members} {e : Event} → Says m e → Valid e → Shallow m → IsEvent (json.object m) e

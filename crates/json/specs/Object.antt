@@ -1,0 +1,120 @@
+-- The plain JSON reader: the object's members one after the other, the seven fields remembered, then what the whole says. Assumes nothing.
+use Prim.Native.Nat.{ℕ, zero, suc, _+_}
+use mathlib.Core.Bool.{Bool, true, false}
+use mathlib.Core.List.{List, [], _∷_}
+use lib.ListN.{length, getD, set}
+use lib.Dec.{leb, eqb}
+use Rattle.scan.specs.Choice.{pick, Answer, shown, refused, Read, read, andThen}
+use Rattle.scan.specs.Place.{byteAt}
+use Rattle.event.specs.Event.{Text, Tag, Event}
+use Rattle.jsontext.specs.Token.{spaceAt}
+use Rattle.json.specs.Field.{Value, missing, bytes, number, tags, text, textAt, fieldOf, fieldAt}
+
+-- what the seven fields say, by number
+abbrev pub Fields : Type 0
+Fields = List Value
+
+abbrev pub noFields : Fields
+noFields = missing ∷ missing ∷ missing ∷ missing ∷ missing ∷ missing ∷ missing ∷ []
+
+abbrev pub isMissing : Value → Bool
+isMissing missing = true
+isMissing (bytes l) = false
+isMissing (number n) = false
+isMissing (tags l) = false
+isMissing (text t) = false
+
+-- field number k
+abbrev pub field : Fields → ℕ → Value
+field f k = getD f k missing
+
+-- behind the name of field k: a colon, then its value
+unfoldable pub colonAt : ℕ → Fields → List ℕ → ℕ → Answer (Read Fields)
+colonAt k f s p =
+    pick (eqb (byteAt s p) 0x3A) (andThen (fieldAt k s (spaceAt s (p + 1))) λ v. read (set f k (v .value)) (v .next)) (refused 14 p)
+
+-- a member: its name, which is 16 where the field has been found before, and its value
+unfoldable pub memberAt : Fields → List ℕ → ℕ → Answer (Read Fields)
+memberAt f s at =
+    andThen (textAt s at) λ n.
+    let k = fieldOf (n .value) in pick (isMissing (field f k)) (colonAt k f s (spaceAt s (n .next))) (refused 16 at)
+
+unfoldable pub noneMissing : Fields → Bool
+noneMissing [] = true
+noneMissing (v ∷ f) = pick (isMissing v) false (noneMissing f)
+
+-- ---- what a field says; the empty list and 0 stand for what is asked of no field
+
+abbrev pub bytesIn : Value → List ℕ
+bytesIn missing = []
+bytesIn (bytes l) = l
+bytesIn (number n) = []
+bytesIn (tags l) = []
+bytesIn (text t) = []
+
+abbrev pub numberIn : Value → ℕ
+numberIn missing = 0
+numberIn (bytes l) = 0
+numberIn (number n) = n
+numberIn (tags l) = 0
+numberIn (text t) = 0
+
+abbrev pub tagsIn : Value → List Tag
+tagsIn missing = []
+tagsIn (bytes l) = []
+tagsIn (number n) = []
+tagsIn (tags l) = l
+tagsIn (text t) = []
+
+abbrev pub textIn : Value → Text
+textIn missing = []
+textIn (bytes l) = []
+textIn (number n) = []
+textIn (tags l) = []
+textIn (text t) = t
+
+-- the event that seven fields say
+unfoldable pub eventOf : Fields → Event
+eventOf f =
+    record {
+      id = bytesIn (field f 0);
+      pubkey = bytesIn (field f 1);
+      sig = bytesIn (field f 2);
+      createdAt = numberIn (field f 3);
+      kind = numberIn (field f 4);
+      tags = tagsIn (field f 5);
+      content = textIn (field f 6);
+    }
+
+-- at the closing brace: the event, where none of the seven is missing, and else 15
+unfoldable pub closeAt : Fields → ℕ → Answer (Read Event)
+closeAt f at = pick (noneMissing f) (read (eventOf f) (at + 1)) (refused 15 at)
+
+-- behind a member, at p: the closing brace, or a comma and more
+unfoldable pub afterMember : (ℕ → Answer (Read Event)) → Fields → List ℕ → ℕ → Answer (Read Event)
+afterMember more f s p =
+    pick (eqb (byteAt s p) 0x7D) (closeAt f p) (pick (eqb (byteAt s p) 0x2C) (more (spaceAt s (p + 1))) (refused 14 p))
+
+-- members, at most as many as the fuel
+unfoldable pub membersAt : ℕ → Fields → List ℕ → ℕ → Answer (Read Event)
+membersAt zero f s at = refused 14 at
+membersAt (suc fuel) f s at =
+    andThen (memberAt f s at) λ m. afterMember (membersAt fuel (m .value) s) (m .value) s (spaceAt s (m .next))
+
+-- behind the opening brace and its white space, at p
+unfoldable pub insideAt : List ℕ → ℕ → Answer (Read Event)
+insideAt s p = pick (eqb (byteAt s p) 0x7D) (refused 15 p) (membersAt (length s) noFields s p)
+
+-- an event's object at a place, and the place behind it
+unfoldable pub objectAt : List ℕ → ℕ → Answer (Read Event)
+objectAt s at = pick (eqb (byteAt s at) 0x7B) (insideAt s (spaceAt s (at + 1))) (refused 14 at)
+
+-- behind the object nothing but white space
+unfoldable pub wholeAt : List ℕ → Answer Event
+wholeAt s =
+    andThen (objectAt s (spaceAt s 0)) λ e.
+    let p = spaceAt s (e .next) in pick (eqb p (length s)) (shown (e .value)) (refused 10 p)
+
+-- the event that a text shows, or the refusal: 1 first of all
+unfoldable pub readJson : List ℕ → Answer Event
+readJson s = pick (leb (length s) 65_536) (wholeAt s) (refused 1 0)
