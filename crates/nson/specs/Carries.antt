@@ -1,0 +1,48 @@
+-- Which events NSON can carry (document 01, "NSON"): the statement, and its decision. Assumes nothing.
+use Prim.Native.Nat.{ℕ, _+_, _*_, _≤_}
+use mathlib.Core.Bool.{Bool, true, false}
+use mathlib.Core.List.{List, [], _∷_}
+use lib.ListN.{length}
+use lib.Dec.{leb}
+use Rattle.scan.specs.Choice.{pick}
+use Rattle.scan.specs.Place.{within}
+use Rattle.scan.specs.Span.{All}
+use Rattle.escape.specs.Escape.{Carried, nsonText}
+use Rattle.event.specs.Event.{Text, Tag, Event}
+use Rattle.nson.specs.Nson.{bytesIn, nson}
+
+-- the sum over tags of 1 + 2 × items
+unfoldable pub tagBytes : List Tag → ℕ
+tagBytes [] = 0
+tagBytes (t ∷ l) = 1 + 2 * length t + tagBytes l
+
+-- a text with no byte below 20 other than 0A, and at most 65,535 bytes when escaped
+pub record Fits (t : Text) : Type 0 where
+  pub plain : All Carried t
+  pub short : bytesIn t ≤ 65_535
+
+pub record Carries (e : Event) : Type 0 where
+  pub early : 1_000_000_000 ≤ e .createdAt
+  pub late : e .createdAt ≤ 9_999_999_999
+  pub content : Fits (e .content)
+  pub texts : All (All Fits) (e .tags)
+  pub few : 4 + tagBytes (e .tags) ≤ 127
+  pub whole : length (nson e) ≤ 65_536
+
+-- ---- the decision
+
+unfoldable pub fits : Text → Bool
+fits t = pick (nsonText t) (leb (bytesIn t) 65_535) false
+
+unfoldable pub allFit : List Text → Bool
+allFit [] = true
+allFit (t ∷ l) = pick (fits t) (allFit l) false
+
+unfoldable pub tagsFit : List Tag → Bool
+tagsFit [] = true
+tagsFit (t ∷ l) = pick (allFit t) (tagsFit l) false
+
+unfoldable pub carries : Event → Bool
+carries e =
+    pick (within 1_000_000_000 9_999_999_999 (e .createdAt))
+    (pick (fits (e .content)) (pick (tagsFit (e .tags)) (pick (leb (4 + tagBytes (e .tags)) 127) (leb (length (nson e)) 65_536) false) false) false) false

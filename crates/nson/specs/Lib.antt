@@ -1,0 +1,3 @@
+pub mod Nson
+pub mod Carries
+pub mod Read
