@@ -7,12 +7,15 @@ use mathlib.Core.List.{List, [], _∷_, _++_}
 use mathlib.Core.Logic.{_↔_, dite}
 use native.Mathlib.Omega.{arith}
 use native.Mathlib.Decide.{decLt, ℕ-discrete}
+use lib.ListN.{length, length-append}
 use lib.Dec.{eqb}
 use borrow.Author.Tests.{eqb-true, eqb-false, eq-eqb, ne-eqb, lt-ltb, le-ltb}
 use Rattle.scan.specs.Span.{All, also}
 use Rattle.scan.proofs.Step.{pick-by}
 use Rattle.escape.specs.Escape.{behind, nsonByte, canonicalByte, escaped, Carried, newline, other, isControl, controls, nsonText}
 use Rattle.escape.specs.Quoted.{Quoted, none, bare, escape, NsonBare, nson-bare, NsonLetter, letter-n, letter-quote, letter-backslash, CanonicalBare, canonical-bare, CanonicalLetter, letter-nson, letter-r, letter-t, letter-b, letter-f}
+use Rattle.escape.proofs.ByteLaws.{nson-escaping}
+use Rattle.escape.proofs.TextLaws.{form-length, length-least}
 
 -- ---- what NSON can carry
 
@@ -146,3 +149,28 @@ nson-ends = quoted-ends nson-closed
 -- and so in the canonical text
 pub canonical-ends : {l m : List ℕ} → Quoted CanonicalBare CanonicalLetter l → Quoted CanonicalBare CanonicalLetter m → (x y : List ℕ) → l ++ (0x22 ∷ x) ≡ m ++ (0x22 ∷ y) → (l ≡ m) × (x ≡ y)
 canonical-ends = quoted-ends canonical-closed
+
+-- ---- a text that needs no escape
+
+-- a byte that stands as one and can be carried is bare
+one-bare : (b : ℕ) → length (nsonByte b) ≤ 1 → Carried b → NsonBare b
+unfolding nsonByte
+one-bare _ h newline = absurd (omega arith)
+one-bare b h (other m) =
+    dite (ℕ-discrete b 0x22) (λ e. let q = rw (ne-eqb b 0x0A (λ f. omega arith), eq-eqb b 0x22 e) at h in absurd (omega arith))
+    (λ n.
+    dite (ℕ-discrete b 0x5C) (λ e. let q = rw (ne-eqb b 0x0A (λ f. omega arith), ne-eqb b 0x22 n, eq-eqb b 0x5C e) at h in absurd (omega arith))
+    (λ k. nson-bare m n k))
+
+carried-bare : {t : List ℕ} → All Carried t → length (escaped nsonByte t) ≡ length t → All NsonBare t
+unfolding escaped
+carried-bare All.none e = All.none
+carried-bare (also {b = b} {l = t} c r) e =
+    let k = length-append (nsonByte b) (escaped nsonByte t) in
+    let m = length-least nsonByte nson-escaping t in
+    let n = form-length (nson-escaping b) .0 in
+    also (one-bare b (omega arith) c) (carried-bare r (omega arith))
+
+-- a text that NSON can carry and that is no longer when escaped is bare bytes
+pub bare-text : (t : List ℕ) → length (escaped nsonByte t) ≡ length t → nsonText t ≡ true → All NsonBare t
+bare-text t e c = carried-bare (nson-text t .0 c) e

@@ -35,7 +35,7 @@ escaped-append f (b ∷ s) t = ap (λ (l : List ℕ). f b ++ l) (escaped-append 
 -- ---- of one byte
 
 -- a byte becomes one or two
-form-length : {b : ℕ} {x : List ℕ} → Form b x → (1 ≤ length x) × (length x ≤ 2)
+pub form-length : {b : ℕ} {x : List ℕ} → Form b x → (1 ≤ length x) × (length x ≤ 2)
 form-length (itself n) = (omega arith, omega arith)
 form-length (letter c m h k) = (omega arith, omega arith)
 

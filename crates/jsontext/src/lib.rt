@@ -623,11 +623,13 @@ fn pass_blocks(t: &[u8], at: usize) -> usize
     i
 }
 
-// The place of the next backslash, or the end.
-fn next_backslash(t: &[u8], at: usize) -> usize
-    requires { ⌜ at ≤ length (now t) ⌝ }
+// The place of the next backslash from a place on, or the end.
+pub fn next_backslash(t: &[u8], at: usize) -> usize
     ensures { λ r. ⌜ r ≡ plainAt (now (t .entry)) at ⌝ }
 {
+    if t.len() <= at {
+        return at;
+    }
     let mut i = pass_blocks(t, at);
     while i < t.len() {
         let b = t[i];

@@ -1,15 +1,15 @@
 -- Reading NSON: piece after piece, counts before the text they count, with document 01's refusals and their places. Assumes nothing.
-use Prim.Native.Nat.{ℕ, zero, suc, _+_, _*_, _-_}
+use Prim.Native.Nat.{ℕ, _+_, _*_}
 use mathlib.Core.Bool.{Bool, true, false}
 use mathlib.Core.List.{List, [], _∷_}
 use lib.ListN.{length, take, drop}
-use lib.Dec.{ltb, leb, eqb}
-use Rattle.scan.specs.Choice.{pick, either, Answer, shown, refused, Read, read, andThen, many}
-use Rattle.scan.specs.Place.{byteAt, standsAt, within}
-use Rattle.utf8.specs.Width.{widthOf}
+use lib.Dec.{leb, eqb}
+use Rattle.scan.specs.Choice.{pick, Answer, shown, refused, Read, read, andThen, many}
+use Rattle.scan.specs.Place.{standsAt, within}
 use Rattle.hex.specs.Hex.{unhex, allDigits}
 use Rattle.decimal.specs.Decimal.{decimal, numberOf}
-use Rattle.escape.specs.Escape.{plain}
+use Rattle.jsontext.specs.Escape.{unescape}
+use Rattle.counted.specs.Counted.{faultIn}
 use Rattle.event.specs.Event.{Text, Tag, Event, sameText}
 use Rattle.nson.specs.Nson.{idLabel, pubkeyLabel, sigLabel, timeLabel, nsonLabel, kindLabel, contentLabel, tagsLabel, endLabel, Counts}
 
@@ -100,24 +100,9 @@ countsAt s = andThen (hexAt 1 s 318) λ z. countsTo (z .next + bigEndian (z .val
 
 -- ---- the text that is counted
 
--- the letters behind a backslash: n " \
-unfoldable pub isLetter : ℕ → Bool
-isLetter b = either (eqb b 0x6E) (either (eqb b 0x22) (eqb b 0x5C))
-
--- the earliest fault of the bytes between two quotes, 0 for none: a bare quote 13, a raw byte below 20 or a bad or cut escape 14,
--- ill-formed UTF-8 5. `skip` bytes of the escape or sequence at hand are still to pass.
-unfoldable pub faultIn : ℕ → List ℕ → ℕ
-faultIn zero [] = 0
-faultIn (suc k) [] = 0
-faultIn (suc k) (b ∷ l) = faultIn k l
-faultIn zero (b ∷ l) =
-    let w = widthOf b (byteAt l 0) (byteAt l 1) (byteAt l 2) in pick (eqb b 0x22) 13
-    (pick (ltb b 0x20) 14
-    (pick (eqb b 0x5C) (pick (isLetter (byteAt l 0)) (faultIn 1 l) 14) (pick (eqb w 0) 5 (faultIn (w - 1) l))))
-
 -- the n bytes l behind an opening quote at place at - 1: a fault in them, else 13 where the input ends before
 unfoldable pub textOf : ℕ → List ℕ → ℕ → Answer (Read Text)
-textOf n l at = pick (eqb (faultIn 0 l) 0) (pick (eqb (length l) n) (read (plain l) (at + n)) (refused 13 at)) (refused (faultIn 0 l) at)
+textOf n l at = pick (eqb (faultIn l) 0) (pick (eqb (length l) n) (read (unescape l) (at + n)) (refused 13 at)) (refused (faultIn l) at)
 
 -- a counted text
 unfoldable pub textAt : ℕ → List ℕ → ℕ → Answer (Read Text)

@@ -21,6 +21,7 @@ next-backslash-spec =
     (tie.spec
     Inv-loop
     μ-loop
+    (λ c. search plains)
     (λ c κs. search needs)
     (λ c. c .pass-blocks .ensures)
     (λ c. search needs)

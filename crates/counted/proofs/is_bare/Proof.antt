@@ -1,0 +1,11 @@
+-- `is_bare`: what escaping doesn't lengthen and NSON can carry is bare bytes.
+-- One law of crate escape; the other way out answers no.
+use mathlib.Core.Path.{sym, _∙_}
+use Rattle.scan.proofs.Step.{false-true}
+use Rattle.escape.proofs.QuotedLaws.{bare-text}
+use borrow.Author.Needs.{needs}
+use Rattle.counted.proofs.is_bare.Statement.{statement}
+use Rattle.counted.proofs.is_bare.Tie as tie
+
+pub is-bare-spec : {M : Type 1} → statement M
+is-bare-spec = tie.close (tie.spec (λ c κs. search needs) (λ c κs. search needs) (λ c. λ q. bare-text _ (sym (c .before .before .nson-len .ensures .0) ∙ c .before .if1 .taken) (sym (c .nson-fits .ensures) ∙ q)) (λ c. λ q. absurd (false-true q)))

@@ -1,0 +1,26 @@
+-- The bytes between two quotes of NSON: the earliest fault (document 01, "Numbers of refusal"). Assumes nothing.
+use Prim.Native.Nat.{ℕ, zero, suc, _-_}
+use mathlib.Core.Bool.{Bool}
+use mathlib.Core.List.{List, [], _∷_}
+use lib.Dec.{ltb, eqb}
+use Rattle.scan.specs.Choice.{pick, either}
+use Rattle.scan.specs.Place.{byteAt}
+use Rattle.utf8.specs.Width.{widthOf}
+
+-- the letters behind a backslash: n " \
+unfoldable pub isLetter : ℕ → Bool
+isLetter b = either (eqb b 0x6E) (either (eqb b 0x22) (eqb b 0x5C))
+
+-- 0 where there is no fault; a bare quote is 13, a raw byte below 20 or a bad or cut escape 14, ill-formed or cut UTF-8 5.
+-- `skip` bytes of the escape or sequence at hand are still to pass.
+unfoldable pub faultFrom : (skip : ℕ) → List ℕ → ℕ
+faultFrom zero [] = 0
+faultFrom (suc k) [] = 0
+faultFrom (suc k) (b ∷ l) = faultFrom k l
+faultFrom zero (b ∷ l) =
+    let w = widthOf b (byteAt l 0) (byteAt l 1) (byteAt l 2) in pick (eqb b 0x22) 13
+    (pick (ltb b 0x20) 14
+    (pick (eqb b 0x5C) (pick (isLetter (byteAt l 0)) (faultFrom 1 l) 14) (pick (eqb w 0) 5 (faultFrom (w - 1) l))))
+
+unfoldable pub faultIn : List ℕ → ℕ
+faultIn l = faultFrom 0 l
