@@ -1,146 +1,150 @@
--- Reading NSON: piece after piece, counts before the text they count, with document 01's refusals and their places. Assumes nothing.
-use Prim.Native.Nat.{ℕ, _+_, _*_}
+-- Reading NSON: piece after piece, counts before the text they count, with document 01's refusals and their places. A piece is
+-- checked, and what it says is then taken from its place. Assumes nothing.
+use Prim.Native.Nat.{ℕ, _+_, _*_, _%_}
 use mathlib.Core.Bool.{Bool, true, false}
 use mathlib.Core.List.{List, [], _∷_}
 use lib.ListN.{length, take, drop}
 use lib.Dec.{leb, eqb}
 use Rattle.scan.specs.Choice.{pick, Answer, shown, refused, Read, read, andThen, many}
-use Rattle.scan.specs.Place.{standsAt, within}
-use Rattle.hex.specs.Hex.{unhex, allDigits}
+use Rattle.scan.specs.Place.{byteAt, standsAt, within}
+use Rattle.hex.specs.Hex.{valueOf, unhex, allDigits}
 use Rattle.decimal.specs.Decimal.{decimal, numberOf}
+use Rattle.event.specs.Event.{Text, Tag, Event, sameText}
 use Rattle.jsontext.specs.Escape.{unescape}
 use Rattle.counted.specs.Counted.{faultIn}
-use Rattle.event.specs.Event.{Text, Tag, Event, sameText}
 use Rattle.nson.specs.Nson.{idLabel, pubkeyLabel, sigLabel, timeLabel, nsonLabel, kindLabel, contentLabel, tagsLabel, endLabel, Counts}
 
--- ---- pieces
+-- ---- pieces: the place behind them, or the refusal at their start
 
 -- a fixed piece; `number` is the refusal where another byte or the end stands
-unfoldable pub pieceAt : ℕ → List ℕ → List ℕ → ℕ → Answer (Read (List ℕ))
-pieceAt number w s at = pick (standsAt w s at) (read w (at + length w)) (refused number at)
+unfoldable pub pieceAt : ℕ → List ℕ → List ℕ → ℕ → Answer ℕ
+pieceAt number w s at = pick (standsAt w s at) (shown (at + length w)) (refused number at)
 
--- n bytes in lowercase hex
-unfoldable pub isHexOf : ℕ → List ℕ → Bool
-isHexOf n l = pick (eqb (length l) (2 * n)) (allDigits l) false
+-- the n bytes from a place on, or as many of them as there are
+abbrev pub partAt : ℕ → List ℕ → ℕ → List ℕ
+partAt n s at = take n (drop at s)
 
-unfoldable pub hexAt : ℕ → List ℕ → ℕ → Answer (Read (List ℕ))
-hexAt n s at = let l = take (2 * n) (drop at s) in pick (isHexOf n l) (read (unhex l) (at + 2 * n)) (refused 12 at)
+-- n lowercase hex digits
+unfoldable pub hexAt : ℕ → List ℕ → ℕ → Answer ℕ
+hexAt n s at = pick (eqb (length (partAt n s at)) n) (pick (allDigits (partAt n s at)) (shown (at + n)) (refused 12 at)) (refused 12 at)
 
 -- a number in n digits with no leading zero unless it is 0: the spelling that `decimal` gives
-unfoldable pub isDecimalOf : ℕ → List ℕ → Bool
-isDecimalOf n l = pick (eqb (length l) n) (sameText l (decimal (numberOf l))) false
+unfoldable pub isDecimal : ℕ → List ℕ → Bool
+isDecimal n l = pick (eqb (length l) n) (sameText l (decimal (numberOf l))) false
 
 unfoldable pub decimalAt : ℕ → ℕ → List ℕ → ℕ → Answer (Read ℕ)
-decimalAt number n s at = let l = take n (drop at s) in pick (isDecimalOf n l) (read (numberOf l) (at + n)) (refused number at)
+decimalAt number n s at = pick (isDecimal n (partAt n s at)) (read (numberOf (partAt n s at)) (at + n)) (refused number at)
+
+-- n counted bytes between two quotes: the earliest fault in them, else 13 where the input ends before
+unfoldable pub textAt : ℕ → List ℕ → ℕ → Answer ℕ
+textAt n s at =
+    pick (eqb (faultIn (partAt n s at)) 0) (pick (eqb (length (partAt n s at)) n) (shown (at + n)) (refused 13 at))
+    (refused (faultIn (partAt n s at)) at)
 
 -- ---- up to the descriptors
 
-pub record Head : Type 0 where
-  pub id : List ℕ
-  pub pubkey : List ℕ
-  pub sig : List ℕ
-  pub createdAt : ℕ
+-- a label, then n hex digits
+unfoldable pub labelledAt : List ℕ → ℕ → List ℕ → ℕ → Answer ℕ
+labelledAt w n s at = andThen (pieceAt 12 w s at) λ a. hexAt n s a
 
--- a label, then n bytes in hex
-unfoldable pub labelledAt : List ℕ → ℕ → List ℕ → ℕ → Answer (Read (List ℕ))
-labelledAt w n s at = andThen (pieceAt 12 w s at) λ a. hexAt n s (a .next)
+-- id, pubkey and sig
+unfoldable pub keysAt : List ℕ → Answer ℕ
+keysAt s =
+    andThen (labelledAt idLabel 64 s 0) λ a.
+    andThen (labelledAt pubkeyLabel 64 s a) λ b.
+    labelledAt sigLabel 128 s b
 
 -- the time: ten digits, the first not 0
 unfoldable pub timeAt : List ℕ → ℕ → Answer (Read ℕ)
-timeAt s at = andThen (pieceAt 12 timeLabel s at) λ a. decimalAt 12 10 s (a .next)
+timeAt s at = andThen (pieceAt 12 timeLabel s at) λ a. decimalAt 12 10 s a
 
-unfoldable pub headAt : List ℕ → Answer (Read Head)
+-- all of it, and the time
+unfoldable pub headAt : List ℕ → Answer (Read ℕ)
 headAt s =
-    andThen (labelledAt idLabel 32 s 0) λ i.
-    andThen (labelledAt pubkeyLabel 32 s (i .next)) λ p.
-    andThen (labelledAt sigLabel 64 s (p .next)) λ g.
-    andThen (timeAt s (g .next)) λ t.
-    andThen (pieceAt 12 nsonLabel s (t .next)) λ n.
-    read (record { id = i .value; pubkey = p .value; sig = g .value; createdAt = t .value }) (n .next)
+    andThen (keysAt s) λ a.
+    andThen (timeAt s a) λ t.
+    andThen (pieceAt 12 nsonLabel s (t .next)) λ b.
+    read (t .value) b
 
 -- ---- the descriptors: all are checked before the kind
 
--- the number that bytes say, the upper one first
-abbrev pub behind : ℕ → List ℕ → ℕ
-behind n [] = n
-behind n (b ∷ l) = behind (n * 256 + b) l
+-- the byte that two hex digits say, and the number that two such bytes say, the upper one first
+unfoldable pub byteHere : List ℕ → ℕ → ℕ
+byteHere s at = 16 * (valueOf (byteAt s at) % 16) + valueOf (byteAt s (at + 1)) % 16
 
-abbrev pub bigEndian : List ℕ → ℕ
-bigEndian l = behind 0 l
+unfoldable pub wordHere : List ℕ → ℕ → ℕ
+wordHere s at = 256 * byteHere s at + byteHere s (at + 2)
 
--- a descriptor of so many bytes: 13 at the size where it would pass the end that the size says, before 12 where it isn't there or no hex
-unfoldable pub descriptorAt : ℕ → ℕ → List ℕ → ℕ → Answer (Read ℕ)
-descriptorAt width end s at =
-    pick (leb (at + 2 * width) end) (andThen (hexAt width s at) λ b. read (bigEndian (b .value)) (b .next)) (refused 13 318)
+-- a descriptor of n hex digits: 13 at the size where it would pass the end that the size says, before 12 where it isn't there or no hex
+unfoldable pub descriptorAt : ℕ → ℕ → List ℕ → ℕ → Answer ℕ
+descriptorAt n end s at = pick (leb (at + n) end) (hexAt n s at) (refused 13 318)
+
+unfoldable pub byteCountAt : ℕ → List ℕ → ℕ → Answer (Read ℕ)
+byteCountAt end s at = andThen (descriptorAt 2 end s at) λ p. read (byteHere s at) p
+
+unfoldable pub wordCountAt : ℕ → List ℕ → ℕ → Answer (Read ℕ)
+wordCountAt end s at = andThen (descriptorAt 4 end s at) λ p. read (wordHere s at) p
 
 -- kind characters: 1 to 5
 unfoldable pub kindCountAt : ℕ → List ℕ → ℕ → Answer (Read ℕ)
-kindCountAt end s at = andThen (descriptorAt 1 end s at) λ n. pick (within 1 5 (n .value)) (shown n) (refused 13 at)
+kindCountAt end s at = andThen (byteCountAt end s at) λ n. pick (within 1 5 (n .value)) (shown n) (refused 13 at)
 
 -- a tag's number of items: none is 9
 unfoldable pub itemCountAt : ℕ → List ℕ → ℕ → Answer (Read ℕ)
-itemCountAt end s at = andThen (descriptorAt 1 end s at) λ n. pick (eqb (n .value) 0) (refused 9 at) (shown n)
+itemCountAt end s at = andThen (byteCountAt end s at) λ n. pick (eqb (n .value) 0) (refused 9 at) (shown n)
 
--- a tag's counts
+-- a tag's counts: one for each item
 unfoldable pub tagCountsAt : ℕ → List ℕ → ℕ → Answer (Read (List ℕ))
-tagCountsAt end s at = andThen (itemCountAt end s at) λ n. many (descriptorAt 2 end s) (n .value) (n .next)
+tagCountsAt end s at = andThen (itemCountAt end s at) λ n. many (wordCountAt end s) (n .value) (n .next)
 
 -- the counts that end where the size says: 13 at the size where they end before
 unfoldable pub countsTo : ℕ → List ℕ → ℕ → Answer (Read Counts)
 countsTo end s at =
     andThen (kindCountAt end s at) λ k.
-    andThen (descriptorAt 2 end s (k .next)) λ c.
-    andThen (descriptorAt 1 end s (c .next)) λ n.
+    andThen (wordCountAt end s (k .next)) λ c.
+    andThen (byteCountAt end s (c .next)) λ n.
     andThen (many (tagCountsAt end s) (n .value) (n .next)) λ t.
-    pick (eqb (t .next) end) (read (record { kind = k .value; content = c .value; tags = t .value }) end) (refused 13 318)
+    pick (eqb (t .next) end) (read (record { kind = k .value; content = c .value; tags = t .value }) (t .next)) (refused 13 318)
 
 -- the nson field at 318: the size, which counts the hex characters behind it, and the descriptors
 unfoldable pub countsAt : List ℕ → Answer (Read Counts)
-countsAt s = andThen (hexAt 1 s 318) λ z. countsTo (z .next + bigEndian (z .value)) s (z .next)
+countsAt s = andThen (hexAt 2 s 318) λ p. countsTo (p + byteHere s 318) s p
 
 -- ---- the text that is counted
-
--- the n bytes l behind an opening quote at place at - 1: a fault in them, else 13 where the input ends before
-unfoldable pub textOf : ℕ → List ℕ → ℕ → Answer (Read Text)
-textOf n l at = pick (eqb (faultIn l) 0) (pick (eqb (length l) n) (read (unescape l) (at + n)) (refused 13 at)) (refused (faultIn l) at)
-
--- a counted text
-unfoldable pub textAt : ℕ → List ℕ → ℕ → Answer (Read Text)
-textAt n s at = textOf n (take n (drop at s)) at
 
 -- the kind in so many digits, and its range
 unfoldable pub kindAt : ℕ → List ℕ → ℕ → Answer (Read ℕ)
 kindAt n s at = andThen (decimalAt 13 n s at) λ k. pick (leb (k .value) 65_535) (shown k) (refused 6 at)
 
--- ---- arrays without white space: an item for each count
-
 -- the comma in front of an item that is not the first
-abbrev pub commaAt : Bool → List ℕ → ℕ → Answer (Read (List ℕ))
-commaAt false s at = read [] at
+abbrev pub commaAt : Bool → List ℕ → ℕ → Answer ℕ
+commaAt false s at = shown at
 commaAt true s at = pieceAt 13 (0x2C ∷ []) s at
 
+-- items without white space, one for each count
 unfoldable pub itemsAt : {N A : Type 0} → (N → ℕ → Answer (Read A)) → Bool → List N → List ℕ → ℕ → Answer (Read (List A))
 itemsAt item later [] s at = read [] at
 itemsAt item later (n ∷ l) s at =
     andThen (commaAt later s at) λ c.
-    andThen (item n (c .next)) λ x.
+    andThen (item n c) λ x.
     andThen (itemsAt item true l s (x .next)) λ xs.
     read (x .value ∷ xs .value) (xs .next)
 
+-- an array of them: each bracket is a piece of its own
 unfoldable pub arrayAt : {N A : Type 0} → (N → ℕ → Answer (Read A)) → List N → List ℕ → ℕ → Answer (Read (List A))
 arrayAt item l s at =
     andThen (pieceAt 13 (0x5B ∷ []) s at) λ a.
-    andThen (itemsAt item false l s (a .next)) λ xs.
+    andThen (itemsAt item false l s a) λ xs.
     andThen (pieceAt 13 (0x5D ∷ []) s (xs .next)) λ b.
-    read (xs .value) (b .next)
+    read (xs .value) b
 
 -- an item: a quote, a counted text, a quote
 unfoldable pub itemAt : List ℕ → ℕ → ℕ → Answer (Read Text)
 itemAt s n at =
     andThen (pieceAt 13 (0x22 ∷ []) s at) λ a.
-    andThen (textAt n s (a .next)) λ t.
-    andThen (pieceAt 13 (0x22 ∷ []) s (t .next)) λ b.
-    read (t .value) (b .next)
+    andThen (textAt n s a) λ b.
+    andThen (pieceAt 13 (0x22 ∷ []) s b) λ c.
+    read (unescape (partAt n s a)) c
 
 unfoldable pub tagAt : List ℕ → List ℕ → ℕ → Answer (Read Tag)
 tagAt s l at = arrayAt (itemAt s) l s at
@@ -150,6 +154,22 @@ tagsAt l s at = arrayAt (tagAt s) l s at
 
 -- ---- behind the descriptors
 
+unfoldable pub kindPartAt : ℕ → List ℕ → ℕ → Answer (Read ℕ)
+kindPartAt n s at = andThen (pieceAt 13 kindLabel s at) λ a. kindAt n s a
+
+unfoldable pub contentPartAt : ℕ → List ℕ → ℕ → Answer (Read Text)
+contentPartAt n s at =
+    andThen (pieceAt 13 contentLabel s at) λ a.
+    andThen (textAt n s a) λ b.
+    read (unescape (partAt n s a)) b
+
+unfoldable pub tagsPartAt : List (List ℕ) → List ℕ → ℕ → Answer (Read (List Tag))
+tagsPartAt l s at =
+    andThen (pieceAt 13 tagsLabel s at) λ a.
+    andThen (tagsAt l s a) λ t.
+    andThen (pieceAt 13 endLabel s (t .next)) λ b.
+    read (t .value) b
+
 pub record Body : Type 0 where
   pub kind : ℕ
   pub content : Text
@@ -157,24 +177,21 @@ pub record Body : Type 0 where
 
 unfoldable pub bodyAt : Counts → List ℕ → ℕ → Answer (Read Body)
 bodyAt n s at =
-    andThen (pieceAt 13 kindLabel s at) λ a.
-    andThen (kindAt (n .kind) s (a .next)) λ k.
-    andThen (pieceAt 13 contentLabel s (k .next)) λ b.
-    andThen (textAt (n .content) s (b .next)) λ c.
-    andThen (pieceAt 13 tagsLabel s (c .next)) λ d.
-    andThen (tagsAt (n .tags) s (d .next)) λ t.
-    andThen (pieceAt 13 endLabel s (t .next)) λ e.
-    read (record { kind = k .value; content = c .value; tags = t .value }) (e .next)
+    andThen (kindPartAt (n .kind) s at) λ k.
+    andThen (contentPartAt (n .content) s (k .next)) λ c.
+    andThen (tagsPartAt (n .tags) s (c .next)) λ t.
+    read (record { kind = k .value; content = c .value; tags = t .value }) (t .next)
 
 -- ---- the whole
 
-unfoldable pub eventOf : Head → Body → Event
-eventOf h b =
+-- id, pubkey and sig have their places
+unfoldable pub eventOf : List ℕ → ℕ → Body → Event
+eventOf s time b =
     record {
-      id = h .id;
-      pubkey = h .pubkey;
-      sig = h .sig;
-      createdAt = h .createdAt;
+      id = unhex (partAt 64 s 7);
+      pubkey = unhex (partAt 64 s 83);
+      sig = unhex (partAt 128 s 156);
+      createdAt = time;
       kind = b .kind;
       tags = b .tags;
       content = b .content;
@@ -185,7 +202,7 @@ eventAt s =
     andThen (headAt s) λ h.
     andThen (countsAt s) λ n.
     andThen (bodyAt (n .value) s (n .next)) λ b.
-    read (eventOf (h .value) (b .value)) (b .next)
+    read (eventOf s (h .value) (b .value)) (b .next)
 
 -- the event that a text shows, or the refusal: 1 first of all, and 10 for a byte after the end
 unfoldable pub readNson : List ℕ → Answer Event

@@ -24,6 +24,12 @@ enum NumberRead {
     Refused(Refusal),
 }
 
+// A number and the cursor behind it.
+struct Numbered {
+    n: usize,
+    next: Cursor,
+}
+
 // The counts of the nson field that stand alone: the kind's characters, the content's bytes and the number of tags.
 struct Sizes {
     kind: usize,
@@ -302,12 +308,12 @@ impl Cursor {
     // The counts that end where the size says.
     fn counts_to(self, s: &[u8], end: usize) -> SizesRead {
         let found = self.kind_count(s, end);
-        let (kind, first) = match found {
-            NumberRead::Number(n, next) => (n, next),
+        let first = match found {
+            NumberRead::Number(n, next) => Numbered { n, next },
             NumberRead::Refused(r) => return SizesRead::Refused(r),
         };
-        let content_at = first.at;
-        let content = first.descriptor(s, 2, end);
+        let content_at = first.next.at;
+        let content = first.next.descriptor(s, 2, end);
         let second = match content {
             Skip::Past(c) => c,
             Skip::Refused(r) => return SizesRead::Refused(r),
@@ -325,7 +331,7 @@ impl Cursor {
                 if c.at == end {
                     return SizesRead::Found(
                         Sizes {
-                            kind,
+                            kind: first.n,
                             content: word_here(s, content_at),
                             tags: count,
                         },
@@ -545,22 +551,22 @@ impl Cursor {
     // All behind the descriptors.
     fn body(self, s: &[u8], z: Sizes) -> BodyRead {
         let kind_read = self.labelled_kind(s, z.kind);
-        let (kind, first) = match kind_read {
-            NumberRead::Number(n, c) => (n, c),
+        let first = match kind_read {
+            NumberRead::Number(n, next) => Numbered { n, next },
             NumberRead::Refused(r) => return BodyRead::Refused(r),
         };
-        let content = first.labelled_content(s, z.content);
-        let (content_at, second) = match content {
-            NumberRead::Number(n, c) => (n, c),
+        let content = first.next.labelled_content(s, z.content);
+        let second = match content {
+            NumberRead::Number(n, next) => Numbered { n, next },
             NumberRead::Refused(r) => return BodyRead::Refused(r),
         };
-        let content_end = second.at;
-        let tags = second.labelled_tags(s, z.tags);
+        let content_end = second.next.at;
+        let tags = second.next.labelled_tags(s, z.tags);
         match tags {
             NumberRead::Number(tags_len, end) => BodyRead::Found(
                 Body {
-                    kind,
-                    content_at,
+                    kind: first.n,
+                    content_at: second.n,
                     content_end,
                     tags_len,
                 },
@@ -573,31 +579,16 @@ impl Cursor {
 
 // The length of all in front of the tags.
 fn front_len(created_at: usize, kind: usize, content: usize, tags: usize) -> usize {
-    128 + varint::varint_len(created_at as u64)
+    128
+        + varint::varint_len(created_at as u64)
         + varint::varint_len(kind as u64)
         + varint::varint_len(content as u64)
         + content
         + varint::varint_len(tags as u64)
 }
 
-// The whole input.
-fn walk(s: &[u8]) -> Walk {
-    if 65536 < s.len() {
-        return Walk::Refused(Refusal {
-            number: event::INPUT_TOO_LONG,
-            place: 0,
-        });
-    }
-    let front = head(s);
-    let created_at = match front {
-        NumberRead::Number(n, _) => n,
-        NumberRead::Refused(r) => return Walk::Refused(r),
-    };
-    let found = counts(s);
-    let (sizes, first) = match found {
-        SizesRead::Found(z, c) => (z, c),
-        SizesRead::Refused(r) => return Walk::Refused(r),
-    };
+// All behind the descriptors, up to the input's end.
+fn walk_body(s: &[u8], created_at: usize, sizes: Sizes, first: Cursor) -> Walk {
     let rest = first.body(s, sizes);
     match rest {
         BodyRead::Found(body, end) => {
@@ -620,6 +611,26 @@ fn walk(s: &[u8]) -> Walk {
     }
 }
 
+// The whole input.
+fn walk_text(s: &[u8]) -> Walk {
+    if 65536 < s.len() {
+        return Walk::Refused(Refusal {
+            number: event::INPUT_TOO_LONG,
+            place: 0,
+        });
+    }
+    let front = head(s);
+    let created_at = match front {
+        NumberRead::Number(n, _) => n,
+        NumberRead::Refused(r) => return Walk::Refused(r),
+    };
+    let found = counts(s);
+    match found {
+        SizesRead::Found(sizes, first) => walk_body(s, created_at, sizes, first),
+        SizesRead::Refused(r) => Walk::Refused(r),
+    }
+}
+
 // ---- the strict form
 
 // n items, whose counts stand from d on and whose first quote stands at a place.
@@ -633,7 +644,10 @@ fn put_items(out: &mut [u8], at: usize, s: &[u8], n: usize, d: usize, from: usiz
         place += size + 3;
         i += 1;
     }
-    Copied { out: o, next: place }
+    Copied {
+        out: o,
+        next: place,
+    }
 }
 
 // n tags, whose counts stand from d on and whose first bracket stands at a place.
@@ -671,7 +685,7 @@ fn put_front(out: &mut [u8], at: usize, s: &[u8], w: Walked) -> usize {
 
 // The event of an NSON text, in strict form: every refusal first, then 11 with the length needed; else written from the start.
 pub fn read_nson(s: &[u8], out: &mut [u8]) -> NsonRead {
-    let walked = walk(s);
+    let walked = walk_text(s);
     match walked {
         Walk::Refused(r) => NsonRead::Refused(r),
         Walk::Done(w) => {
