@@ -1,0 +1,3 @@
+pub mod Names
+pub mod Says
+pub mod Tracks
