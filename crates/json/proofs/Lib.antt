@@ -1,3 +1,4 @@
 pub mod Names
 pub mod Says
 pub mod Tracks
+pub mod OneEvent
