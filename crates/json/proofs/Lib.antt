@@ -2,3 +2,4 @@ pub mod Names
 pub mod Says
 pub mod Tracks
 pub mod OneEvent
+pub mod FieldSound
