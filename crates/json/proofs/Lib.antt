@@ -3,3 +3,4 @@ pub mod Says
 pub mod Tracks
 pub mod OneEvent
 pub mod FieldSound
+pub mod FieldComplete
