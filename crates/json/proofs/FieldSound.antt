@@ -117,10 +117,10 @@ data ItemsTo {A : Type 0} (Is : json.Json → A → Type 0) (k : ℕ) (xs : List
 
 module _ {A : Type 0} (Is : json.Json → A → Type 0) (s : List ℕ) (item : ℕ → Answer (Read A)) (item-says : (p : ℕ) → Reads (Saying Is) s p (item p)) where
   -- one item, and the others behind its comma
-  one-more : {k : ℕ} {x : A} {l w w₂ m : List ℕ} {xs : List A} {a e : ℕ} → Saying Is x l → json.Ws w → json.Ws w₂ → ItemsTo Is k xs m
-      → Span s a (l ++ ((w ++ (0x2C ∷ w₂)) ++ m)) e → Reads (ItemsTo Is (suc k)) s a (read (x ∷ xs) e)
-  one-more {l = l} {w = w} {w₂ = w₂} {e = e} (saying g y) h h₂ (items-to {m = m} {w = w₃} gs h₃ ys n) r =
-      reads {e = e} (items-to (json.more-items g (json.separator h h₂) gs) h₃ (also y ys) (omega arith)) (simp append-assoc (simp append-assoc at r))
+  one-more : {k : ℕ} {x : A} {l c m : List ℕ} {xs : List A} {a e : ℕ} → Saying Is x l → json.Separator 0x2C c → ItemsTo Is k xs m → Span s a (l ++ (c ++ m)) e
+      → Reads (ItemsTo Is (suc k)) s a (read (x ∷ xs) e)
+  one-more {e = e} (saying g y) c (items-to gs h ys n) r =
+      reads {e = e} (items-to (json.more-items g c gs) h (also y ys) (omega arith)) (simp append-assoc r)
 
   after-consumes : (k : ℕ) (more : ℕ → Answer (Read (List A))) → ((p : ℕ) → Reads (ItemsTo Is k) s (spaceAt s (p + 1)) (more p))
       → (x : A) (l : List ℕ) (a e : ℕ) → Saying Is x l → Span s a l e → Reads (ItemsTo Is (suc k)) s a (afterItem more x s (spaceAt s e))
@@ -136,7 +136,7 @@ module _ {A : Type 0} (Is : json.Json → A → Type 0) (s : List ℕ) (item : �
       bind (space-consumes s (p + 1))
       (λ w₂ h₂ q₂.
       then-reads (λ (xs : Read (List A)). read (x ∷ xs .value) (xs .next)) (more-reads p)
-      (λ xs m e₂ ys r₂. one-more y h h₂ ys (join r (join (join q (bite 0x2C refl t q₂)) r₂)))))
+      (λ xs m e₂ ys r₂. one-more y (json.separator h h₂) ys (join r (join (join q (bite 0x2C refl t q₂)) r₂)))))
       (λ n. fails)))
     where
       last : {w : List ℕ} {e : ℕ} → Saying Is x l → json.Ws w → Span s a (l ++ (w ++ (0x5D ∷ []))) e → Reads (ItemsTo Is (suc k)) s a (read (x ∷ []) e)

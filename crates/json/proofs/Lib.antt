@@ -4,3 +4,4 @@ pub mod Tracks
 pub mod OneEvent
 pub mod FieldSound
 pub mod FieldComplete
+pub mod ObjectSound

@@ -1,7 +1,7 @@
 -- Members one after the other: `Tracks f m g`, behind the members m the fields f have become g. It holds exactly if each field of the seven
 -- either was found in m once, having been missing before, or did not occur in m and is unchanged (`Found`).
 -- Both directions by induction over the members, for every field number at once.
-use Prim.Native.Nat.{ℕ, _<_, _≤_}
+use Prim.Native.Nat.{ℕ, zero, suc, _<_, _≤_}
 use mathlib.Core.Path.{_≡_, refl, sym, ap, _∙_}
 use mathlib.Core.Bool.{Bool, true, false}
 use mathlib.Core.List.{List, [], _∷_}
@@ -12,14 +12,14 @@ use lib.ListN.{length, set, length-set, List·getD-eq-default}
 use lib.Seq.{ext-getD, getD-set-same, getD-set-other}
 use Rattle.scan.specs.Choice.{pick}
 use Rattle.scan.proofs.Step.{false-true}
-use Rattle.event.specs.Event.{Text, sameText}
+use Rattle.event.specs.Event.{Text, Event, sameText}
 use Rattle.jsontext.specs.Grammar as json
 use Rattle.jsontext.specs.Escape.{unescape}
-use Rattle.json.specs.Meaning.{valuesOf, Once, once, Shallow, no-member, known, ignored}
+use Rattle.json.specs.Meaning.{valuesOf, Once, once, Shallow, no-member, known, ignored, IsEvent, is-event}
 use Rattle.json.specs.Field.{Value, missing, fieldOf}
-use Rattle.json.specs.Object.{Fields, isMissing, field}
-use Rattle.json.proofs.Names.{name, known-number, number-known, same-number, other-number}
-use Rattle.json.proofs.Says.{FieldSays, ignored-says, says-some, says-shallow}
+use Rattle.json.specs.Object.{Fields, noFields, isMissing, field, noneMissing, eventOf}
+use Rattle.json.proofs.Names.{name, by-seven, known-number, number-known, same-number, other-number}
+use Rattle.json.proofs.Says.{FieldSays, ignored-says, says-some, says-shallow, fieldsOf, says-all, all-says}
 
 -- a name that was missing before its member, and what its value says
 pub data Tracks : Fields → json.Members → Fields → Type 0 where
@@ -145,3 +145,39 @@ found-tracks (json.member n v m) f g l l₂ w a =
     then (ap isMissing (List·getD-eq-default f missing (omega arith))) (ignored-says p (shallow-value w p))
     (found-tracks m (set f j missing) g (length-set f j missing ∙ l) l₂ (shallow-behind w)
     (λ k i. behind-found i f g n v m j missing refl (λ e. omega arith) (a k i))))
+
+-- ---- from no field on to an event
+
+not-first : (t x : Bool) → pick t false x ≡ true → (t ≡ false) × (x ≡ true)
+not-first true x h = absurd (false-true h)
+not-first false x h = (refl, h)
+
+none-missing : (f : Fields) (k : ℕ) → noneMissing f ≡ true → k < length f → isMissing (field f k) ≡ false
+unfolding noneMissing
+none-missing [] k t h = absurd (omega arith)
+none-missing (x ∷ f) zero t h = not-first (isMissing x) (noneMissing f) t .0
+none-missing (x ∷ f) (suc k) t h = none-missing f k (not-first (isMissing x) (noneMissing f) t .1) (omega arith)
+
+no-field : (k : ℕ) → k < 7 → field noFields k ≡ missing
+no-field = by-seven (λ (k : ℕ). field noFields k ≡ missing) refl refl refl refl refl refl refl
+
+-- members behind which no field is missing are an event
+pub tracks-event : {m : json.Members} {g : Fields} → Tracks noFields m g → noneMissing g ≡ true → IsEvent (json.Json.object m) (eventOf g)
+tracks-event {m} {g} t n =
+    let y = all-says g (λ k h. said h (tracks-found h refl t)) in
+    is-event (y .0) (y .1) (tracks-shallow t)
+  where
+    said : {k : ℕ} → k < 7 → Found k noFields m g → Once m (name k) (FieldSays k) (field g k)
+    said {k} h (kept e q) =
+        let z = none-missing g k n (omega (arith, tracks-length t)) in
+        absurd (false-true (sym z ∙ ap isMissing (q ∙ no-field k h)))
+    said h (came z o) = o
+
+-- and the members of an event leave its fields
+pub event-tracks : {m : json.Members} {e : Event} → IsEvent (json.Json.object m) e → Tracks noFields m (fieldsOf e)
+event-tracks {m} {e} (is-event y v w) =
+    found-tracks m noFields (fieldsOf e) refl refl w (λ k h. came (ap isMissing (no-field k h)) (says-all y v k h))
+
+pub fields-there : (e : Event) → noneMissing (fieldsOf e) ≡ true
+unfolding noneMissing
+fields-there e = refl
