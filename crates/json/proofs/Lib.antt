@@ -5,3 +5,5 @@ pub mod OneEvent
 pub mod FieldSound
 pub mod FieldComplete
 pub mod ObjectSound
+pub mod ObjectComplete
+pub mod Whole

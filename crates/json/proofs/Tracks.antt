@@ -181,3 +181,10 @@ event-tracks {m} {e} (is-event y v w) =
 pub fields-there : (e : Event) → noneMissing (fieldsOf e) ≡ true
 unfolding noneMissing
 fields-there e = refl
+
+-- an object with no member is no event
+pub no-event : {e : Event} → IsEvent (json.Json.object json.no-member) e → ⊥
+no-event (is-event y v w) = go (y .id)
+  where
+    go : {A : Type 0} {Is : json.Json → A → Type 0} {t : Text} {x : A} → Once json.no-member t Is x → ⊥
+    go {t = t} (once e g) = no-one (sym (values-none t) ∙ e)
