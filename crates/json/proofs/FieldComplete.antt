@@ -1,12 +1,11 @@
 -- Completeness of each field: a value of the grammar that says x of a field, within its limit, is read as x, to its end.
 -- Each definition of `specs/Field` is rewritten by the *accepts* of its tokens; arrays once for every kind of item.
-use Prim.Native.Nat.{ℕ, zero, suc, _+_, _*_, _-_, _<_, _≤_}
+use Prim.Native.Nat.{ℕ, zero, suc, _+_, _*_, _≤_}
 use mathlib.Core.Path.{_≡_, refl, sym, ap, _∙_}
-use mathlib.Core.Bool.{Bool, true, false}
+use mathlib.Core.Bool.{true}
 use mathlib.Core.List.{List, [], _∷_}
 use native.Mathlib.Omega.{arith}
 use lib.ListN.{length, getD}
-use lib.Dec.{eqb}
 use borrow.Author.Tests.{le-leb, eq-eqb, ne-eqb}
 use Rattle.scan.specs.Choice.{Answer, Read, read}
 use Rattle.scan.specs.Place as place

@@ -1,18 +1,18 @@
 -- Soundness of each field: what is read of its value stands there by the grammar, says what was read, and keeps its limit.
 -- A walk over the definitions of `specs/Field`; arrays once for every kind of item.
-use Prim.Native.Nat.{ℕ, zero, suc, _+_, _*_, _-_, _/_, _%_, _<_, _≤_}
-use mathlib.Core.Path.{_≡_, refl, sym, ap, _∙_}
-use mathlib.Core.Bool.{Bool, true, false}
+use Prim.Native.Nat.{ℕ, zero, suc, _+_, _*_, _-_, _<_, _≤_}
+use mathlib.Core.Path.{_≡_, refl, sym}
+use mathlib.Core.Bool.{true, false}
 use mathlib.Core.List.{List, [], _∷_, _++_, append-assoc}
 use native.Mathlib.Omega.{arith}
 use lib.ListN.{length, getD, take, drop}
 use lib.Seq.{take-at}
 use lib.Dec.{leb, eqb}
 use borrow.Author.Tests.{leb-true, eqb-true, eqb-false}
-use Rattle.scan.specs.Choice.{pick, Answer, refused, Read, read, andThen}
+use Rattle.scan.specs.Choice.{pick, Answer, refused, Read, read}
 use Rattle.scan.specs.Span.{Span, here, All}
 use Rattle.scan.specs.Span as span
-use Rattle.scan.proofs.Step.{pick-true, false-true}
+use Rattle.scan.proofs.Step.{pick-true}
 use Rattle.scan.proofs.SpanLaws.{join, bite, span-length, from-span}
 use Rattle.scan.proofs.Reading.{Reads, reads, fails, pick-reads, then-reads, from-reads}
 use Rattle.utf8.specs.Utf8.{Utf8}
@@ -25,9 +25,9 @@ use Rattle.jsontext.specs.declared.Spelled.{Spelled}
 use Rattle.jsontext.specs.Grammar as json
 use Rattle.jsontext.specs.Escape.{unescape}
 use Rattle.jsontext.specs.Token.{Done, spaceAt}
-use Rattle.jsontext.specs.Value.{valueAt}
 use Rattle.jsontext.proofs.TokenLaws.{bind, space-consumes, number-consumes}
 use Rattle.jsontext.proofs.TextLaws.{StringAt, string-is, string-consumes, quoted-part}
+use Rattle.jsontext.proofs.FirstByte.{begins-value, some-bytes}
 use Rattle.jsontext.proofs.ValueSound.{Some, some, value-consumes}
 use Rattle.jsontext.proofs.Meaning.{unescape-utf8}
 use Rattle.json.specs.Meaning.{IsText, is-text, IsHex, is-hex, IsNumber, is-number, Each, none, also, IsArray, is-array, IsTag}
@@ -230,3 +230,17 @@ field-says k s a =
 
     beyond : {x : Done} {l : List ℕ} {e : ℕ} → 7 ≤ k → Some 16 x l → Span s a l e → Reads (Saying (FieldSays k)) s a (read missing e)
     beyond h (some g n) r = reads (saying g (ignored-says h n)) r
+
+-- ---- what is read takes a byte or more, and ends within the input
+
+pub says-bytes : {A : Type 0} {Is : json.Json → A → Type 0} {s : List ℕ} {a e : ℕ} {x : A} → Reads (Saying Is) s a (read x e) → (a < e) × (e ≤ length s)
+says-bytes (reads (saying g y) r) = some-bytes (begins-value g) r
+
+pub text-some : (s : List ℕ) (a : ℕ) {e : ℕ} {t : Text} → textAt s a ≡ read t e → (a < e) × (e ≤ length s)
+text-some s a f = says-bytes (rw f at (text-says s a))
+
+pub tag-some : (s : List ℕ) (a : ℕ) {e : ℕ} {t : Tag} → tagAt s a ≡ read t e → (a < e) × (e ≤ length s)
+tag-some s a f = says-bytes (rw f at (tag-says s a))
+
+pub field-some : (k : ℕ) (s : List ℕ) (a : ℕ) {e : ℕ} {x : Value} → fieldAt k s a ≡ read x e → (a < e) × (e ≤ length s)
+field-some k s a f = says-bytes (rw f at (field-says k s a))

@@ -7,3 +7,4 @@ pub mod FieldComplete
 pub mod ObjectSound
 pub mod ObjectComplete
 pub mod Whole
+pub mod Example

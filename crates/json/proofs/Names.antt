@@ -1,12 +1,11 @@
 -- The seven names and their numbers: a text has the number k exactly if it is the name of field k, and 7 exactly if it is none of the seven.
 -- By the steps of `indexIn`; that the seven differ from each other is found by computation.
-use Prim.Native.Nat.{ℕ, zero, suc, _<_, _≤_}
+use Prim.Native.Nat.{ℕ, zero, suc, _<_}
 use mathlib.Core.Path.{_≡_, refl, sym, ap, _∙_}
 use mathlib.Core.Bool.{Bool, true, false}
 use mathlib.Core.List.{List, [], _∷_}
 use native.Mathlib.Omega.{arith}
 use lib.ListN.{length, getD}
-use Rattle.scan.specs.Choice.{pick}
 use Rattle.scan.proofs.Step.{pick-by}
 use Rattle.event.specs.Event.{Text, sameText}
 use Rattle.event.proofs.Laws.{same-text, text-same}

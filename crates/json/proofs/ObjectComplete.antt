@@ -1,15 +1,15 @@
 -- Completeness of the object: an object of the grammar whose tree is an event is read as that event, to its closing brace.
 -- Along the members with the fields that they leave (`Tracks`); each member takes a byte, so the input's length is fuel enough.
 use Prim.Native.Nat.{ℕ, zero, suc, _+_, _<_, _≤_}
-use mathlib.Core.Path.{_≡_, refl, sym, ap, _∙_}
-use mathlib.Core.Bool.{Bool, true, false}
-use mathlib.Core.List.{List, [], _∷_}
+use mathlib.Core.Path.{_≡_, sym, ap, _∙_}
+use mathlib.Core.Bool.{true}
+use mathlib.Core.List.{List}
 use native.Mathlib.Omega.{arith}
 use lib.ListN.{length, getD, set, length-append}
-use lib.Dec.{eqb}
 use Rattle.scan.specs.Choice.{Answer, Read, read}
 use Rattle.scan.specs.Span.{Span, step}
 use Rattle.scan.proofs.SpanLaws.{cut, close-span, span-length, span-fits}
+use Rattle.scan.proofs.Reading.{read-same}
 use Rattle.event.specs.Event.{Event}
 use Rattle.jsontext.specs.Grammar as json
 use Rattle.jsontext.specs.Escape.{unescape}
@@ -19,7 +19,7 @@ use Rattle.jsontext.proofs.FirstByte.{first-at, begins-value, begins-members}
 use Rattle.jsontext.proofs.ValueComplete.{ws-stop, not-space, separator-accepts, separator-stop, comma-solid, colon-solid, brace-solid}
 use Rattle.json.specs.Meaning.{IsEvent, is-event}
 use Rattle.json.specs.Field.{Value, fieldOf}
-use Rattle.json.specs.Object.{Fields, noFields, isMissing, field, colonAt, memberAt, noneMissing, eventOf, closeAt, afterMember, membersAt, insideAt, objectAt}
+use Rattle.json.specs.Object.{Fields, isMissing, field, colonAt, memberAt, noneMissing, eventOf, closeAt, afterMember, membersAt, insideAt, objectAt}
 use Rattle.json.proofs.Says.{FieldSays, fieldsOf, event-fields}
 use Rattle.json.proofs.Tracks.{Tracks, no-more, then, no-event, event-tracks, fields-there}
 use Rattle.json.proofs.FieldComplete.{quoted-accepts, field-accepts}
@@ -81,3 +81,8 @@ object-accepts {e = e} {s = s} {c = c} (json.is-object {m = m} {w = w} {l = l} {
     (space-accepts k (y .1) (not-space 0x7D (z .0) brace-solid)) (z .0) (omega (arith, p, span-length (u .1), span-fits (v .1)))
     ∙ ap (read (eventOf (fieldsOf e))) (sym (z .1))
     ∙ ap (λ (d : Event). read d c) (event-fields e))
+
+-- two objects at one place that are events are one event, and end alike
+pub object-one : {v w : json.Json} {d e : Event} {s l m : List ℕ} {a b c : ℕ} → json.Spells v l → IsEvent v d → Span s a l b → json.Spells w m → IsEvent w e → Span s a m c
+    → (d ≡ e) × (b ≡ c)
+object-one g p r h q t = read-same (sym (object-accepts g p r) ∙ object-accepts h q t)

@@ -1,26 +1,27 @@
 -- Soundness of the object: what is read as an event stands there as an object of the grammar, and the object's tree is that event.
 -- A walk over the definitions of `specs/Object`: the members read are tracked (`Tracks`), and tracked members say their event.
-use Prim.Native.Nat.{ℕ, zero, suc, _+_, _≤_}
-use mathlib.Core.Path.{_≡_, refl, sym, ap, _∙_}
-use mathlib.Core.Bool.{Bool, true, false}
+use Prim.Native.Nat.{ℕ, zero, suc, _+_, _<_, _≤_}
+use mathlib.Core.Path.{_≡_, refl}
+use mathlib.Core.Bool.{true}
 use mathlib.Core.List.{List, [], _∷_, _++_, append-assoc}
 use lib.ListN.{length, getD, set}
 use lib.Dec.{eqb}
-use Rattle.scan.specs.Choice.{pick, refused, Read, read}
+use Rattle.scan.specs.Choice.{pick, refused, read}
 use Rattle.scan.specs.Span.{Span, here}
 use Rattle.scan.proofs.SpanLaws.{join, bite}
-use Rattle.scan.proofs.Reading.{Reads, reads, fails, pick-reads, then-reads, from-reads, shown-reads}
+use Rattle.scan.proofs.Reading.{Reads, reads, fails, pick-reads, then-reads, from-reads}
 use Rattle.event.specs.Event.{Text, Event}
 use Rattle.jsontext.specs.Grammar as json
 use Rattle.jsontext.specs.Escape.{unescape}
 use Rattle.jsontext.specs.Token.{spaceAt}
 use Rattle.jsontext.proofs.TokenLaws.{bind, space-consumes}
+use Rattle.jsontext.proofs.FirstByte.{begins-member, some-bytes}
 use Rattle.json.specs.Meaning.{IsEvent}
 use Rattle.json.specs.Field.{Value, fieldOf}
 use Rattle.json.specs.Object.{Fields, noFields, isMissing, field, colonAt, memberAt, noneMissing, eventOf, closeAt, afterMember, membersAt, insideAt, objectAt}
 use Rattle.json.proofs.Says.{FieldSays}
 use Rattle.json.proofs.Tracks.{Tracks, no-more, then, tracks-event}
-use Rattle.json.proofs.FieldSound.{Saying, saying, Quotes, quotes, text-consumes, field-says}
+use Rattle.json.proofs.FieldSound.{Saying, saying, Quotes, quotes, text-consumes, field-says, says-bytes}
 
 -- ---- a member
 
@@ -54,6 +55,13 @@ member-consumes f s a = then-reads _ (text-consumes s a) (λ t q e g r. named g 
         (λ x l e₂ y r₂. valued g (json.separator h h₂) i y (join r (join (join p (bite 0x3A refl t q₂)) r₂)))))
         (λ u. fails)))
         (λ u. fails)
+
+-- a member that is read takes a byte or more, and ends within the input
+pub member-some : (f : Fields) (s : List ℕ) (a : ℕ) {g : Fields} {e : ℕ} → memberAt f s a ≡ read g e → (a < e) × (e ≤ length s)
+member-some f s a q = go (rw q at (member-consumes f s a))
+  where
+    go : {g : Fields} {e : ℕ} → Reads (MemberTo f) s a (read g e) → (a < e) × (e ≤ length s)
+    go (reads (member-to g i y) r) = some-bytes (begins-member g) r
 
 -- ---- members up to the closing brace
 
@@ -116,3 +124,7 @@ object-reads {s} {a} f = go (rw f at (object-consumes s a))
   where
     go : {c : ℕ} {e : Event} → Reads (Saying IsEvent) s a (read e c) → (v : json.Json) × (l : List ℕ) × json.Spells v l × Span s a l c × IsEvent v e
     go (reads {l = l} (saying {v = v} g y) r) = (v, l, g, r, y)
+
+-- it takes a byte or more, and ends within the input
+pub object-some : (s : List ℕ) (a : ℕ) {e : ℕ} {d : Event} → objectAt s a ≡ read d e → (a < e) × (e ≤ length s)
+object-some s a f = says-bytes (rw f at (object-consumes s a))

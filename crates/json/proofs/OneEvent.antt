@@ -1,15 +1,15 @@
 -- At most one event for a text, by the grammar alone: a JSON text spells one value, and a value is one event.
 -- White space before the value ends where the value begins, so two values of one text start alike; what a value says is told by its shape.
-use Prim.Native.Nat.{ℕ, _+_, _≤_}
-use mathlib.Core.Path.{_≡_, refl, sym, ap, _∙_}
-use mathlib.Core.List.{List, [], _∷_, _++_}
+use Prim.Native.Nat.{ℕ}
+use mathlib.Core.Path.{_≡_, refl, sym, _∙_}
+use mathlib.Core.List.{List, [], _∷_}
 use native.Mathlib.Omega.{arith}
 use lib.ListN.{length, getD}
 use Rattle.scan.specs.Span.{Span, IsBytes}
 use Rattle.scan.proofs.Step.{byte-none}
 use Rattle.scan.proofs.SpanLaws.{cut, input-span}
 use Rattle.hex.proofs.Texts.{hexes-injective}
-use Rattle.event.specs.Event.{Text, Event, Valid}
+use Rattle.event.specs.Event.{Text, Event}
 use Rattle.event.proofs.Laws.{all-seven}
 use Rattle.jsontext.specs.Grammar as json
 use Rattle.jsontext.specs.Token.{spaceAt}
@@ -17,7 +17,7 @@ use Rattle.jsontext.proofs.TokenLaws.{Stop, stop-end, space-accepts}
 use Rattle.jsontext.proofs.FirstByte.{first-at, begins-value}
 use Rattle.jsontext.proofs.ValueComplete.{ws-stop}
 use Rattle.jsontext.proofs.Unambiguous.{one-at}
-use Rattle.json.specs.Meaning.{IsText, is-text, IsHex, is-hex, IsNumber, is-number, Each, none, also, IsArray, is-array, IsTag, Once, once, Says, IsEvent, is-event}
+use Rattle.json.specs.Meaning.{IsText, is-text, IsHex, is-hex, IsNumber, is-number, Each, none, also, IsArray, is-array, Once, once, IsEvent, is-event}
 
 -- ---- a text is one value
 

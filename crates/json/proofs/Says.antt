@@ -1,18 +1,16 @@
 -- What the seven fields say, for every field number at once: `FieldSays k v x`, the value v says x of field k, within its limit.
 -- So the record `Says` with `Valid` is one statement for all k below 7, and what holds of it is proved once.
 use Prim.Native.Nat.{ℕ, _<_, _≤_}
-use mathlib.Core.Path.{_≡_, refl, sym, ap, _∙_}
-use mathlib.Core.Bool.{Bool, true, false}
+use mathlib.Core.Path.{_≡_, refl}
+use mathlib.Core.Bool.{false}
 use mathlib.Core.List.{List, [], _∷_}
 use native.Mathlib.Omega.{arith}
 use lib.ListN.{length}
-use lib.Seq.{ext-getD}
 use Rattle.scan.specs.Span.{All}
 use Rattle.utf8.specs.Utf8.{Utf8}
-use Rattle.hex.proofs.Texts.{hexes-injective}
 use Rattle.event.specs.Event.{Text, Tag, Event, Bytes, ValidTag, Valid}
 use Rattle.jsontext.specs.Grammar as json
-use Rattle.json.specs.Meaning.{IsText, is-text, IsHex, is-hex, IsNumber, is-number, Each, none, also, IsArray, is-array, IsTag, Once, once, Says}
+use Rattle.json.specs.Meaning.{IsText, IsHex, IsNumber, IsArray, IsTag, Once, once, Says}
 use Rattle.json.specs.Field.{Value, missing, bytes, number, tags, text}
 use Rattle.json.specs.Object.{Fields, isMissing, field, bytesIn, numberIn, tagsIn, textIn, eventOf}
 use Rattle.json.proofs.Names.{name, by-seven}

@@ -1,9 +1,10 @@
 -- The reader and the meaning are one: `readJson` shows an event exactly if the input is a JSON text whose tree is that event, of at most 65,536 bytes.
 -- The object's two laws, with the white space around it and the input's end.
-use Prim.Native.Nat.{ℕ, _+_, _≤_}
-use mathlib.Core.Path.{_≡_, refl, sym, ap, _∙_}
-use mathlib.Core.Bool.{Bool, true, false}
-use mathlib.Core.List.{List, [], _∷_, _++_}
+use Prim.Native.Nat.{ℕ, _≤_}
+use mathlib.Core.Path.{_≡_, refl}
+use mathlib.Core.Bool.{false}
+use mathlib.Core.List.{List, _++_}
+use mathlib.Core.Logic.{_↔_}
 use native.Mathlib.Omega.{arith}
 use lib.ListN.{length, getD}
 use lib.Dec.{leb, eqb}
@@ -19,7 +20,7 @@ use Rattle.jsontext.specs.Token.{isSpace, spaceAt}
 use Rattle.jsontext.proofs.TokenLaws.{bind, space-consumes, space-accepts}
 use Rattle.jsontext.proofs.FirstByte.{first-at, begins-value}
 use Rattle.json.specs.Meaning.{IsEvent}
-use Rattle.json.specs.Object.{objectAt, wholeAt, readJson}
+use Rattle.json.specs.Object.{wholeAt, readJson}
 use Rattle.json.proofs.FieldSound.{Saying, saying}
 use Rattle.json.proofs.ObjectSound.{object-consumes}
 use Rattle.json.proofs.ObjectComplete.{object-accepts}
@@ -79,3 +80,7 @@ complete {v} {s} {e} (json.text {w = w} {l = l} {x = x} g h k) y n =
       space-accepts k (z .2) (end-solid s),
       eq-eqb (length s) (length s) refl,
     )
+
+-- the two together
+pub exactly : (s : List ℕ) (e : Event) → (readJson s ≡ shown e) ↔ Shows s e
+exactly s e = ((λ f. sound f), (λ h. complete (h .text) (h .event) (h .short)))
