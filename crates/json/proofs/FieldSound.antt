@@ -178,7 +178,7 @@ array-apart (is-array y) = let u = each-apart y in (is-array (u .0), u .1)
 
 pub tag-says : (s : List ℕ) (a : ℕ) → Reads (Saying (Within IsTag ValidTag)) s a (tagAt s a)
 unfolding tagAt oneOrMore
-tag-says s a = then-reads (oneOrMore a) (array-says (Within IsText Utf8) s (textAt s) (text-says s) 254 a) (λ t l e y r. told y r)
+tag-says s a = then-reads (oneOrMore a) (array-says (Within IsText Utf8) s (textAt s) (text-says s) _ a) (λ t l e y r. told y r)
   where
     told : {t : Tag} {l : List ℕ} {e : ℕ} → Saying (Within (IsArray (Within IsText Utf8)) (λ (xs : Tag). length xs ≤ 255)) t l → Span s a l e
         → Reads (Saying (Within IsTag ValidTag)) s a (oneOrMore a (record { value = t; next = e }))
@@ -191,7 +191,7 @@ tag-says s a = then-reads (oneOrMore a) (array-says (Within IsText Utf8) s (text
 
 pub tags-say : (s : List ℕ) (a : ℕ) → Reads (Saying (Within (IsArray (Within IsTag ValidTag)) (λ (l : List Tag). length l ≤ 1_000))) s a (tagsAt s a)
 unfolding tagsAt
-tags-say s a = array-says (Within IsTag ValidTag) s (tagAt s) (tag-says s) 999 a
+tags-say s a = array-says (Within IsTag ValidTag) s (tagAt s) (tag-says s) _ a
 
 -- ---- the seven fields
 
@@ -207,21 +207,21 @@ apart f (within y p) = f y p
 pub field-says : (k : ℕ) (s : List ℕ) (a : ℕ) → Reads (Saying (FieldSays k)) s a (fieldAt k s a)
 unfolding fieldAt
 field-says k s a =
-    pick-reads (eqb k 0) (λ t. rw (eqb-true k 0 t) (under-reads bytes (λ v b. apart id-says) (hex-says 32 s a)))
+    pick-reads (eqb k 0) (λ t. rw (eqb-true k 0 t) (under-reads bytes (λ v b. apart id-says) (hex-says _ s a)))
     (λ n₀.
-    pick-reads (eqb k 1) (λ t. rw (eqb-true k 1 t) (under-reads bytes (λ v b. apart pubkey-says) (hex-says 32 s a)))
+    pick-reads (eqb k 1) (λ t. rw (eqb-true k 1 t) (under-reads bytes (λ v b. apart pubkey-says) (hex-says _ s a)))
     (λ n₁.
-    pick-reads (eqb k 2) (λ t. rw (eqb-true k 2 t) (under-reads bytes (λ v b. apart sig-says) (hex-says 64 s a)))
+    pick-reads (eqb k 2) (λ t. rw (eqb-true k 2 t) (under-reads bytes (λ v b. apart sig-says) (hex-says _ s a)))
     (λ n₂.
-    pick-reads (eqb k 3) (λ t. rw (eqb-true k 3 t) (under-reads number (λ v n. apart time-says) (whole-says 9_223_372_036_854_775 7 s a)))
+    pick-reads (eqb k 3) (λ t. rw (eqb-true k 3 t) (under-reads number (λ v n. apart time-says) (whole-says _ _ s a)))
     (λ n₃.
-    pick-reads (eqb k 4) (λ t. rw (eqb-true k 4 t) (under-reads number (λ v n. apart kind-says) (whole-says 65_535 6 s a)))
+    pick-reads (eqb k 4) (λ t. rw (eqb-true k 4 t) (under-reads number (λ v n. apart kind-says) (whole-says _ _ s a)))
     (λ n₄.
     pick-reads (eqb k 5)
     (λ t. rw (eqb-true k 5 t) (under-reads tags (λ v l. apart (λ y n. let u = array-apart y in tags-says (u .0) n (u .1))) (tags-say s a)))
     (λ n₅.
     pick-reads (eqb k 6) (λ t. rw (eqb-true k 6 t) (under-reads text (λ v x. apart content-says) (text-says s a)))
-    (λ n₆. then-reads (λ x. read missing (x .next)) (value-consumes 16 s a) (λ x l e y r. beyond (seven n₀ n₁ n₂ n₃ n₄ n₅ n₆) y r))))))))
+    (λ n₆. then-reads (λ x. read missing (x .next)) (value-consumes _ s a) (λ x l e y r. beyond (seven n₀ n₁ n₂ n₃ n₄ n₅ n₆) y r))))))))
   where
     seven : eqb k 0 ≡ false → eqb k 1 ≡ false → eqb k 2 ≡ false → eqb k 3 ≡ false → eqb k 4 ≡ false → eqb k 5 ≡ false → eqb k 6 ≡ false → 7 ≤ k
     seven n₀ n₁ n₂ n₃ n₄ n₅ n₆ =

@@ -77,7 +77,7 @@ object-accepts {e = e} {s = s} {c = c} (json.is-object {m = m} {w = w} {l = l} {
     let z = close-span (y .2) in
     let f = first-at (begins-members gs) (v .1) in
     rw (q, space-accepts g (u .1) (f .solid), f .no-brace)
-    (members-accept (length s) gs (event-tracks (is-event y₀ v₀ w₀)) (fields-there e) (v .1) (ws-stop k (y .1) (rw (z .0) stop-brace))
+    (members-accept _ gs (event-tracks (is-event y₀ v₀ w₀)) (fields-there e) (v .1) (ws-stop k (y .1) (rw (z .0) stop-brace))
     (space-accepts k (y .1) (not-space 0x7D (z .0) brace-solid)) (z .0) (omega (arith, p, span-length (u .1), span-fits (v .1)))
     ∙ ap (read (eventOf (fieldsOf e))) (sym (z .1))
     ∙ ap (λ (d : Event). read d c) (event-fields e))

@@ -112,7 +112,7 @@ object-consumes s a =
     (λ w h q.
     let p = spaceAt s (a + 1) in
     pick-reads (eqb (getD s p 0) 0x7D) (λ u. fails)
-    (λ u. from-reads (members-consume (length s) noFields s p) (λ d m e ys r. closed h ys (bite 0x7B refl t (join q r))))))
+    (λ u. from-reads (members-consume _ noFields s p) (λ d m e ys r. closed h ys (bite 0x7B refl t (join q r))))))
     (λ u. fails)
   where
     closed : {d : Event} {w m : List ℕ} {e : ℕ} → json.Ws w → MembersTo noFields d m → Span s a (0x7B ∷ (w ++ m)) e → Reads (Saying IsEvent) s a (read d e)
