@@ -49,6 +49,7 @@ module _ (s : List ℕ) (f g : Fields) where
   member-more X zero n a b c d h e i j o r = absurd (omega arith)
   member-more X (suc k) n a b c d h e i j o r = rw (e, i, j, o) (r k (omega arith))
 
+-- general: crate jsontext has it for itself
 separator-some : {k : ℕ} {l : List ℕ} → json.Separator k l → 1 ≤ length l
 separator-some (json.separator {w = w} {x = x} g h) = simp length-append (omega arith)
 

@@ -25,10 +25,11 @@ use Rattle.json.specs.Meaning.{IsText, is-text, IsHex, is-hex, IsNumber,
 pub data ValueIn (s : List ℕ) (v : json.Json) : Type 0 where
   value-in : {l : List ℕ} {e : ℕ} → json.Spells v l → Span s (spaceAt s 0) l e → Stop (getD s e 0) → ValueIn s v
 
--- the end of the input stops a number
+-- general: belongs to crate jsontext. The end of the input stops a number.
 pub end-stops : (s : List ℕ) → Stop (getD s (length s) 0)
 end-stops s = rw (byte-none s (length s) (omega arith)) stop-end
 
+-- general: belongs to crate jsontext
 pub text-value : {v : json.Json} {s : List ℕ} → json.Text v s → ValueIn s v
 text-value {v} {s} (json.text {w = w} {l = l} {x = x} g h k) =
     let u = cut w (input-span s) in
@@ -36,7 +37,7 @@ text-value {v} {s} (json.text {w = w} {l = l} {x = x} g h k) =
     let e = space-accepts g (u .1) (first-at (begins-value h) (y .1) .solid) in
     value-in {e = y .0} h (rw e (y .1)) (ws-stop k (y .2) (end-stops s))
 
--- THE unambiguity of a text: it spells at most one value
+-- THE unambiguity of a text, general: belongs to crate jsontext. A JSON text spells at most one value.
 pub one-value : {v w : json.Json} {s : List ℕ} → json.Text v s → json.Text w s → v ≡ w
 one-value g h = go (text-value g) (text-value h)
   where

@@ -1,5 +1,4 @@
--- Members one after the other: `Tracks f m g`, behind the members m the fields f have become g. It holds exactly if each field of the seven
--- either was found in m once, having been missing before, or did not occur in m and is unchanged (`Found`).
+-- `Tracks f m g`: behind the members m the fields f have become g. So it is exactly if each of the seven stands once in m, having been missing, or not at all (`Found`).
 -- Both directions by induction over the members, for every field number at once.
 use Prim.Native.Nat.{ℕ, zero, suc, _<_, _≤_}
 use mathlib.Core.Path.{_≡_, refl, sym, ap, _∙_}
@@ -148,6 +147,7 @@ found-tracks (json.member n v m) f g l l₂ w a =
 
 -- ---- from no field on to an event
 
+-- general: belongs to crate scan (crate hex has it for itself)
 not-first : (t x : Bool) → pick t false x ≡ true → (t ≡ false) × (x ≡ true)
 not-first true x h = absurd (false-true h)
 not-first false x h = (refl, h)

@@ -63,6 +63,7 @@ sound {s} f = shown-gives (rw f at (read-shows s))
 
 -- ---- complete
 
+-- general: belongs to crate jsontext. No white space stands behind the end.
 end-solid : (s : List ℕ) → isSpace (getD s (length s) 0) ≡ false
 unfolding isSpace
 end-solid s = rw (byte-none s (length s) (omega arith))
