@@ -1,0 +1,10 @@
+pub mod Names
+pub mod Says
+pub mod Tracks
+pub mod OneEvent
+pub mod FieldSound
+pub mod FieldComplete
+pub mod ObjectSound
+pub mod ObjectComplete
+pub mod Whole
+pub mod Example
