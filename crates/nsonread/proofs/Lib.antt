@@ -1,0 +1,5 @@
+pub mod Laws
+pub mod Decimals
+pub mod Counting
+pub mod Sizing
+pub mod Turns

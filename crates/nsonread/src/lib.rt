@@ -1,6 +1,19 @@
 // The NSON reader. It follows the counts and checks every byte that they count; only then is the strict form written.
 use decimal::DecimalRead;
 use event::Refusal;
+ghost use Prim.Native.Nat.{_+_, _*_, _≤_};
+ghost use mathlib.Core.Path.{_≡_};
+ghost use mathlib.Core.Bool.{false};
+ghost use lib.ListN.{length};
+ghost use Rattle.scan.specs.Choice.{andThen, read, many};
+ghost use Rattle.store.specs.Store.{Wrote};
+ghost use Rattle.store.specs.Entry.{writes, leaves};
+ghost use Rattle.varint.specs.Uleb.{uleb};
+ghost use Rattle.notepack.specs.Strict.{packElement, packElements, packTag, packTags, pack};
+ghost use Rattle.nson.specs.Read.{pieceAt, hexAt, labelledAt, decimalAt, textAt, keysAt, timeAt, headAt, byteHere, wordHere, descriptorAt, wordCountAt, kindCountAt, itemCountAt, tagCountsAt, countsTo, countsAt, kindAt, commaAt, itemsAt, itemAt, tagAt, tagsAt, kindPartAt, contentPartAt, tagsPartAt, bodyAt, readNson};
+ghost use Rattle.nsonread.specs.Walk.{nextOf, sized, itemSizes, tagSizes, sizesOf, countsOf, bodySize, walkAt};
+ghost use Rattle.nsonread.specs.Copy.{itemsText, itemsEnd, tagsText, contentPlace, contentText, frontText, wholeText};
+ghost use Rattle.nsonread.specs.Answers.{nsonRead, skip, numberRead, sizesRead, bodyRead, walk, numberIn, sizesIn, placeIn, tagsIn};
 
 pub enum NsonRead {
     Written(usize),
@@ -42,11 +55,9 @@ enum SizesRead {
     Refused(Refusal),
 }
 
-// The kind, where the content stands, and the length of the tags' strict form.
+// The kind, and the length of the tags' strict form.
 struct Body {
     kind: usize,
-    content_at: usize,
-    content_end: usize,
     tags_len: usize,
 }
 
@@ -58,8 +69,9 @@ enum BodyRead {
 // What is left to write once nothing is refused any more, and how long it will be.
 struct Walked {
     created_at: usize,
+    kind: usize,
     sizes: Sizes,
-    body: Body,
+    body_at: usize,
     len: usize,
 }
 
@@ -78,7 +90,9 @@ struct Copied {
 
 impl Cursor {
     // A fixed piece.
-    fn piece(self, s: &[u8], w: &[u8], number: u8) -> Skip {
+    fn piece(self, s: &[u8], w: &[u8], number: u8) -> Skip
+        ensures { λ r. ⌜ skip r ≡ pieceAt number (now (w .entry)) (now (s .entry)) (self .at) ⌝ }
+    {
         let at = self.at;
         if scan::stands_at(w, s, at) {
             return Skip::Past(Cursor { at: at + w.len() });
@@ -86,14 +100,20 @@ impl Cursor {
         Skip::Refused(Refusal { number, place: at })
     }
 
-    // n bytes in lowercase hex.
-    fn hex(self, s: &[u8], n: usize) -> Skip {
+    // n lowercase hex digits.
+    fn hex(self, s: &[u8], n: usize) -> Skip
+        ensures { λ r. ⌜ skip r ≡ hexAt n (now (s .entry)) (self .at) ⌝ }
+    {
         let at = self.at;
-        let l = scan::part(s, at, 2 * n);
-        if l.len() == 2 * n {
+        let l = scan::part(s, at, n);
+        if l.len() == n {
             if hex::all_digits(l) {
-                return Skip::Past(Cursor { at: at + 2 * n });
+                return Skip::Past(Cursor { at: at + n });
             }
+            return Skip::Refused(Refusal {
+                number: event::BAD_PIECE,
+                place: at,
+            });
         }
         Skip::Refused(Refusal {
             number: event::BAD_PIECE,
@@ -101,8 +121,10 @@ impl Cursor {
         })
     }
 
-    // A label, then n bytes in hex.
-    fn labelled(self, s: &[u8], w: &[u8], n: usize) -> Skip {
+    // A label, then n hex digits.
+    fn labelled(self, s: &[u8], w: &[u8], n: usize) -> Skip
+        ensures { λ r. ⌜ skip r ≡ labelledAt (now (w .entry)) n (now (s .entry)) (self .at) ⌝ }
+    {
         let label = self.piece(s, w, event::BAD_PIECE);
         match label {
             Skip::Past(next) => next.hex(s, n),
@@ -111,24 +133,34 @@ impl Cursor {
     }
 
     // A number in n digits, with no leading zero unless it is 0.
-    fn decimal(self, s: &[u8], n: usize, number: u8) -> NumberRead {
+    fn decimal(self, s: &[u8], n: usize, number: u8) -> NumberRead
+        requires { ⌜ n ≤ 10 ⌝ }
+        ensures { λ r. ⌜ numberRead r ≡ decimalAt number n (now (s .entry)) (self .at) ⌝ }
+    {
         let at = self.at;
         let l = scan::part(s, at, n);
-        if l.len() == n {
-            let digits = decimal::Cursor { at: 0 }.decimal(l, 9999999999);
-            if let DecimalRead::Number(value, behind) = digits {
+        let digits = decimal::Cursor { at: 0 }.decimal(l, 9999999999);
+        match digits {
+            DecimalRead::Number(value, behind) => {
                 if behind.at == n {
-                    if decimal::decimal_len(value) == n {
+                    if scan::byte_at(l, 0) != b'0' {
+                        return NumberRead::Number(value as usize, Cursor { at: at + n });
+                    }
+                    if n == 1 {
                         return NumberRead::Number(value as usize, Cursor { at: at + n });
                     }
                 }
+                NumberRead::Refused(Refusal { number, place: at })
             }
+            DecimalRead::Over(_) => NumberRead::Refused(Refusal { number, place: at }),
+            DecimalRead::NoDigit => NumberRead::Refused(Refusal { number, place: at }),
         }
-        NumberRead::Refused(Refusal { number, place: at })
     }
 
     // A text that is counted.
-    fn text(self, s: &[u8], n: usize) -> Skip {
+    fn text(self, s: &[u8], n: usize) -> Skip
+        ensures { λ r. ⌜ skip r ≡ textAt n (now (s .entry)) (self .at) ⌝ }
+    {
         let at = self.at;
         let l = scan::part(s, at, n);
         let fault = counted::fault_in(l);
@@ -151,23 +183,27 @@ impl Cursor {
 // ---- up to the descriptors
 
 // id, pubkey and sig.
-fn keys(s: &[u8]) -> Skip {
-    let id = Cursor { at: 0 }.labelled(s, b"{\"id\":\"", 32);
+fn keys(s: &[u8]) -> Skip
+    ensures { λ r. ⌜ skip r ≡ keysAt (now (s .entry)) ⌝ }
+{
+    let id = Cursor { at: 0 }.labelled(s, b"{\"id\":\"", 64);
     let first = match id {
         Skip::Past(c) => c,
         Skip::Refused(r) => return Skip::Refused(r),
     };
-    let pubkey = first.labelled(s, b"\",\"pubkey\":\"", 32);
+    let pubkey = first.labelled(s, b"\",\"pubkey\":\"", 64);
     let second = match pubkey {
         Skip::Past(c) => c,
         Skip::Refused(r) => return Skip::Refused(r),
     };
-    second.labelled(s, b"\",\"sig\":\"", 64)
+    second.labelled(s, b"\",\"sig\":\"", 128)
 }
 
 impl Cursor {
     // The time: ten digits, the first not 0.
-    fn time(self, s: &[u8]) -> NumberRead {
+    fn time(self, s: &[u8]) -> NumberRead
+        ensures { λ r. ⌜ numberRead r ≡ timeAt (now (s .entry)) (self .at) ⌝ }
+    {
         let label = self.piece(s, b"\",\"created_at\":", event::BAD_PIECE);
         match label {
             Skip::Past(next) => next.decimal(s, 10, event::BAD_PIECE),
@@ -177,7 +213,9 @@ impl Cursor {
 }
 
 // All up to the descriptors, and the time.
-fn head(s: &[u8]) -> NumberRead {
+fn head(s: &[u8]) -> NumberRead
+    ensures { λ r. ⌜ numberRead r ≡ headAt (now (s .entry)) ⌝ }
+{
     let found = keys(s);
     let first = match found {
         Skip::Past(c) => c,
@@ -199,22 +237,38 @@ fn head(s: &[u8]) -> NumberRead {
 // ---- the descriptors: all are checked before the kind
 
 // The byte that two hex digits at a place say.
-fn byte_here(s: &[u8], at: usize) -> usize {
-    let high = hex::value_of(scan::byte_at(s, at)) % 16;
-    let low = hex::value_of(scan::byte_at(s, at + 1)) % 16;
+fn byte_here(s: &[u8], at: usize) -> usize
+    ensures { λ r. ⌜ r ≡ byteHere (now (s .entry)) at ⌝ }
+    ensures { λ r. ⌜ r ≤ 255 ⌝ }
+{
+    let l = scan::part(s, at, 2);
+    let high = hex::value_of(scan::byte_at(l, 0)) % 16;
+    let low = hex::value_of(scan::byte_at(l, 1)) % 16;
     16 * high as usize + low as usize
 }
 
 // The count of two bytes at a place.
-fn word_here(s: &[u8], at: usize) -> usize {
-    256 * byte_here(s, at) + byte_here(s, at + 2)
+fn word_here(s: &[u8], at: usize) -> usize
+    ensures { λ r. ⌜ r ≡ wordHere (now (s .entry)) at ⌝ }
+    ensures { λ r. ⌜ r ≤ 65535 ⌝ }
+{
+    let l = scan::part(s, at, 4);
+    256 * byte_here(l, 0) + byte_here(l, 2)
 }
 
 impl Cursor {
-    // A descriptor of so many bytes that ends at `end` or before.
-    fn descriptor(self, s: &[u8], width: usize, end: usize) -> Skip {
-        if self.at + 2 * width <= end {
-            return self.hex(s, width);
+    // A descriptor of n hex digits that ends at `end` or before.
+    fn descriptor(self, s: &[u8], n: usize, end: usize) -> Skip
+        ensures { λ r. ⌜ skip r ≡ descriptorAt n end (now (s .entry)) (self .at) ⌝ }
+    {
+        if n <= end {
+            if self.at <= end - n {
+                return self.hex(s, n);
+            }
+            return Skip::Refused(Refusal {
+                number: event::COUNT_DISAGREES,
+                place: 318,
+            });
         }
         Skip::Refused(Refusal {
             number: event::COUNT_DISAGREES,
@@ -223,9 +277,12 @@ impl Cursor {
     }
 
     // Kind characters: 1 to 5.
-    fn kind_count(self, s: &[u8], end: usize) -> NumberRead {
+    fn kind_count(self, s: &[u8], end: usize) -> NumberRead
+        ensures { λ r. ⌜ numberRead r ≡ kindCountAt end (now (s .entry)) (self .at) ⌝ }
+        ensures { λ r. ⌜ numberIn r ≤ 5 ⌝ }
+    {
         let at = self.at;
-        let found = self.descriptor(s, 1, end);
+        let found = self.descriptor(s, 2, end);
         match found {
             Skip::Past(next) => {
                 let n = byte_here(s, at);
@@ -244,9 +301,11 @@ impl Cursor {
     }
 
     // A tag's number of items: none is an empty tag.
-    fn item_count(self, s: &[u8], end: usize) -> NumberRead {
+    fn item_count(self, s: &[u8], end: usize) -> NumberRead
+        ensures { λ r. ⌜ numberRead r ≡ itemCountAt end (now (s .entry)) (self .at) ⌝ }
+    {
         let at = self.at;
-        let found = self.descriptor(s, 1, end);
+        let found = self.descriptor(s, 2, end);
         match found {
             Skip::Past(next) => {
                 let n = byte_here(s, at);
@@ -263,11 +322,13 @@ impl Cursor {
     }
 
     // n counts of two bytes.
-    fn item_sizes(self, s: &[u8], n: usize, end: usize) -> Skip {
+    fn item_sizes(self, s: &[u8], n: usize, end: usize) -> Skip
+        ensures { λ r. ⌜ skip r ≡ nextOf (many (wordCountAt end (now (s .entry))) n (self .at)) ⌝ }
+    {
         let mut c = self;
         let mut left = n;
         while 0 < left {
-            let found = c.descriptor(s, 2, end);
+            let found = c.descriptor(s, 4, end);
             match found {
                 Skip::Past(next) => {
                     c = next;
@@ -280,7 +341,9 @@ impl Cursor {
     }
 
     // A tag's counts.
-    fn tag_counts(self, s: &[u8], end: usize) -> Skip {
+    fn tag_counts(self, s: &[u8], end: usize) -> Skip
+        ensures { λ r. ⌜ skip r ≡ nextOf (tagCountsAt end (now (s .entry)) (self .at)) ⌝ }
+    {
         let found = self.item_count(s, end);
         match found {
             NumberRead::Number(n, next) => next.item_sizes(s, n, end),
@@ -289,7 +352,9 @@ impl Cursor {
     }
 
     // The counts of n tags.
-    fn all_tag_counts(self, s: &[u8], n: usize, end: usize) -> Skip {
+    fn all_tag_counts(self, s: &[u8], n: usize, end: usize) -> Skip
+        ensures { λ r. ⌜ skip r ≡ nextOf (many (tagCountsAt end (now (s .entry))) n (self .at)) ⌝ }
+    {
         let mut c = self;
         let mut left = n;
         while 0 < left {
@@ -306,33 +371,38 @@ impl Cursor {
     }
 
     // The counts that end where the size says.
-    fn counts_to(self, s: &[u8], end: usize) -> SizesRead {
+    fn counts_to(self, s: &[u8], end: usize) -> SizesRead
+        ensures { λ r. ⌜ sizesRead r ≡ andThen (countsTo end (now (s .entry)) (self .at)) (λ n. read (sizesOf (n .value)) (n .next)) ⌝ }
+        ensures { λ r. ⌜ sizesIn r .kind ≤ 5 ⌝ }
+        ensures { λ r. ⌜ sizesIn r .content ≤ 65535 ⌝ }
+        ensures { λ r. ⌜ sizesIn r .tags ≤ 255 ⌝ }
+        ensures { λ r. ⌜ placeIn r ≤ end ⌝ }
+    {
         let found = self.kind_count(s, end);
         let first = match found {
             NumberRead::Number(n, next) => Numbered { n, next },
             NumberRead::Refused(r) => return SizesRead::Refused(r),
         };
-        let content_at = first.next.at;
-        let content = first.next.descriptor(s, 2, end);
-        let second = match content {
+        let content_at = first.next;
+        let content = content_at.descriptor(s, 4, end);
+        let tags_at = match content {
             Skip::Past(c) => c,
             Skip::Refused(r) => return SizesRead::Refused(r),
         };
-        let tags_at = second.at;
-        let tags = second.descriptor(s, 1, end);
-        let third = match tags {
+        let tags = tags_at.descriptor(s, 2, end);
+        let second = match tags {
             Skip::Past(c) => c,
             Skip::Refused(r) => return SizesRead::Refused(r),
         };
-        let count = byte_here(s, tags_at);
-        let all = third.all_tag_counts(s, count, end);
+        let count = byte_here(s, tags_at.at);
+        let all = second.all_tag_counts(s, count, end);
         match all {
             Skip::Past(c) => {
                 if c.at == end {
                     return SizesRead::Found(
                         Sizes {
                             kind: first.n,
-                            content: word_here(s, content_at),
+                            content: word_here(s, content_at.at),
                             tags: count,
                         },
                         c,
@@ -349,13 +419,16 @@ impl Cursor {
 }
 
 // The nson field: the size and the descriptors.
-fn counts(s: &[u8]) -> SizesRead {
-    let size = Cursor { at: 318 }.hex(s, 1);
+fn counts(s: &[u8]) -> SizesRead
+    ensures { λ r. ⌜ sizesRead r ≡ andThen (countsAt (now (s .entry))) (λ n. read (sizesOf (n .value)) (n .next)) ⌝ }
+    ensures { λ r. ⌜ sizesIn r .kind ≤ 5 ⌝ }
+    ensures { λ r. ⌜ sizesIn r .content ≤ 65535 ⌝ }
+    ensures { λ r. ⌜ sizesIn r .tags ≤ 255 ⌝ }
+    ensures { λ r. ⌜ placeIn r ≤ 575 ⌝ }
+{
+    let size = Cursor { at: 318 }.hex(s, 2);
     match size {
-        Skip::Past(c) => {
-            let end = c.at + byte_here(s, 318);
-            c.counts_to(s, end)
-        }
+        Skip::Past(_) => Cursor { at: 320 }.counts_to(s, 320 + byte_here(s, 318)),
         Skip::Refused(r) => SizesRead::Refused(r),
     }
 }
@@ -364,7 +437,10 @@ fn counts(s: &[u8]) -> SizesRead {
 
 impl Cursor {
     // The kind, and its range.
-    fn kind(self, s: &[u8], n: usize) -> NumberRead {
+    fn kind(self, s: &[u8], n: usize) -> NumberRead
+        requires { ⌜ n ≤ 10 ⌝ }
+        ensures { λ r. ⌜ numberRead r ≡ kindAt n (now (s .entry)) (self .at) ⌝ }
+    {
         let at = self.at;
         let found = self.decimal(s, n, event::COUNT_DISAGREES);
         match found {
@@ -382,7 +458,9 @@ impl Cursor {
     }
 
     // The comma in front of an item that is not the first.
-    fn comma(self, s: &[u8], later: bool) -> Skip {
+    fn comma(self, s: &[u8], later: bool) -> Skip
+        ensures { λ r. ⌜ skip r ≡ commaAt later (now (s .entry)) (self .at) ⌝ }
+    {
         if later {
             return self.piece(s, b",", event::COUNT_DISAGREES);
         }
@@ -390,13 +468,16 @@ impl Cursor {
     }
 
     // An item, and the length of its strict element.
-    fn item(self, s: &[u8], n: usize) -> NumberRead {
+    fn item(self, s: &[u8], n: usize) -> NumberRead
+        requires { ⌜ n ≤ 65535 ⌝ }
+        ensures { λ r. ⌜ numberRead r ≡ sized packElement 0 (itemAt (now (s .entry)) n (self .at)) ⌝ }
+        ensures { λ r. ⌜ numberIn r ≤ 65545 ⌝ }
+    {
         let quote = self.piece(s, b"\"", event::COUNT_DISAGREES);
         let first = match quote {
             Skip::Past(c) => c,
             Skip::Refused(r) => return NumberRead::Refused(r),
         };
-        let from = first.at;
         let text = first.text(s, n);
         let behind = match text {
             Skip::Past(c) => c,
@@ -404,28 +485,37 @@ impl Cursor {
         };
         let closing = behind.piece(s, b"\"", event::COUNT_DISAGREES);
         match closing {
-            Skip::Past(c) => NumberRead::Number(spelled::element_len(s, from, n), c),
+            Skip::Past(c) => NumberRead::Number(spelled::element_len(s, first.at, n), c),
             Skip::Refused(r) => NumberRead::Refused(r),
         }
     }
 
     // n items, whose counts stand from d on, and the length of their strict elements.
-    fn items(self, s: &[u8], n: usize, d: usize) -> NumberRead {
+    fn items(self, s: &[u8], n: usize, d: usize) -> NumberRead
+        requires { ⌜ n ≤ 255 ⌝ }
+        requires { ⌜ d ≤ 1000000 ⌝ }
+        ensures { λ r. ⌜ numberRead r ≡ sized packElements 0 (itemsAt (itemAt (now (s .entry))) false (itemSizes n (now (s .entry)) d) (now (s .entry)) (self .at)) ⌝ }
+        ensures { λ r. ⌜ numberIn r ≤ 65545 * n ⌝ }
+    {
         let mut c = self;
-        let mut i = 0;
+        let mut left = n;
+        let mut later = false;
+        let mut place = d;
         let mut total = 0;
-        while i < n {
-            let comma = c.comma(s, 0 < i);
+        while 0 < left {
+            let comma = c.comma(s, later);
             let first = match comma {
                 Skip::Past(next) => next,
                 Skip::Refused(r) => return NumberRead::Refused(r),
             };
-            let item = first.item(s, word_here(s, d + 4 * i));
+            let item = first.item(s, word_here(s, place));
             match item {
                 NumberRead::Number(len, next) => {
                     total += len;
                     c = next;
-                    i += 1;
+                    left -= 1;
+                    later = true;
+                    place += 4;
                 }
                 NumberRead::Refused(r) => return NumberRead::Refused(r),
             }
@@ -434,7 +524,12 @@ impl Cursor {
     }
 
     // A tag of n items, and the length of its strict form.
-    fn tag(self, s: &[u8], n: usize, d: usize) -> NumberRead {
+    fn tag(self, s: &[u8], n: usize, d: usize) -> NumberRead
+        requires { ⌜ n ≤ 255 ⌝ }
+        requires { ⌜ d ≤ 1000000 ⌝ }
+        ensures { λ r. ⌜ numberRead r ≡ sized packTag 0 (tagAt (now (s .entry)) (itemSizes n (now (s .entry)) d) (self .at)) ⌝ }
+        ensures { λ r. ⌜ numberIn r ≤ 16713985 ⌝ }
+    {
         let bracket = self.piece(s, b"[", event::COUNT_DISAGREES);
         let first = match bracket {
             Skip::Past(c) => c,
@@ -454,25 +549,32 @@ impl Cursor {
     }
 
     // n tags, whose counts stand from d on, and the length of their strict form.
-    fn tag_list(self, s: &[u8], n: usize, d: usize) -> NumberRead {
+    fn tag_list(self, s: &[u8], n: usize, d: usize) -> NumberRead
+        requires { ⌜ n ≤ 255 ⌝ }
+        requires { ⌜ d ≤ 1000 ⌝ }
+        ensures { λ r. ⌜ numberRead r ≡ sized packTags 0 (itemsAt (tagAt (now (s .entry))) false (tagSizes n (now (s .entry)) d) (now (s .entry)) (self .at)) ⌝ }
+        ensures { λ r. ⌜ numberIn r ≤ 16713985 * n ⌝ }
+    {
         let mut c = self;
-        let mut i = 0;
+        let mut left = n;
+        let mut later = false;
         let mut place = d;
         let mut total = 0;
-        while i < n {
-            let comma = c.comma(s, 0 < i);
+        while 0 < left {
+            let comma = c.comma(s, later);
             let first = match comma {
                 Skip::Past(next) => next,
                 Skip::Refused(r) => return NumberRead::Refused(r),
             };
-            let items = byte_here(s, place);
-            let tag = first.tag(s, items, place + 2);
+            let count = byte_here(s, place);
+            let tag = first.tag(s, count, place + 2);
             match tag {
                 NumberRead::Number(len, next) => {
                     total += len;
                     c = next;
-                    place += 2 + 4 * items;
-                    i += 1;
+                    left -= 1;
+                    later = true;
+                    place += 2 + 4 * count;
                 }
                 NumberRead::Refused(r) => return NumberRead::Refused(r),
             }
@@ -481,13 +583,17 @@ impl Cursor {
     }
 
     // The tags.
-    fn tags(self, s: &[u8], n: usize, d: usize) -> NumberRead {
+    fn tags(self, s: &[u8], n: usize) -> NumberRead
+        requires { ⌜ n ≤ 255 ⌝ }
+        ensures { λ r. ⌜ numberRead r ≡ sized packTags 0 (tagsAt (tagSizes n (now (s .entry)) 328) (now (s .entry)) (self .at)) ⌝ }
+        ensures { λ r. ⌜ numberIn r ≤ 16713985 * n ⌝ }
+    {
         let bracket = self.piece(s, b"[", event::COUNT_DISAGREES);
         let first = match bracket {
             Skip::Past(c) => c,
             Skip::Refused(r) => return NumberRead::Refused(r),
         };
-        let list = first.tag_list(s, n, d);
+        let list = first.tag_list(s, n, 328);
         match list {
             NumberRead::Number(len, behind) => {
                 let closing = behind.piece(s, b"]", event::COUNT_DISAGREES);
@@ -499,9 +605,16 @@ impl Cursor {
             NumberRead::Refused(r) => NumberRead::Refused(r),
         }
     }
+}
 
+// ---- behind the descriptors
+
+impl Cursor {
     // The label and the kind.
-    fn labelled_kind(self, s: &[u8], n: usize) -> NumberRead {
+    fn kind_part(self, s: &[u8], n: usize) -> NumberRead
+        requires { ⌜ n ≤ 10 ⌝ }
+        ensures { λ r. ⌜ numberRead r ≡ kindPartAt n (now (s .entry)) (self .at) ⌝ }
+    {
         let label = self.piece(s, b"\",\"kind\":", event::COUNT_DISAGREES);
         match label {
             Skip::Past(c) => c.kind(s, n),
@@ -509,196 +622,68 @@ impl Cursor {
         }
     }
 
-    // The label and the content, and where it starts.
-    fn labelled_content(self, s: &[u8], n: usize) -> NumberRead {
+    // The label and the content.
+    fn content_part(self, s: &[u8], n: usize) -> Skip
+        ensures { λ r. ⌜ skip r ≡ nextOf (contentPartAt n (now (s .entry)) (self .at)) ⌝ }
+    {
         let label = self.piece(s, b",\"content\":\"", event::COUNT_DISAGREES);
         match label {
-            Skip::Past(c) => {
-                let from = c.at;
-                let text = c.text(s, n);
-                match text {
-                    Skip::Past(next) => NumberRead::Number(from, next),
-                    Skip::Refused(r) => NumberRead::Refused(r),
-                }
-            }
-            Skip::Refused(r) => NumberRead::Refused(r),
+            Skip::Past(c) => c.text(s, n),
+            Skip::Refused(r) => Skip::Refused(r),
         }
     }
 
     // The label, the tags and the closing brace.
-    fn labelled_tags(self, s: &[u8], n: usize) -> NumberRead {
+    fn tags_part(self, s: &[u8], n: usize) -> NumberRead
+        requires { ⌜ n ≤ 255 ⌝ }
+        ensures { λ r. ⌜ numberRead r ≡ sized packTags 0 (tagsPartAt (tagSizes n (now (s .entry)) 328) (now (s .entry)) (self .at)) ⌝ }
+        ensures { λ r. ⌜ numberIn r ≤ 16713985 * n ⌝ }
+    {
         let label = self.piece(s, b"\",\"tags\":", event::COUNT_DISAGREES);
-        match label {
-            Skip::Past(c) => {
-                let tags = c.tags(s, n, 328);
-                match tags {
-                    NumberRead::Number(len, behind) => {
-                        let brace = behind.piece(s, b"}", event::COUNT_DISAGREES);
-                        match brace {
-                            Skip::Past(end) => NumberRead::Number(len, end),
-                            Skip::Refused(r) => NumberRead::Refused(r),
-                        }
-                    }
-                    NumberRead::Refused(r) => NumberRead::Refused(r),
+        let first = match label {
+            Skip::Past(c) => c,
+            Skip::Refused(r) => return NumberRead::Refused(r),
+        };
+        let list = first.tags(s, n);
+        match list {
+            NumberRead::Number(len, behind) => {
+                let brace = behind.piece(s, b"}", event::COUNT_DISAGREES);
+                match brace {
+                    Skip::Past(c) => NumberRead::Number(len, c),
+                    Skip::Refused(r) => NumberRead::Refused(r),
                 }
             }
-            Skip::Refused(r) => NumberRead::Refused(r),
+            NumberRead::Refused(r) => NumberRead::Refused(r),
         }
     }
-}
 
-impl Cursor {
     // All behind the descriptors.
-    fn body(self, s: &[u8], z: Sizes) -> BodyRead {
-        let kind_read = self.labelled_kind(s, z.kind);
-        let first = match kind_read {
+    fn body(self, s: &[u8], z: Sizes) -> BodyRead
+        requires { ⌜ z .kind ≤ 5 ⌝ }
+        requires { ⌜ z .tags ≤ 255 ⌝ }
+        ensures { λ r. ⌜ bodyRead r ≡ andThen (bodyAt (countsOf (now (s .entry)) z) (now (s .entry)) (self .at)) (λ b. read (bodySize (b .value)) (b .next)) ⌝ }
+        ensures { λ r. ⌜ tagsIn r ≤ 16713985 * 255 ⌝ }
+    {
+        let kind = self.kind_part(s, z.kind);
+        let first = match kind {
             NumberRead::Number(n, next) => Numbered { n, next },
             NumberRead::Refused(r) => return BodyRead::Refused(r),
         };
-        let content = first.next.labelled_content(s, z.content);
+        let content = first.next.content_part(s, z.content);
         let second = match content {
-            NumberRead::Number(n, next) => Numbered { n, next },
-            NumberRead::Refused(r) => return BodyRead::Refused(r),
+            Skip::Past(c) => c,
+            Skip::Refused(r) => return BodyRead::Refused(r),
         };
-        let content_end = second.next.at;
-        let tags = second.next.labelled_tags(s, z.tags);
+        let tags = second.tags_part(s, z.tags);
         match tags {
             NumberRead::Number(tags_len, end) => BodyRead::Found(
                 Body {
                     kind: first.n,
-                    content_at: second.n,
-                    content_end,
                     tags_len,
                 },
                 end,
             ),
             NumberRead::Refused(r) => BodyRead::Refused(r),
-        }
-    }
-}
-
-// The length of all in front of the tags.
-fn front_len(created_at: usize, kind: usize, content: usize, tags: usize) -> usize {
-    128
-        + varint::varint_len(created_at as u64)
-        + varint::varint_len(kind as u64)
-        + varint::varint_len(content as u64)
-        + content
-        + varint::varint_len(tags as u64)
-}
-
-// All behind the descriptors, up to the input's end.
-fn walk_body(s: &[u8], created_at: usize, sizes: Sizes, first: Cursor) -> Walk {
-    let rest = first.body(s, sizes);
-    match rest {
-        BodyRead::Found(body, end) => {
-            if end.at == s.len() {
-                let content = jsontext::unescaped_len(s, body.content_at, sizes.content);
-                let len = front_len(created_at, body.kind, content, sizes.tags) + body.tags_len;
-                return Walk::Done(Walked {
-                    created_at,
-                    sizes,
-                    body,
-                    len,
-                });
-            }
-            Walk::Refused(Refusal {
-                number: event::AFTER_THE_END,
-                place: end.at,
-            })
-        }
-        BodyRead::Refused(r) => Walk::Refused(r),
-    }
-}
-
-// The whole input.
-fn walk_text(s: &[u8]) -> Walk {
-    if 65536 < s.len() {
-        return Walk::Refused(Refusal {
-            number: event::INPUT_TOO_LONG,
-            place: 0,
-        });
-    }
-    let front = head(s);
-    let created_at = match front {
-        NumberRead::Number(n, _) => n,
-        NumberRead::Refused(r) => return Walk::Refused(r),
-    };
-    let found = counts(s);
-    match found {
-        SizesRead::Found(sizes, first) => walk_body(s, created_at, sizes, first),
-        SizesRead::Refused(r) => Walk::Refused(r),
-    }
-}
-
-// ---- the strict form
-
-// n items, whose counts stand from d on and whose first quote stands at a place.
-fn put_items(out: &mut [u8], at: usize, s: &[u8], n: usize, d: usize, from: usize) -> Copied {
-    let mut o = at;
-    let mut i = 0;
-    let mut place = from;
-    while i < n {
-        let size = word_here(s, d + 4 * i);
-        o = spelled::put_element(out, o, s, place + 1, size);
-        place += size + 3;
-        i += 1;
-    }
-    Copied {
-        out: o,
-        next: place,
-    }
-}
-
-// n tags, whose counts stand from d on and whose first bracket stands at a place.
-fn put_tags(out: &mut [u8], at: usize, s: &[u8], n: usize, d: usize, from: usize) -> usize {
-    let mut o = at;
-    let mut i = 0;
-    let mut counts = d;
-    let mut place = from;
-    while i < n {
-        let items = byte_here(s, counts);
-        o = varint::put_varint(out, o, items as u64);
-        let copied = put_items(out, o, s, items, counts + 2, place + 1);
-        o = copied.out;
-        place = copied.next + 1;
-        counts += 2 + 4 * items;
-        i += 1;
-    }
-    o
-}
-
-// All in front of the tags.
-fn put_front(out: &mut [u8], at: usize, s: &[u8], w: Walked) -> usize {
-    let sizes = w.sizes;
-    let body = w.body;
-    let a = hex::put_unhex(out, at, scan::part(s, 7, 64));
-    let b = hex::put_unhex(out, a, scan::part(s, 83, 64));
-    let c = hex::put_unhex(out, b, scan::part(s, 156, 128));
-    let d = varint::put_varint(out, c, w.created_at as u64);
-    let e = varint::put_varint(out, d, body.kind as u64);
-    let content = jsontext::unescaped_len(s, body.content_at, sizes.content);
-    let f = varint::put_varint(out, e, content as u64);
-    let g = jsontext::put_unescaped(out, f, s, body.content_at, sizes.content);
-    varint::put_varint(out, g, sizes.tags as u64)
-}
-
-// The event of an NSON text, in strict form: every refusal first, then 11 with the length needed; else written from the start.
-pub fn read_nson(s: &[u8], out: &mut [u8]) -> NsonRead {
-    let walked = walk_text(s);
-    match walked {
-        Walk::Refused(r) => NsonRead::Refused(r),
-        Walk::Done(w) => {
-            let sizes = w.sizes;
-            let body = w.body;
-            if out.len() < w.len {
-                return NsonRead::Refused(Refusal {
-                    number: event::TOO_LITTLE_ROOM,
-                    place: w.len,
-                });
-            }
-            let o = put_front(out, 0, s, w);
-            NsonRead::Written(put_tags(out, o, s, sizes.tags, 328, body.content_end + 10))
         }
     }
 }

@@ -42,11 +42,15 @@ length-unescape t = let m : length (unescape t) ≤ length t - 0 = length-from (
 pub whole-element : {t l : List ℕ} {e : ℕ} → t ≡ l → e ≡ plainAt t 0 → length t ≤ e → packElement t ≡ packElement (unescape l)
 whole-element {t} p q h = ap packElement (sym (unescape-whole t q h)) ∙ ap (λ (l : List ℕ). packElement (unescape l)) p
 
--- the text of a part is no longer than the part, nor than the input
-pub text-most : (s : List ℕ) (from n : ℕ) {k : ℕ} → k ≡ length (unescape (take n (drop from s))) → (k ≤ length (take n (drop from s))) × (k ≤ length s)
+-- a part of n bytes has at most n, and no more than the input
+pub part-most : (s : List ℕ) (from n : ℕ) → (length (take n (drop from s)) ≤ n) × (length (take n (drop from s)) ≤ length s)
+part-most s from n = (simp (length-take, length-drop) (omega arith), simp (length-take, length-drop) (omega arith))
+
+-- the text of n bytes is no longer than n, nor than the input
+pub text-most : (s : List ℕ) (from n : ℕ) {k : ℕ} → k ≡ length (unescape (take n (drop from s))) → (k ≤ n) × (k ≤ length s)
 text-most s from n q =
     let m = length-unescape (take n (drop from s)) in
-    let p : length (take n (drop from s)) ≤ length s = simp (length-take, length-drop) (omega arith) in
+    let p = part-most s from n in
     (omega arith, omega arith)
 
 -- the element's form, by the length that was measured

@@ -9,7 +9,7 @@ ghost use Rattle.notepack.specs.Strict.{packElement};
 // The length of the strict element, where the string has escapes.
 fn escaped_len(s: &[u8], from: usize, n: usize) -> usize
     ensures { λ r. ⌜ r ≡ length (packElement (unescape (take n (drop from (now (s .entry)))))) ⌝ }
-    ensures { λ r. ⌜ r ≤ length (take n (drop from (now (s .entry)))) + 10 ⌝ }
+    ensures { λ r. ⌜ r ≤ n + 10 ⌝ }
 {
     let k = jsontext::unescaped_len(s, from, n);
     if jsontext::unescaped_goes_as_bytes(s, from, n) {
@@ -21,7 +21,7 @@ fn escaped_len(s: &[u8], from: usize, n: usize) -> usize
 // The length of the strict element whose text the n bytes of s from a place on spell.
 pub fn element_len(s: &[u8], from: usize, n: usize) -> usize
     ensures { λ r. ⌜ r ≡ length (packElement (unescape (take n (drop from (now (s .entry)))))) ⌝ }
-    ensures { λ r. ⌜ r ≤ length (take n (drop from (now (s .entry)))) + 10 ⌝ }
+    ensures { λ r. ⌜ r ≤ n + 10 ⌝ }
 {
     let t = scan::part(s, from, n);
     if t.len() <= jsontext::next_backslash(t, 0) {

@@ -1,0 +1,87 @@
+-- The counts as the code passes over them: many reads of which only the place is kept, and the counts that stand alone.
+-- A turn of a loop is one law; the number of tags is the number of their counts.
+use Prim.Native.Nat.{ℕ, zero, suc, _+_, _-_, _<_, _≤_}
+use mathlib.Core.Path.{_≡_, refl, sym, ap, _∙_}
+use mathlib.Core.List.{List, [], _∷_}
+use native.Mathlib.Omega.{arith}
+use lib.ListN.{length}
+use borrow.Author.Tests.{eq-eqb, ne-eqb}
+use Rattle.scan.specs.Choice.{Answer, shown, refused, Read, read, andThen, many}
+use Rattle.scan.proofs.Many.{many-count}
+use Rattle.nson.specs.Read.{byteHere, wordHere, descriptorAt, byteCountAt, wordCountAt, kindCountAt, tagCountsAt, countsTo}
+use Rattle.nsonread.specs.declared.Sizes.{Sizes}
+use Rattle.nsonread.specs.Walk.{nextOf, sizesOf}
+use Rattle.nsonread.proofs.Laws.{next-shown, next-refused}
+
+-- ---- n reads of which only the place is kept
+
+module _ {A : Type 0} (item : ℕ → Answer (Read A)) where
+  next-cons : (x : A) (r : Answer (Read (List A))) → nextOf (andThen r (λ xs. read (x ∷ xs .value) (xs .next))) ≡ nextOf r
+  next-cons x (shown v) = refl
+  next-cons x (refused n p) = refl
+
+  pub many-none : (left at : ℕ) → left ≤ 0 → nextOf (many item left at) ≡ shown at
+  unfolding many
+  many-none zero at h = refl
+  many-none (suc n) at h = absurd (omega arith)
+
+  pub many-more : (left at : ℕ) {p : ℕ} → 0 < left → nextOf (item at) ≡ shown p → nextOf (many item left at) ≡ nextOf (many item (left - 1) p)
+  unfolding many
+  many-more zero at h e = absurd (omega arith)
+  many-more (suc n) at {p} h e =
+      let x = next-shown (item at) e in
+      let k : suc n - 1 ≡ n = omega arith in
+      rw (k, x .1) (next-cons (x .0) (many item n p))
+
+  pub many-stop : (left at : ℕ) {n p : ℕ} → 0 < left → nextOf (item at) ≡ refused n p → nextOf (many item left at) ≡ refused n p
+  unfolding many
+  many-stop zero at h e = absurd (omega arith)
+  many-stop (suc n) at h e = rw (next-refused (item at) e) refl
+
+-- a count of two bytes is passed where its digits are
+pub word-next : (end : ℕ) (s : List ℕ) (at : ℕ) → nextOf (wordCountAt end s at) ≡ descriptorAt 4 end s at
+unfolding wordCountAt
+word-next end s at = go (descriptorAt 4 end s at)
+  where
+    go : (r : Answer ℕ) → nextOf (andThen r (λ p. read (wordHere s at) p)) ≡ r
+    go (shown p) = refl
+    go (refused n p) = refl
+
+-- ---- the counts that stand alone
+
+abbrev Sized : ℕ → List ℕ → ℕ → Answer (Read Sizes)
+Sized end s at = andThen (countsTo end s at) (λ n. read (sizesOf (n .value)) (n .next))
+
+module _ (end : ℕ) (s : List ℕ) (at : ℕ) where
+  pub kind-stops : {n p : ℕ} → kindCountAt end s at ≡ refused n p → Sized end s at ≡ refused n p
+  unfolding countsTo
+  kind-stops e = rw e refl
+
+  module _ {k a : ℕ} (e : kindCountAt end s at ≡ read k a) where
+    pub content-stops : {n p : ℕ} → descriptorAt 4 end s a ≡ refused n p → Sized end s at ≡ refused n p
+    unfolding countsTo wordCountAt
+    content-stops f = rw (e, f) refl
+
+    module _ {b : ℕ} (f : descriptorAt 4 end s a ≡ shown b) where
+      pub number-stops : {n p : ℕ} → descriptorAt 2 end s b ≡ refused n p → Sized end s at ≡ refused n p
+      unfolding countsTo wordCountAt byteCountAt
+      number-stops g = rw (e, f, g) refl
+
+      module _ {c : ℕ} (g : descriptorAt 2 end s b ≡ shown c) where
+        pub tags-stop : {n p : ℕ} → nextOf (many (tagCountsAt end s) (byteHere s b) c) ≡ refused n p → Sized end s at ≡ refused n p
+        unfolding countsTo wordCountAt byteCountAt
+        tags-stop h = rw (e, f, g, next-refused (many (tagCountsAt end s) (byteHere s b) c) h) refl
+
+        module _ {d : ℕ} (h : nextOf (many (tagCountsAt end s) (byteHere s b) c) ≡ shown d) where
+          pub size-stops : (d ≡ end → ⊥) → Sized end s at ≡ refused 13 318
+          unfolding countsTo wordCountAt byteCountAt
+          size-stops k =
+              let t = next-shown (many (tagCountsAt end s) (byteHere s b) c) h in
+              rw (e, f, g, t .1, ne-eqb d end k) refl
+
+          pub counts-found : d ≡ end → Sized end s at ≡ read (record { kind = k; content = wordHere s a; tags = byteHere s b }) d
+          unfolding countsTo wordCountAt byteCountAt
+          counts-found q =
+              let t = next-shown (many (tagCountsAt end s) (byteHere s b) c) h in
+              let m = many-count (tagCountsAt end s) (byteHere s b) c (record { value = t .0; next = d }) (t .1) in
+              rw (e, f, g, t .1, eq-eqb d end q, m) refl

@@ -1,0 +1,87 @@
+use borrow.Author.Needs.{needs}
+use Rattle.nsonread.proofs.Cursor.tags_part.Statement.{statement}
+use Rattle.nsonread.proofs.Cursor.tags_part.Tie as tie
+use Rattle.nsonread.proofs.Cursor.tags_part.Reads as reads
+use Rattle.nsonread.proofs.Cursor.tags_part.Lts as lts
+use Rattle.nsonread.proofs.Cursor.piece.Reads as piece-reads
+use Rattle.nsonread.proofs.Cursor.tags.Reads as tags-reads
+
+-- src/lib.rt:642:35
+slice-aggregate-piece : tie.Need-slice-aggregate-piece
+slice-aggregate-piece c = search needs
+
+-- src/lib.rt:642:13
+piece-requires : tie.Need-piece-requires
+piece-requires c κs = search needs
+
+-- src/lib.rt:644:24
+enum-known-label : tie.Need-enum-known-label
+enum-known-label c = search needs
+
+-- src/lib.rt:645:27
+enum-known-label-2 : tie.Need-enum-known-label-2
+enum-known-label-2 c = search needs
+
+-- src/lib.rt:645:33
+returns : tie.Need-returns
+returns c = ?
+
+-- src/lib.rt:647:13
+tags-requires : tie.Need-tags-requires
+tags-requires c κs = search needs
+
+-- src/lib.rt:649:32
+enum-known-list : tie.Need-enum-known-list
+enum-known-list c = search needs
+
+-- src/lib.rt:650:45
+slice-aggregate-piece-2 : tie.Need-slice-aggregate-piece-2
+slice-aggregate-piece-2 c = search needs
+
+-- src/lib.rt:650:21
+piece-requires-2 : tie.Need-piece-requires-2
+piece-requires-2 c κs = search needs
+
+-- src/lib.rt:652:32
+enum-known-brace : tie.Need-enum-known-brace
+enum-known-brace c = search needs
+
+-- src/lib.rt:653:35
+enum-known-brace-2 : tie.Need-enum-known-brace-2
+enum-known-brace-2 c = search needs
+
+-- src/lib.rt:656:33
+enum-known-list-2 : tie.Need-enum-known-list-2
+enum-known-list-2 c = search needs
+
+-- src/lib.rt:637:5
+returns-2 : tie.Need-returns-2
+returns-2 c = ?
+
+-- src/lib.rt:637:5
+returns-3 : tie.Need-returns-3
+returns-3 c = ?
+
+-- src/lib.rt:637:5
+returns-4 : tie.Need-returns-4
+returns-4 c = ?
+
+pub tags-part-spec : {M : Type 1} → statement M
+tags-part-spec =
+    tie.close
+    (tie.spec
+    slice-aggregate-piece
+    piece-requires
+    enum-known-label
+    enum-known-label-2
+    returns
+    tags-requires
+    enum-known-list
+    slice-aggregate-piece-2
+    piece-requires-2
+    enum-known-brace
+    enum-known-brace-2
+    enum-known-list-2
+    returns-2
+    returns-3
+    returns-4)
