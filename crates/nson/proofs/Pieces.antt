@@ -1,7 +1,7 @@
 -- The pieces of the reading, each in both directions: shown exactly where its spelling is a span of the input.
 -- By the laws of the fixed byte string, of hex and of decimal spellings; each piece ends where its span ends.
 use Prim.Native.Nat.{ℕ, _+_, _%_}
-use mathlib.Core.Path.{_≡_, refl, sym, ap, _∙_}
+use mathlib.Core.Path.{_≡_, refl, sym, ap, _∙_, subst}
 use mathlib.Core.Bool.{Bool, true, false}
 use mathlib.Core.List.{List, _++_}
 use native.Mathlib.Omega.{arith}
@@ -24,7 +24,7 @@ use Rattle.event.specs.Event.{sameText}
 use Rattle.event.proofs.Laws.{same-text, text-same}
 use Rattle.nson.specs.Read.{pieceAt, partAt, hexAt, isDecimal, decimalAt}
 
--- ---- general: these four belong to crate scan
+-- ---- general: these five belong to crate scan
 
 -- a choice that shows a value has passed its test
 pub pick-shown : {A : Type 0} (t : Bool) (x : Answer A) (number place : ℕ) (v : A) → pick t x (refused number place) ≡ shown v → (t ≡ true) × (x ≡ shown v)
@@ -41,6 +41,10 @@ part-of-span {s} {l} {a} {c} n e r = rw (from-span r) (take-at l (drop c s) n e)
 -- and n bytes, if they are there, are a span
 pub span-of-part : (s : List ℕ) (a n : ℕ) → length (take n (drop a s)) ≡ n → Span s a (take n (drop a s)) (a + n)
 span-of-part s a n e = rw e at (to-span s (take n (drop a s)) (drop n (drop a s)) a (sym (take-append-drop n (drop a s))))
+
+-- the same bytes, written in another way
+pub respell : {s l m : List ℕ} {a c : ℕ} → l ≡ m → Span s a l c → Span s a m c
+respell {s} {a = a} {c = c} e r = subst (λ (k : List ℕ). Span s a k c) e r
 
 -- ---- a fixed piece
 
