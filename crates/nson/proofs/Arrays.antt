@@ -7,13 +7,12 @@ use mathlib.Core.List.{List, [], _∷_, _++_, append-nil, map}
 use Rattle.scan.specs.Choice.{Answer, shown, Read, read}
 use Rattle.scan.specs.Span.{Span, here, All, none, also}
 use Rattle.scan.proofs.SpanLaws.{join, cut, none-span}
-use Rattle.scan.proofs.Many.{then-shown}
 use Rattle.escape.specs.Escape.{nsonByte}
 use Rattle.event.specs.Event.{Tag}
 use Rattle.tagtext.specs.TagText.{quoted, commaed, array, tagText, tagsText}
 use Rattle.nson.specs.Nson.{bytesIn}
 use Rattle.nson.specs.Read.{pieceAt, commaAt, itemsAt, arrayAt, itemAt, tagAt, tagsAt}
-use Rattle.nson.proofs.Pieces.{shown-same, respell, piece-shown, piece-accepts}
+use Rattle.nson.proofs.Pieces.{after, shown-same, respell, piece-shown, piece-accepts}
 use Rattle.nson.proofs.Texts.{Spelled, Good, item-shown, item-accepts}
 
 -- ---- commas: in front of each item but the first
@@ -50,30 +49,35 @@ module _ {N A : Type 0} (f : A → List ℕ) (size : A → N) (Q : A → Type 0)
         let g : record { value = []; next = at } ≡ v = shown-same e in
         rw (sym g) record { span = here; sized = refl; holds = none }
     items-shown later (k ∷ l) at v e =
-        let a = then-shown (commaAt later s at) _ v e in
-        let b = then-shown (item k (a .0)) _ v (a .2) in
-        let c = then-shown (itemsAt item true l s (b .0 .next)) _ v (b .2) in
-        let g : record { value = b .0 .value ∷ c .0 .value; next = c .0 .next } ≡ v = shown-same (c .2) in
-        let x = item-law k (a .0) (b .0) (b .1) in
-        let xs = items-shown true l (b .0 .next) (c .0) (c .1) in
-        let front = comma-shown later s at (a .0) (a .1) in
-        let first = x .sized in
-        let others = xs .sized in
-        rw (sym g) record { span = join front (join (x .span) (xs .span)); sized = (cc); holds = also (x .holds) (xs .holds) }
+        after (commaAt later s at) _ v e
+        (λ a p e₁.
+        after (item k a) _ v e₁
+        (λ x q e₂.
+        after (itemsAt item true l s (x .next)) _ v e₂
+        (λ xs w e₃.
+        let g : record { value = x .value ∷ xs .value; next = xs .next } ≡ v = shown-same e₃ in
+        let first = item-law k a x q in
+        let others = items-shown true l (x .next) xs w in
+        let one = first .sized in
+        let more = others .sized in
+        let text = join (comma-shown later s at a p) (join (first .span) (others .span)) in
+        rw (sym g) record { span = text; sized = (cc); holds = also (first .holds) (others .holds) })))
 
     pub array-shown : (l : List N) (at : ℕ) (v : Read (List A)) → arrayAt item l s at ≡ shown v
         → Spelled (λ (xs : List A). array (map f xs)) (map size) (All Q) s l at v
     unfolding arrayAt
     array-shown l at v e =
-        let a = then-shown (pieceAt 13 (0x5B ∷ []) s at) _ v e in
-        let b = then-shown (itemsAt item false l s (a .0)) _ v (a .2) in
-        let c = then-shown (pieceAt 13 (0x5D ∷ []) s (b .0 .next)) _ v (b .2) in
-        let g : record { value = b .0 .value; next = c .0 } ≡ v = shown-same (c .2) in
-        let xs = items-shown false l (a .0) (b .0) (b .1) in
-        let front = piece-shown 13 (0x5B ∷ []) s at (a .0) (a .1) in
-        let back = piece-shown 13 (0x5D ∷ []) s (b .0 .next) (c .0) (c .1) in
-        let inside = respell (separated-commaed (map f (b .0 .value))) (xs .span) in
-        rw (sym g) record { span = join front (join inside back); sized = xs .sized; holds = xs .holds }
+        after (pieceAt 13 (0x5B ∷ []) s at) _ v e
+        (λ a p e₁.
+        after (itemsAt item false l s a) _ v e₁
+        (λ xs q e₂.
+        after (pieceAt 13 (0x5D ∷ []) s (xs .next)) _ v e₂
+        (λ b w e₃.
+        let g : record { value = xs .value; next = b } ≡ v = shown-same e₃ in
+        let all = items-shown false l a xs q in
+        let inside = respell (separated-commaed (map f (xs .value))) (all .span) in
+        let text = join (piece-shown 13 (0x5B ∷ []) s at a p) (join inside (piece-shown 13 (0x5D ∷ []) s (xs .next) b w)) in
+        rw (sym g) record { span = text; sized = all .sized; holds = all .holds })))
 
   module _ (item-law : (x : A) (at c : ℕ) → Q x → Span s at (f x) c → item (size x) at ≡ read x c) where
     items-accept : (later : Bool) (xs : List A) (at c : ℕ) → All Q xs → Span s at (separated later (map f xs)) c

@@ -1,3 +1,4 @@
 pub mod Pieces
 pub mod Texts
 pub mod Arrays
+pub mod Repeats

@@ -9,7 +9,7 @@ use lib.ListN.{length, take, drop, take-append-drop}
 use lib.Seq.{take-at}
 use lib.Dec.{eqb}
 use borrow.Author.Tests.{eqb-true, eq-eqb}
-use Rattle.scan.specs.Choice.{pick, Answer, shown, refused, Read, read}
+use Rattle.scan.specs.Choice.{pick, Answer, shown, refused, Read, read, andThen}
 use Rattle.scan.specs.Place.{standsAt}
 use Rattle.scan.specs.Span.{Span, All}
 use Rattle.scan.proofs.Step.{pick-true}
@@ -24,12 +24,17 @@ use Rattle.event.specs.Event.{sameText}
 use Rattle.event.proofs.Laws.{same-text, text-same}
 use Rattle.nson.specs.Read.{pieceAt, partAt, hexAt, isDecimal, decimalAt}
 
--- ---- general: these five belong to crate scan
+-- ---- general: these six belong to crate scan
 
 -- a choice that shows a value has passed its test
 pub pick-shown : {A : Type 0} (t : Bool) (x : Answer A) (number place : ℕ) (v : A) → pick t x (refused number place) ≡ shown v → (t ≡ true) × (x ≡ shown v)
 pick-shown true x number place v e = (refl, e)
 pick-shown false x number place v e = let z : _≡_ {A = ℕ} 0 1 = cc in absurd (omega arith)
+
+-- an answer after another, taken apart: what follows from the first one's value
+pub after : {A B R : Type 0} (r : Answer A) (f : A → Answer B) (b : B) → andThen r f ≡ shown b → ((a : A) → r ≡ shown a → f a ≡ shown b → R) → R
+after (shown a) f b e g = g a refl e
+after (refused n p) f b e g = let z : _≡_ {A = ℕ} 0 1 = cc in absurd (omega arith)
 
 pub shown-same : {A : Type 0} {a b : A} → shown a ≡ shown b → a ≡ b
 shown-same e = cc

@@ -12,7 +12,6 @@ use Rattle.scan.specs.Choice.{pick, Answer, shown, refused, Read, read}
 use Rattle.scan.specs.Span.{Span, All}
 use Rattle.scan.proofs.SpanLaws.{join, cut, open-span, span-length}
 use Rattle.scan.proofs.Reading.{read-same}
-use Rattle.scan.proofs.Many.{then-shown}
 use Rattle.utf8.specs.Utf8.{Utf8}
 use Rattle.escape.specs.Escape.{Carried, nsonByte, escaped, meaning, plainFrom, plain}
 use Rattle.escape.specs.Quoted.{Quoted, none, bare, escape, NsonBare, nson-bare, NsonLetter, letter-n, letter-quote, letter-backslash}
@@ -29,7 +28,7 @@ use Rattle.counted.proofs.Faults.{no-fault, faultless}
 use Rattle.tagtext.specs.TagText.{quoted}
 use Rattle.nson.specs.Nson.{bytesIn}
 use Rattle.nson.specs.Read.{pieceAt, partAt, textAt, itemAt}
-use Rattle.nson.proofs.Pieces.{pick-shown, shown-same, part-of-span, span-of-part, piece-shown, piece-accepts}
+use Rattle.nson.proofs.Pieces.{after, pick-shown, shown-same, part-of-span, span-of-part, piece-shown, piece-accepts}
 
 -- ---- what a read says of its value
 
@@ -93,14 +92,16 @@ text-accepts {t = t} g r =
 pub item-shown : (s : List ℕ) (n at : ℕ) (v : Read Text) → itemAt s n at ≡ shown v → Spelled (quoted nsonByte) bytesIn Good s n at v
 unfolding itemAt quoted
 item-shown s n at v e =
-    let a = then-shown (pieceAt 13 (0x22 ∷ []) s at) _ v e in
-    let b = then-shown (textAt n s (a .0)) _ v (a .2) in
-    let c = then-shown (pieceAt 13 (0x22 ∷ []) s (b .0)) _ v (b .2) in
-    let t = text-shown n s (a .0) (b .0) (b .1) in
-    let front = piece-shown 13 (0x22 ∷ []) s at (a .0) (a .1) in
-    let back = piece-shown 13 (0x22 ∷ []) s (b .0) (c .0) (c .1) in
-    let f : record { value = unescape (partAt n s (a .0)); next = c .0 } ≡ v = shown-same (c .2) in
-    rw (sym f) record { span = join front (join (t .span) back); sized = t .sized; holds = t .holds }
+    after (pieceAt 13 (0x22 ∷ []) s at) _ v e
+    (λ a p e₁.
+    after (textAt n s a) _ v e₁
+    (λ b q e₂.
+    after (pieceAt 13 (0x22 ∷ []) s b) _ v e₂
+    (λ c w e₃.
+    let g : record { value = unescape (partAt n s a); next = c } ≡ v = shown-same e₃ in
+    let t = text-shown n s a b q in
+    let text = join (piece-shown 13 (0x22 ∷ []) s at a p) (join (t .span) (piece-shown 13 (0x22 ∷ []) s b c w)) in
+    rw (sym g) record { span = text; sized = t .sized; holds = t .holds })))
 
 pub item-accepts : (s : List ℕ) (t : Text) (at c : ℕ) → Good t → Span s at (quoted nsonByte t) c → itemAt s (bytesIn t) at ≡ read t c
 unfolding itemAt quoted
