@@ -2,3 +2,4 @@ pub mod Pieces
 pub mod Texts
 pub mod Arrays
 pub mod Repeats
+pub mod Descriptors
