@@ -70,7 +70,7 @@ word-digits {s} {at} h =
     let e = sym (hexes-unhex (h .digits) (omega arith)) ∙ ap hexes (unhex-four n (h .span)) ∙ ap hexes (sym (word-here s at)) in
     respell e (h .span)
 
-byte-bytes : {b : ℕ} → b ≤ 255 → IsBytes (b ∷ [])
+pub byte-bytes : {b : ℕ} → b ≤ 255 → IsBytes (b ∷ [])
 byte-bytes {b} h = also {b = b} (omega arith) none
 
 word-bytes : {n : ℕ} → n ≤ 65_535 → IsBytes (word n)

@@ -3,3 +3,4 @@ pub mod Texts
 pub mod Arrays
 pub mod Repeats
 pub mod Descriptors
+pub mod Counts

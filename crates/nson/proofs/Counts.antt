@@ -1,0 +1,176 @@
+-- The nson field: counts are read at 318 exactly where their field stands there, with the size that the descriptors take.
+-- Piece after piece; a tag's counts and the tags' counts are reads one after the other.
+use Prim.Native.Nat.{ℕ, _+_, _*_, _≤_}
+use mathlib.Core.Path.{_≡_, refl, sym, ap, _∙_}
+use mathlib.Core.Bool.{Bool, true, false}
+use mathlib.Core.List.{List, [], _∷_, _++_}
+use native.Mathlib.Omega.{arith}
+use lib.ListN.{length}
+use lib.Dec.{eqb}
+use borrow.Author.Tests.{eqb-true, eqb-false, eq-eqb, ne-eqb, le-leb}
+use Rattle.scan.specs.Choice.{pick, Answer, shown, refused, Read, read, many}
+use Rattle.scan.specs.Place.{within}
+use Rattle.scan.specs.Span.{Span, All}
+use Rattle.scan.proofs.SpanLaws.{join, cut, cut-at, span-length}
+use Rattle.hex.specs.Hex.{hexes}
+use Rattle.hex.proofs.Digits.{in-range}
+use Rattle.hex.proofs.Texts.{length-hexes, hexes-append, hexes-digits}
+use Rattle.nson.specs.Nson.{Counts, word, words, tagCounts, descriptors, field}
+use Rattle.nson.specs.Read.{hexAt, byteHere, byteCountAt, wordCountAt, kindCountAt, itemCountAt, tagCountsAt, countsTo, countsAt}
+use Rattle.nson.proofs.Pieces.{after, pick-shown, shown-same, respell, hex-shown, hex-accepts}
+use Rattle.nson.proofs.Repeats.{many-shown, many-accepts}
+use Rattle.nson.proofs.Descriptors.{byte-most, byte-bytes, byte-digits, digits-byte, byte-count-shown, byte-count-accepts, word-count-shown, word-count-accepts}
+
+-- ---- what counts the field can hold
+
+-- a count of two bytes
+abbrev pub Short : ℕ → Type 0
+Short n = n ≤ 65_535
+
+pub record TagCounts (l : List ℕ) : Type 0 where
+  pub one : 1 ≤ length l
+  pub few : length l ≤ 255
+  pub each : All Short l
+
+pub record Holds (c : Counts) : Type 0 where
+  pub one : 1 ≤ c .kind
+  pub five : c .kind ≤ 5
+  pub content : c .content ≤ 65_535
+  pub few : length (c .tags) ≤ 255
+  pub each : All TagCounts (c .tags)
+
+-- ---- the pieces
+
+kind-count-shown : (end : ℕ) (s : List ℕ) (at : ℕ) (v : Read ℕ) → kindCountAt end s at ≡ shown v
+    → Span s at (hexes (v .value ∷ [])) (v .next) × (1 ≤ v .value) × (v .value ≤ 5)
+unfolding kindCountAt
+kind-count-shown end s at v e =
+    after (byteCountAt end s at) _ v e
+    (λ n p e₁.
+    let t = pick-shown (within 1 5 (n .value)) (shown n) 13 at v e₁ in
+    let f : n ≡ v = shown-same (t .1) in
+    let k = in-range 1 5 (n .value) (t .0) in
+    rw (sym f) (byte-count-shown end s at n p .0, k .0, k .1))
+
+kind-count-accepts : (end : ℕ) (s : List ℕ) (k at p : ℕ) → p ≤ end → 1 ≤ k → k ≤ 5 → Span s at (hexes (k ∷ [])) p → kindCountAt end s at ≡ read k p
+unfolding kindCountAt within
+kind-count-accepts end s k at p h l m r = rw (byte-count-accepts end s k at p h (omega arith) r, le-leb 1 k l, le-leb k 5 m)
+
+item-count-shown : (end : ℕ) (s : List ℕ) (at : ℕ) (v : Read ℕ) → itemCountAt end s at ≡ shown v
+    → Span s at (hexes (v .value ∷ [])) (v .next) × (1 ≤ v .value) × (v .value ≤ 255)
+unfolding itemCountAt
+item-count-shown end s at v e = after (byteCountAt end s at) _ v e (λ n p e₁. some n p (eqb (n .value) 0) refl e₁)
+  where
+    some : (n : Read ℕ) → byteCountAt end s at ≡ shown n → (t : Bool) → eqb (n .value) 0 ≡ t → pick t (refused 9 at) (shown n) ≡ shown v
+        → Span s at (hexes (v .value ∷ [])) (v .next) × (1 ≤ v .value) × (v .value ≤ 255)
+    some n p true t e₁ = let z : _≡_ {A = ℕ} 0 1 = cc in absurd (omega arith)
+    some n p false t e₁ =
+        let f : n ≡ v = shown-same e₁ in
+        let b = byte-count-shown end s at n p in
+        let k = eqb-false (n .value) 0 t in
+        rw (sym f) (b .0, omega (arith, k), b .1)
+
+item-count-accepts : (end : ℕ) (s : List ℕ) (k at p : ℕ) → p ≤ end → 1 ≤ k → k ≤ 255 → Span s at (hexes (k ∷ [])) p → itemCountAt end s at ≡ read k p
+unfolding itemCountAt
+item-count-accepts end s k at p h l m r = rw (byte-count-accepts end s k at p h m r, ne-eqb k 0 (λ e. omega arith))
+
+-- ---- a tag's counts
+
+-- the spelling of a tag's counts, and that of all tags
+abbrev tagHexes : List ℕ → List ℕ
+tagHexes t = hexes (length t ∷ words t)
+
+tags-more : (t : List ℕ) (l : List (List ℕ)) → hexes (tagCounts (t ∷ l)) ≡ tagHexes t ++ hexes (tagCounts l)
+tags-more t l = rw (hexes-append (words t) (tagCounts l))
+
+tag-counts-shown : (end : ℕ) (s : List ℕ) (at : ℕ) (v : Read (List ℕ)) → tagCountsAt end s at ≡ shown v → Span s at (tagHexes (v .value)) (v .next) × TagCounts (v .value)
+unfolding tagCountsAt
+tag-counts-shown end s at v e =
+    after (itemCountAt end s at) _ v e
+    (λ n p e₁.
+    let i = item-count-shown end s at n p in
+    let w = many-shown (λ (m : ℕ). hexes (word m)) (λ (l : List ℕ). hexes (words l)) refl (λ m l. refl) Short s (wordCountAt end s) (word-count-shown end s) (n .value) (n .next) v e₁ in
+    let f : n .value ≡ length (v .value) = sym (w .2) in
+    (join (rw f at (i .0)) (w .0), record { one = omega (arith, i .1); few = omega (arith, i .2); each = w .1 }))
+
+tag-counts-accept : (end : ℕ) (s : List ℕ) (l : List ℕ) (at c : ℕ) → c ≤ end → TagCounts l → Span s at (tagHexes l) c → tagCountsAt end s at ≡ read l c
+unfolding tagCountsAt
+tag-counts-accept end s l at c h g r =
+    let u = cut-at (hexes (length l ∷ [])) 2 refl r in
+    let k = span-length (u .1) in
+    rw (item-count-accepts end s (length l) at (at + 2) (omega arith) (g .one) (g .few) (u .0))
+    (many-accepts (λ (m : ℕ). hexes (word m)) (λ (l : List ℕ). hexes (words l)) refl (λ m l. refl) Short s (wordCountAt end s) end (word-count-accepts end s) l (at + 2) c h (g .each) (u .1))
+
+-- ---- all counts
+
+counts-to-shown : (end : ℕ) (s : List ℕ) (at : ℕ) (v : Read Counts) → countsTo end s at ≡ shown v
+    → Span s at (hexes (descriptors (v .value))) (v .next) × (v .next ≡ end) × Holds (v .value)
+unfolding countsTo
+counts-to-shown end s at v e =
+    after (kindCountAt end s at) _ v e
+    (λ k p e₁.
+    after (wordCountAt end s (k .next)) _ v e₁
+    (λ c q e₂.
+    after (byteCountAt end s (c .next)) _ v e₂
+    (λ n r e₃.
+    after (many (tagCountsAt end s) (n .value) (n .next)) _ v e₃
+    (λ t w e₄.
+    let all = pick-shown (eqb (t .next) end) (read (record { kind = k .value; content = c .value; tags = t .value }) (t .next)) 13 318 v e₄ in
+    let f : record { value = record { kind = k .value; content = c .value; tags = t .value }; next = t .next } ≡ v = shown-same (all .1) in
+    let kind = kind-count-shown end s at k p in
+    let content = word-count-shown end s (k .next) c q in
+    let number = byte-count-shown end s (c .next) n r in
+    let tags = many-shown tagHexes (λ (l : List (List ℕ)). hexes (tagCounts l)) refl tags-more TagCounts s (tagCountsAt end s) (tag-counts-shown end s) (n .value) (n .next) t w in
+    let g : n .value ≡ length (t .value) = sym (tags .2) in
+    let digits = rw g at (number .0) in
+    let text = join (kind .0) (join (content .0) (join digits (tags .0))) in
+    let few : length (t .value) ≤ 255 = omega (arith, number .1) in
+    rw (sym f) (text, eqb-true (t .next) end (all .0), record { one = kind .1; five = kind .2; content = content .1; few = few; each = tags .1 })))))
+
+counts-to-accept : (end : ℕ) (s : List ℕ) (at : ℕ) (c : Counts) → Holds c → Span s at (hexes (descriptors c)) end → countsTo end s at ≡ read c end
+unfolding countsTo
+counts-to-accept end s at c h r =
+    let k = cut-at (hexes (c .kind ∷ [])) 2 refl r in
+    let w = cut-at (hexes (word (c .content))) 4 refl (k .1) in
+    let n = cut-at (hexes (length (c .tags) ∷ [])) 2 refl (w .1) in
+    let l = span-length (n .1) in
+    let tags = many-accepts tagHexes (λ (l : List (List ℕ)). hexes (tagCounts l)) refl tags-more TagCounts s (tagCountsAt end s) end (tag-counts-accept end s) (c .tags) (at + 2 + 4 + 2) end (omega arith) (h .each) (n .1) in
+    rw (
+      kind-count-accepts end s (c .kind) at (at + 2) (omega arith) (h .one) (h .five) (k .0),
+      word-count-accepts end s (c .content) (at + 2) (at + 2 + 4) (omega arith) (h .content) (w .0),
+      byte-count-accepts end s (length (c .tags)) (at + 2 + 4) (at + 2 + 4 + 2) (omega arith) (h .few) (n .0),
+      tags,
+      eq-eqb end end refl,
+    )
+
+-- ---- the field
+
+-- consumes: counts that are read at 318 stand there as their field, and are such as a field can hold
+pub counts-shown : (s : List ℕ) (v : Read Counts) → countsAt s ≡ shown v
+    → Span s 318 (field (v .value)) (v .next) × Holds (v .value) × (length (descriptors (v .value)) ≤ 127)
+unfolding countsAt field
+counts-shown s v e =
+    after (hexAt 2 s 318) _ v e
+    (λ p q e₁.
+    let size = byte-digits (hex-shown 2 s 318 p q) in
+    let c = counts-to-shown (p + byteHere s 318) s p v e₁ in
+    let d = descriptors (v .value) in
+    let n = span-length (c .0) in
+    let m = length-hexes d in
+    let f = c .1 in
+    let k : byteHere s 318 ≡ 2 * length d = omega arith in
+    let h = byte-most s 318 in
+    (join (rw k at size) (c .0), c .2, omega arith))
+
+-- accepts: the field of such counts at 318 is read as the counts
+pub counts-accept : {s : List ℕ} {q : ℕ} {c : Counts} → Holds c → length (descriptors c) ≤ 127 → Span s 318 (field c) q → countsAt s ≡ read c q
+unfolding countsAt field
+counts-accept {s} {q} {c} h few r =
+    let d = descriptors c in
+    let u = cut-at (hexes (2 * length d ∷ [])) 2 refl r in
+    let n = span-length (u .1) in
+    let m = length-hexes d in
+    let b : byteHere s 318 ≡ 2 * length d = digits-byte (omega arith) (u .0) in
+    let f : 320 + byteHere s 318 ≡ q = omega arith in
+    let size = hex-accepts 2 (u .0) refl (hexes-digits (byte-bytes {b = 2 * length d} (omega arith))) in
+    rw (size, f) (counts-to-accept q s 320 c h (u .1))
