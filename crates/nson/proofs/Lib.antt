@@ -4,3 +4,5 @@ pub mod Arrays
 pub mod Repeats
 pub mod Descriptors
 pub mod Counts
+pub mod Field
+pub mod Body
