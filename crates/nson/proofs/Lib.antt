@@ -6,3 +6,4 @@ pub mod Descriptors
 pub mod Counts
 pub mod Field
 pub mod Body
+pub mod Head
