@@ -7,3 +7,5 @@ pub mod Counts
 pub mod Field
 pub mod Body
 pub mod Head
+pub mod Carrying
+pub mod Sound

@@ -1,0 +1,77 @@
+-- THE soundness: a string that shows an event is the event's own text, and the event is carried and valid; its counts are the event's.
+-- The three parts that are read stand one behind the other from 0 to the end, and the counts are those that the body was read by.
+use Prim.Native.Nat.{ℕ, _+_, _≤_}
+use mathlib.Core.Path.{_≡_, refl, sym, ap, _∙_}
+use mathlib.Core.Bool.{true}
+use mathlib.Core.List.{List, _++_}
+use native.Mathlib.Omega.{arith}
+use lib.ListN.{length, length-map}
+use lib.Dec.{leb, eqb}
+use borrow.Author.Tests.{leb-true, eqb-true}
+use Rattle.scan.specs.Choice.{pick, Answer, shown, refused, Read, read, andThen}
+use Rattle.scan.specs.Span.{Span, All}
+use Rattle.scan.proofs.SpanLaws.{join, whole-span}
+use Rattle.scan.proofs.Reading.{read-same}
+use Rattle.decimal.specs.Decimal.{decimal}
+use Rattle.decimal.proofs.Spelling.{ten-length}
+use Rattle.event.specs.Event.{Event, Bytes, Valid}
+use Rattle.nson.specs.Nson.{Counts, bytesIn, counts, descriptors, field, headText, bodyText, nson}
+use Rattle.nson.specs.Carries.{Carries}
+use Rattle.nson.specs.Read.{headAt, countsAt, Body, bodyAt, eventOf, eventAt, readNson}
+use Rattle.nson.proofs.Pieces.{after, pick-shown, shown-same, respell}
+use Rattle.nson.proofs.Texts.{Good}
+use Rattle.nson.proofs.Counts.{Holds}
+use Rattle.nson.proofs.Field.{counts-shown}
+use Rattle.nson.proofs.Body.{GoodBody, body-shown}
+use Rattle.nson.proofs.Head.{Head, head-shown}
+use Rattle.nson.proofs.Carrying.{descriptors-length, tags-carried}
+
+-- ---- an event that was read
+
+pub record Stands (s : List ℕ) (e : Event) (end : ℕ) : Type 0 where
+  pub text : Span s 0 (nson e) end
+  -- the field at 318, and what is read of it
+  pub behind : ℕ
+  pub counted : countsAt s ≡ read (counts e) behind
+  pub field-text : Span s 318 (field (counts e)) behind
+  pub holds : Holds (counts e)
+  pub few : length (descriptors (counts e)) ≤ 127
+  pub ten : length (decimal (e .createdAt)) ≡ 10
+  pub id : Bytes 32 (e .id)
+  pub pubkey : Bytes 32 (e .pubkey)
+  pub sig : Bytes 64 (e .sig)
+  pub kind16 : e .kind ≤ 65_535
+  pub content : Good (e .content)
+  pub texts : All (All Good) (e .tags)
+
+event-stands : (s : List ℕ) (v : Read Event) → eventAt s ≡ shown v → Stands s (v .value) (v .next)
+unfolding eventAt eventOf counts nson headText bodyText
+event-stands s v e =
+    after (headAt s) _ v e
+    (λ h p e₁.
+    after (countsAt s) _ v e₁
+    (λ n q e₂.
+    after (bodyAt (n .value) s (n .next)) _ v e₂
+    (λ b r e₃.
+    let f : record { value = eventOf s (h .value) (b .value); next = b .next } ≡ v = shown-same e₃ in
+    let head = head-shown s h p in
+    let body = body-shown (n .value) s (n .next) b r in
+    let c : n .value ≡ counts (eventOf s (h .value) (b .value)) = sym (body .sized) in
+    let k = counts-shown s n q in
+    let held = body .holds in
+    let at = respell (ap field c) (k .0) in
+    rw (sym f) record {
+      text = join (join (head .text) at) (body .span);
+      behind = n .next;
+      counted = q ∙ ap (λ (x : Counts). read x (n .next)) c;
+      field-text = at;
+      holds = rw c at (k .1);
+      few = rw c at (k .2);
+      ten = head .ten;
+      id = head .id;
+      pubkey = head .pubkey;
+      sig = head .sig;
+      kind16 = held .kind16;
+      content = held .content;
+      texts = held .texts;
+    })))
