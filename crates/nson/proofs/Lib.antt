@@ -8,4 +8,6 @@ pub mod Field
 pub mod Body
 pub mod Head
 pub mod Carrying
+pub mod Stands
 pub mod Sound
+pub mod Complete

@@ -1,77 +1,83 @@
 -- THE soundness: a string that shows an event is the event's own text, and the event is carried and valid; its counts are the event's.
--- The three parts that are read stand one behind the other from 0 to the end, and the counts are those that the body was read by.
-use Prim.Native.Nat.{ℕ, _+_, _≤_}
-use mathlib.Core.Path.{_≡_, refl, sym, ap, _∙_}
-use mathlib.Core.Bool.{true}
-use mathlib.Core.List.{List, _++_}
+-- From what stands in the input (`Stands`): the bounds of the field give what is carried, the pieces give what is valid.
+use Prim.Native.Nat.{ℕ, _*_, _≤_}
+use mathlib.Core.Path.{_≡_, refl, sym, _∙_}
+use mathlib.Core.List.{List, [], _∷_, map}
 use native.Mathlib.Omega.{arith}
 use lib.ListN.{length, length-map}
-use lib.Dec.{leb, eqb}
-use borrow.Author.Tests.{leb-true, eqb-true}
-use Rattle.scan.specs.Choice.{pick, Answer, shown, refused, Read, read, andThen}
-use Rattle.scan.specs.Span.{Span, All}
-use Rattle.scan.proofs.SpanLaws.{join, whole-span}
+use Rattle.scan.specs.Choice.{shown, read}
+use Rattle.scan.specs.Span.{Span}
+use Rattle.scan.proofs.SpanLaws.{cut-at, whole-span}
 use Rattle.scan.proofs.Reading.{read-same}
-use Rattle.decimal.specs.Decimal.{decimal}
+use Rattle.hex.specs.Hex.{hexes}
 use Rattle.decimal.proofs.Spelling.{ten-length}
-use Rattle.event.specs.Event.{Event, Bytes, Valid}
-use Rattle.nson.specs.Nson.{Counts, bytesIn, counts, descriptors, field, headText, bodyText, nson}
+use Rattle.event.specs.Event.{Event, Valid}
+use Rattle.nson.specs.Nson.{Counts, bytesIn, counts, descriptors, field, nson}
 use Rattle.nson.specs.Carries.{Carries}
-use Rattle.nson.specs.Read.{headAt, countsAt, Body, bodyAt, eventOf, eventAt, readNson}
-use Rattle.nson.proofs.Pieces.{after, pick-shown, shown-same, respell}
-use Rattle.nson.proofs.Texts.{Good}
-use Rattle.nson.proofs.Counts.{Holds}
-use Rattle.nson.proofs.Field.{counts-shown}
-use Rattle.nson.proofs.Body.{GoodBody, body-shown}
-use Rattle.nson.proofs.Head.{Head, head-shown}
+use Rattle.nson.specs.Read.{byteHere, countsAt, readNson}
+use Rattle.nson.proofs.Descriptors.{digits-byte}
 use Rattle.nson.proofs.Carrying.{descriptors-length, tags-carried}
+use Rattle.nson.proofs.Stands.{string-stands}
 
--- ---- an event that was read
+pub record Accepted (s : List ℕ) (e : Event) : Type 0 where
+  pub text : s ≡ nson e
+  pub carries : Carries e
+  pub valid : Valid e
 
-pub record Stands (s : List ℕ) (e : Event) (end : ℕ) : Type 0 where
-  pub text : Span s 0 (nson e) end
-  -- the field at 318, and what is read of it
-  pub behind : ℕ
-  pub counted : countsAt s ≡ read (counts e) behind
-  pub field-text : Span s 318 (field (counts e)) behind
-  pub holds : Holds (counts e)
-  pub few : length (descriptors (counts e)) ≤ 127
-  pub ten : length (decimal (e .createdAt)) ≡ 10
-  pub id : Bytes 32 (e .id)
-  pub pubkey : Bytes 32 (e .pubkey)
-  pub sig : Bytes 64 (e .sig)
-  pub kind16 : e .kind ≤ 65_535
-  pub content : Good (e .content)
-  pub texts : All (All Good) (e .tags)
+-- THE soundness: what is accepted is the writer's own text, of an event that NSON can carry and that is valid
+pub accepted : {s : List ℕ} {e : Event} → readNson s ≡ shown e → Accepted s e
+unfolding counts
+accepted {s} {e} r =
+    let u = string-stands r in
+    let w = u .0 in
+    let text : s ≡ nson e = whole-span (w .text) in
+    let time = ten-length (e .createdAt) (w .ten) in
+    let held = w .holds in
+    let good = w .content in
+    let tags = tags-carried (w .texts) (held .each) in
+    let few = w .few in
+    let short : length (nson e) ≤ 65_536 = rw text at (u .1) in
+    record {
+      text = text;
+      carries =
+          record {
+            early = time .0;
+            late = time .1;
+            content = record { plain = good .carried; short = held .content };
+            texts = tags .0;
+            few = omega (arith, descriptors-length e);
+            whole = short;
+          };
+      valid =
+          record {
+            id32 = w .id;
+            pubkey32 = w .pubkey;
+            sig64 = w .sig;
+            time = omega (arith, time .1);
+            kind16 = w .kind16;
+            few = omega (arith, held .few, length-map (e .tags) (map bytesIn));
+            each = tags .1;
+            text = good .utf8;
+          };
+    }
 
-event-stands : (s : List ℕ) (v : Read Event) → eventAt s ≡ shown v → Stands s (v .value) (v .next)
-unfolding eventAt eventOf counts nson headText bodyText
-event-stands s v e =
-    after (headAt s) _ v e
-    (λ h p e₁.
-    after (countsAt s) _ v e₁
-    (λ n q e₂.
-    after (bodyAt (n .value) s (n .next)) _ v e₂
-    (λ b r e₃.
-    let f : record { value = eventOf s (h .value) (b .value); next = b .next } ≡ v = shown-same e₃ in
-    let head = head-shown s h p in
-    let body = body-shown (n .value) s (n .next) b r in
-    let c : n .value ≡ counts (eventOf s (h .value) (b .value)) = sym (body .sized) in
-    let k = counts-shown s n q in
-    let held = body .holds in
-    let at = respell (ap field c) (k .0) in
-    rw (sym f) record {
-      text = join (join (head .text) at) (body .span);
-      behind = n .next;
-      counted = q ∙ ap (λ (x : Counts). read x (n .next)) c;
-      field-text = at;
-      holds = rw c at (k .1);
-      few = rw c at (k .2);
-      ten = head .ten;
-      id = head .id;
-      pubkey = head .pubkey;
-      sig = head .sig;
-      kind16 = held .kind16;
-      content = held .content;
-      texts = held .texts;
-    })))
+-- every count that an accepted string's field holds is that of the event
+pub counts-true : (s : List ℕ) {e : Event} {c : Counts} {p : ℕ} → readNson s ≡ shown e → countsAt s ≡ read c p → c ≡ counts e
+counts-true s r q = let w = string-stands r .0 in read-same (sym q ∙ w .counted) .0
+
+-- and an accepted string has counts: its field at 318 is the event's, with the size that its descriptors take
+pub field-true : {s : List ℕ} {e : Event} → readNson s ≡ shown e → (p : ℕ) × (countsAt s ≡ read (counts e) p) × Span s 318 (field (counts e)) p
+field-true r = let w = string-stands r .0 in (w .behind, w .counted, w .field-text)
+
+-- the size at 318 counts the hex characters of the descriptors
+pub size-true : (s : List ℕ) {e : Event} → readNson s ≡ shown e → byteHere s 318 ≡ 2 * length (descriptors (counts e))
+unfolding field
+size-true s {e} r =
+    let w = string-stands r .0 in
+    let few = w .few in
+    let u = cut-at (hexes (2 * length (descriptors (counts e)) ∷ [])) 2 refl (w .field-text) in
+    digits-byte (omega arith) (u .0)
+
+-- two accepted strings that show one event are one string
+pub one-string : {s t : List ℕ} {e : Event} → readNson s ≡ shown e → readNson t ≡ shown e → s ≡ t
+one-string p q = accepted p .text ∙ sym (accepted q .text)
