@@ -3,6 +3,7 @@
 use Prim.Native.Nat.{ℕ, _+_, _*_, _≤_}
 use mathlib.Core.Path.{_≡_, refl, sym, ap, _∙_, subst}
 use mathlib.Core.List.{List, [], _∷_, _++_, append-assoc, map}
+use mathlib.Core.Logic.{_↔_}
 use native.Mathlib.Omega.{arith}
 use lib.ListN.{length}
 use borrow.Author.Tests.{le-leb, eq-eqb}
@@ -22,6 +23,7 @@ use Rattle.nson.proofs.Pieces.{shown-same, respell, part-of-span, piece
 use Rattle.nson.proofs.Field.{counts-accept}
 use Rattle.nson.proofs.Body.{GoodBody, body-accepts}
 use Rattle.nson.proofs.Head.{keyAt}
+use Rattle.nson.proofs.Sound.{Accepted, accepted}
 use Rattle.nson.proofs.Carrying.{descriptors-length, carried-tags, carried-holds}
 
 -- ---- the head
@@ -112,3 +114,7 @@ read-back {e} c v =
 -- the text is one event's alone
 pub nson-injective : {d e : Event} → Carries d → Valid d → Carries e → Valid e → nson d ≡ nson e → d ≡ e
 nson-injective c v k w t = shown-same (sym (read-back c v) ∙ ap readNson t ∙ read-back k w)
+
+-- both: a string shows an event exactly if it is the event's text and the event is carried and valid
+pub exactly : (s : List ℕ) (e : Event) → (readNson s ≡ shown e) ↔ Accepted s e
+exactly s e = (accepted, λ a. rw (a .text) (read-back (a .carries) (a .valid)))

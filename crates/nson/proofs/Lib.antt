@@ -11,3 +11,4 @@ pub mod Carrying
 pub mod Stands
 pub mod Sound
 pub mod Complete
+pub mod Decision
