@@ -1,7 +1,7 @@
 -- Arrays: items are shown, one for each count, exactly where their spellings stand with commas between them.
 -- One law for any item, by induction on the counts or on the items; used for the texts of a tag and for the tags.
 use Prim.Native.Nat.{ℕ}
-use mathlib.Core.Path.{_≡_, refl, sym, ap, _∙_}
+use mathlib.Core.Path.{_≡_, refl, sym, ap}
 use mathlib.Core.Bool.{Bool, true, false}
 use mathlib.Core.List.{List, [], _∷_, _++_, append-nil, map}
 use Rattle.scan.specs.Choice.{Answer, shown, Read, read}

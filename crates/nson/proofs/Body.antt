@@ -1,13 +1,12 @@
 -- Behind the field: kind, content and tags are read exactly where they stand in so many bytes as the counts say.
 -- Piece after piece, by the laws of the decimal spelling, of the counted text and of arrays.
-use Prim.Native.Nat.{ℕ, _+_, _≤_}
-use mathlib.Core.Path.{_≡_, refl, sym, ap, _∙_}
-use mathlib.Core.Bool.{true}
-use mathlib.Core.List.{List, [], _∷_, _++_, append-assoc, map}
+use Prim.Native.Nat.{ℕ, _≤_}
+use mathlib.Core.Path.{_≡_, refl, sym}
+use mathlib.Core.List.{List, _++_, append-assoc, map}
 use lib.ListN.{length}
 use lib.Dec.{leb}
 use borrow.Author.Tests.{leb-true, le-leb}
-use Rattle.scan.specs.Choice.{Answer, shown, Read, read}
+use Rattle.scan.specs.Choice.{shown, Read, read}
 use Rattle.scan.specs.Span.{Span, All}
 use Rattle.scan.proofs.SpanLaws.{join, cut}
 use Rattle.decimal.specs.Decimal.{decimal}

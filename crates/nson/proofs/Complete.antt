@@ -1,24 +1,23 @@
 -- THE completeness: the text of an event that is carried and valid is read as that event; so the text is the event's alone.
 -- The text is cut into its pieces, whose places are known, and each piece is rewritten by its *accepts*.
-use Prim.Native.Nat.{ℕ, _+_, _*_, _≤_}
+use Prim.Native.Nat.{ℕ, _*_}
 use mathlib.Core.Path.{_≡_, refl, sym, ap, _∙_, subst}
-use mathlib.Core.List.{List, [], _∷_, _++_, append-assoc, map}
+use mathlib.Core.List.{List, _++_, append-assoc}
 use mathlib.Core.Logic.{_↔_}
 use native.Mathlib.Omega.{arith}
 use lib.ListN.{length}
 use borrow.Author.Tests.{le-leb, eq-eqb}
-use Rattle.scan.specs.Choice.{Answer, shown, Read, read}
-use Rattle.scan.specs.Span.{Span, All}
+use Rattle.scan.specs.Choice.{shown, read}
+use Rattle.scan.specs.Span.{Span}
 use Rattle.scan.proofs.SpanLaws.{cut, cut-at, span-length, input-span}
 use Rattle.hex.specs.Hex.{hexes, unhex}
 use Rattle.hex.proofs.Texts.{length-hexes, hexes-digits, unhex-hexes}
 use Rattle.decimal.specs.Decimal.{decimal}
 use Rattle.decimal.proofs.Spelling.{length-ten}
 use Rattle.event.specs.Event.{Event, Bytes, Valid}
-use Rattle.event.proofs.Laws.{all-seven}
 use Rattle.nson.specs.Nson.{idLabel, pubkeyLabel, sigLabel, timeLabel, nsonLabel, counts, field, headText, bodyText, nson}
 use Rattle.nson.specs.Carries.{Carries}
-use Rattle.nson.specs.Read.{hexAt, labelledAt, keysAt, timeAt, headAt, countsAt, Body, bodyAt, eventOf, eventAt, readNson}
+use Rattle.nson.specs.Read.{hexAt, labelledAt, keysAt, timeAt, headAt, Body, eventOf, eventAt, readNson}
 use Rattle.nson.proofs.Pieces.{shown-same, respell, part-of-span, piece-accepts, hex-accepts, decimal-accepts}
 use Rattle.nson.proofs.Field.{counts-accept}
 use Rattle.nson.proofs.Body.{GoodBody, body-accepts}

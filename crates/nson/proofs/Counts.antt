@@ -1,25 +1,25 @@
 -- The counts that a field can hold; the kind's, and a tag's, are read exactly where their descriptors stand.
 -- By the laws of one descriptor; the counts of a tag's items are reads one after the other.
-use Prim.Native.Nat.{ℕ, _+_, _*_, _≤_}
-use mathlib.Core.Path.{_≡_, refl, sym, ap, _∙_}
+use Prim.Native.Nat.{ℕ, _+_, _≤_}
+use mathlib.Core.Path.{_≡_, refl, sym}
 use mathlib.Core.Bool.{Bool, true, false}
 use mathlib.Core.List.{List, [], _∷_, _++_}
 use native.Mathlib.Omega.{arith}
 use lib.ListN.{length}
 use lib.Dec.{eqb}
-use borrow.Author.Tests.{eqb-true, eqb-false, eq-eqb, ne-eqb, le-leb}
-use Rattle.scan.specs.Choice.{pick, Answer, shown, refused, Read, read, many}
+use borrow.Author.Tests.{eqb-false, ne-eqb, le-leb}
+use Rattle.scan.specs.Choice.{pick, shown, refused, Read, read}
 use Rattle.scan.specs.Place.{within}
 use Rattle.scan.specs.Span.{Span, All}
-use Rattle.scan.proofs.SpanLaws.{join, cut, cut-at, span-length}
+use Rattle.scan.proofs.SpanLaws.{join, cut-at, span-length}
 use Rattle.hex.specs.Hex.{hexes}
 use Rattle.hex.proofs.Digits.{in-range}
-use Rattle.hex.proofs.Texts.{length-hexes, hexes-append, hexes-digits}
-use Rattle.nson.specs.Nson.{Counts, word, words, tagCounts, descriptors, field}
-use Rattle.nson.specs.Read.{hexAt, byteHere, byteCountAt, wordCountAt, kindCountAt, itemCountAt, tagCountsAt, countsTo, countsAt}
-use Rattle.nson.proofs.Pieces.{after, pick-shown, shown-same, respell, hex-shown, hex-accepts}
+use Rattle.hex.proofs.Texts.{hexes-append}
+use Rattle.nson.specs.Nson.{Counts, word, words, tagCounts}
+use Rattle.nson.specs.Read.{byteCountAt, wordCountAt, kindCountAt, itemCountAt, tagCountsAt}
+use Rattle.nson.proofs.Pieces.{after, pick-shown, shown-same}
 use Rattle.nson.proofs.Repeats.{many-shown, many-accepts}
-use Rattle.nson.proofs.Descriptors.{byte-most, byte-bytes, byte-digits, digits-byte, byte-count-shown, byte-count-accepts, word-count-shown, word-count-accepts}
+use Rattle.nson.proofs.Descriptors.{byte-count-shown, byte-count-accepts, word-count-shown, word-count-accepts}
 
 -- ---- what counts the field can hold
 

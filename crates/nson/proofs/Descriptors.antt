@@ -1,20 +1,19 @@
 -- One descriptor: two hex digits at a place are the byte that stands there, four are the number of two bytes; and back.
 -- By `unhex` of the digits, which is what the byte at a place is computed from.
-use Prim.Native.Nat.{ℕ, _+_, _*_, _/_, _%_, _≤_, _<_}
+use Prim.Native.Nat.{ℕ, _+_, _*_, _/_, _%_, _≤_}
 use mathlib.Core.Path.{_≡_, refl, sym, ap, _∙_}
-use mathlib.Core.Bool.{Bool, true}
-use mathlib.Core.List.{List, [], _∷_, _++_}
+use mathlib.Core.List.{List, [], _∷_}
 use native.Mathlib.Omega.{arith}
-use lib.ListN.{length, getD}
+use lib.ListN.{length}
 use lib.Dec.{leb}
 use borrow.Author.Tests.{le-leb}
-use Rattle.scan.specs.Choice.{Answer, shown, Read, read}
+use Rattle.scan.specs.Choice.{shown, Read, read}
 use Rattle.scan.specs.Span.{Span, here, step, All, none, also, IsBytes}
 use Rattle.scan.proofs.SpanLaws.{cut-at, span-length}
-use Rattle.hex.specs.Hex.{Digit, hexes, unhex, valueOf}
-use Rattle.hex.proofs.Texts.{length-hexes, hexes-digits, hexes-unhex, unhex-hexes}
+use Rattle.hex.specs.Hex.{Digit, hexes, unhex}
+use Rattle.hex.proofs.Texts.{hexes-digits, hexes-unhex, unhex-hexes}
 use Rattle.nson.specs.Nson.{word}
-use Rattle.nson.specs.Read.{partAt, hexAt, byteHere, wordHere, descriptorAt, byteCountAt, wordCountAt}
+use Rattle.nson.specs.Read.{hexAt, byteHere, wordHere, descriptorAt, byteCountAt, wordCountAt}
 use Rattle.nson.proofs.Pieces.{after, pick-shown, shown-same, respell, HexHere, hex-shown, hex-accepts}
 
 -- ---- the byte and the number at a place

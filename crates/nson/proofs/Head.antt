@@ -1,20 +1,20 @@
 -- Up to the field: id, pubkey, sig and the time are read exactly where they stand, and the places of all are fixed: the field is at 318.
 -- Piece after piece; each has a length that is known, so each has one place.
-use Prim.Native.Nat.{ℕ, _+_, _*_, _/_, _%_, _≤_}
+use Prim.Native.Nat.{ℕ, _+_, _/_, _%_}
 use mathlib.Core.Path.{_≡_, refl, sym, ap, _∙_}
-use mathlib.Core.List.{List, [], _∷_, _++_, append-assoc}
+use mathlib.Core.List.{List, _++_}
 use native.Mathlib.Omega.{arith}
 use lib.ListN.{length}
-use Rattle.scan.specs.Choice.{Answer, shown, Read, read}
-use Rattle.scan.specs.Span.{Span, All, IsBytes}
-use Rattle.scan.proofs.SpanLaws.{join, cut-at, span-length}
+use Rattle.scan.specs.Choice.{shown, Read}
+use Rattle.scan.specs.Span.{Span}
+use Rattle.scan.proofs.SpanLaws.{join, span-length}
 use Rattle.hex.specs.Hex.{hexes, unhex}
-use Rattle.hex.proofs.Texts.{length-hexes, hexes-digits, unhex-hexes, hexes-unhex, length-unhex, unhex-bytes}
+use Rattle.hex.proofs.Texts.{hexes-unhex, length-unhex, unhex-bytes}
 use Rattle.decimal.specs.Decimal.{decimal}
-use Rattle.event.specs.Event.{Event, Bytes}
-use Rattle.nson.specs.Nson.{idLabel, pubkeyLabel, sigLabel, timeLabel, nsonLabel, headText}
+use Rattle.event.specs.Event.{Bytes}
+use Rattle.nson.specs.Nson.{idLabel, pubkeyLabel, sigLabel, timeLabel, nsonLabel}
 use Rattle.nson.specs.Read.{pieceAt, partAt, hexAt, labelledAt, keysAt, timeAt, headAt}
-use Rattle.nson.proofs.Pieces.{after, shown-same, respell, part-of-span, piece-shown, piece-accepts, hex-shown, hex-accepts, decimal-shown, decimal-accepts}
+use Rattle.nson.proofs.Pieces.{after, shown-same, respell, piece-shown, hex-shown, decimal-shown}
 
 -- ---- a label and hex digits
 

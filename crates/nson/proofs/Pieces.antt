@@ -1,9 +1,9 @@
 -- The pieces of the reading, each in both directions: shown exactly where its spelling is a span of the input.
 -- By the laws of the fixed byte string, of hex and of decimal spellings; each piece ends where its span ends.
-use Prim.Native.Nat.{ℕ, _+_, _%_}
+use Prim.Native.Nat.{ℕ, _+_}
 use mathlib.Core.Path.{_≡_, refl, sym, ap, _∙_, subst}
 use mathlib.Core.Bool.{Bool, true, false}
-use mathlib.Core.List.{List, _++_}
+use mathlib.Core.List.{List}
 use native.Mathlib.Omega.{arith}
 use lib.ListN.{length, take, drop, take-append-drop}
 use lib.Seq.{take-at}

@@ -1,7 +1,7 @@
 -- general: belongs to crate scan. Reads one after the other are shown exactly where the spellings of their values stand one after the other.
 -- By induction on the number, or on the values; G is what the single spellings g make together.
-use Prim.Native.Nat.{ℕ, zero, suc, _+_, _≤_}
-use mathlib.Core.Path.{_≡_, refl, sym, ap, _∙_}
+use Prim.Native.Nat.{ℕ, zero, suc, _≤_}
+use mathlib.Core.Path.{_≡_, refl, sym, ap}
 use mathlib.Core.List.{List, [], _∷_, _++_}
 use native.Mathlib.Omega.{arith}
 use lib.ListN.{length}

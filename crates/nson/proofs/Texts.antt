@@ -1,17 +1,14 @@
 -- A counted text is shown exactly where the escaped text stands in so many bytes; likewise an item between its quotes.
 -- Without a fault the bytes are well quoted UTF-8, their JSON meaning is their plain text, and that escaped gives them back.
-use Prim.Native.Nat.{ℕ, _+_, _≤_}
+use Prim.Native.Nat.{ℕ, _+_}
 use mathlib.Core.Path.{_≡_, refl, sym, ap, _∙_}
-use mathlib.Core.Bool.{Bool, true}
-use mathlib.Core.List.{List, [], _∷_, _++_}
-use native.Mathlib.Omega.{arith}
+use mathlib.Core.List.{List, [], _∷_}
 use lib.ListN.{length}
 use lib.Dec.{eqb}
 use borrow.Author.Tests.{eqb-true, eq-eqb, ne-eqb}
-use Rattle.scan.specs.Choice.{pick, Answer, shown, refused, Read, read}
+use Rattle.scan.specs.Choice.{pick, shown, refused, Read, read}
 use Rattle.scan.specs.Span.{Span, All}
-use Rattle.scan.proofs.SpanLaws.{join, cut, open-span, span-length}
-use Rattle.scan.proofs.Reading.{read-same}
+use Rattle.scan.proofs.SpanLaws.{join, cut, span-length}
 use Rattle.utf8.specs.Utf8.{Utf8}
 use Rattle.escape.specs.Escape.{Carried, nsonByte, escaped, meaning, plainFrom, plain}
 use Rattle.escape.specs.Quoted.{Quoted, none, bare, escape, NsonBare, nson-bare, NsonLetter, letter-n, letter-quote, letter-backslash}
