@@ -4,7 +4,6 @@ use Prim.Native.Nat.{ℕ, _≤_}
 use mathlib.Core.Path.{_≡_, refl, sym}
 use mathlib.Core.List.{List, _++_, append-assoc, map}
 use lib.ListN.{length}
-use lib.Dec.{leb}
 use borrow.Author.Tests.{leb-true, le-leb}
 use Rattle.scan.specs.Choice.{shown, Read, read}
 use Rattle.scan.specs.Span.{Span, All}
@@ -34,7 +33,7 @@ unfolding kindAt
 kind-shown n s at v e =
     after (decimalAt 13 n s at) _ v e
     (λ k p e₁.
-    let t = pick-shown (leb (k .value) 65_535) (shown k) 6 at v e₁ in
+    let t = pick-shown _ _ 6 at v e₁ in
     let f : k ≡ v = shown-same (t .1) in
     let d = decimal-shown 13 n s at k p in
     rw (sym f) record { span = d .1; sized = d .0; holds = leb-true (k .value) 65_535 (t .0) })

@@ -47,7 +47,7 @@ unfolding kindCountAt
 kind-count-shown end s at v e =
     after (byteCountAt end s at) _ v e
     (λ n p e₁.
-    let t = pick-shown (within 1 5 (n .value)) (shown n) 13 at v e₁ in
+    let t = pick-shown _ _ 13 at v e₁ in
     let f : n ≡ v = shown-same (t .1) in
     let k = in-range 1 5 (n .value) (t .0) in
     rw (sym f) (byte-count-shown end s at n p .0, k .0, k .1))

@@ -5,7 +5,6 @@ use mathlib.Core.Path.{_≡_, refl, sym}
 use mathlib.Core.List.{List, [], _∷_}
 use native.Mathlib.Omega.{arith}
 use lib.ListN.{length}
-use lib.Dec.{eqb}
 use borrow.Author.Tests.{eqb-true, eq-eqb}
 use Rattle.scan.specs.Choice.{shown, Read, read, many}
 use Rattle.scan.specs.Span.{Span}
@@ -33,7 +32,7 @@ counts-to-shown end s at v e =
     (λ n r e₃.
     after (many (tagCountsAt end s) (n .value) (n .next)) _ v e₃
     (λ t w e₄.
-    let all = pick-shown (eqb (t .next) end) (read (record { kind = k .value; content = c .value; tags = t .value }) (t .next)) 13 318 v e₄ in
+    let all = pick-shown _ _ 13 318 v e₄ in
     let f : record { value = record { kind = k .value; content = c .value; tags = t .value }; next = t .next } ≡ v = shown-same (all .1) in
     let kind = kind-count-shown end s at k p in
     let content = word-count-shown end s (k .next) c q in

@@ -7,20 +7,17 @@ use mathlib.Core.List.{List}
 use native.Mathlib.Omega.{arith}
 use lib.ListN.{length, take, drop, take-append-drop}
 use lib.Seq.{take-at}
-use lib.Dec.{eqb}
 use borrow.Author.Tests.{eqb-true, eq-eqb}
 use Rattle.scan.specs.Choice.{pick, Answer, shown, refused, Read, read, andThen}
-use Rattle.scan.specs.Place.{standsAt}
 use Rattle.scan.specs.Span.{Span, All}
 use Rattle.scan.proofs.Step.{pick-true}
 use Rattle.scan.proofs.SpanLaws.{span-length, from-span, to-span}
 use Rattle.scan.proofs.PlaceLaws.{stands-span, span-stands}
 use Rattle.scan.proofs.Reading.{read-same}
-use Rattle.hex.specs.Hex.{Digit, allDigits}
+use Rattle.hex.specs.Hex.{Digit}
 use Rattle.hex.proofs.Texts.{digits-pass, pass-digits}
 use Rattle.decimal.specs.Decimal.{decimal, numberOf}
 use Rattle.decimal.proofs.Spelling.{number-decimal}
-use Rattle.event.specs.Event.{sameText}
 use Rattle.event.proofs.Laws.{same-text, text-same}
 use Rattle.nson.specs.Read.{pieceAt, partAt, hexAt, isDecimal, decimalAt}
 
@@ -56,7 +53,7 @@ respell {s} {a = a} {c = c} e r = subst (λ (k : List ℕ). Span s a k c) e r
 pub piece-shown : (number : ℕ) (w s : List ℕ) (at p : ℕ) → pieceAt number w s at ≡ shown p → Span s at w p
 unfolding pieceAt
 piece-shown number w s at p e =
-    let u = pick-shown (standsAt w s at) (shown (at + length w)) number at p e in
+    let u = pick-shown _ _ number at p e in
     let f : at + length w ≡ p = shown-same (u .1) in
     rw f at (stands-span w s at (u .0))
 
@@ -76,8 +73,8 @@ pub hex-shown : (n : ℕ) (s : List ℕ) (at p : ℕ) → hexAt n s at ≡ shown
 unfolding hexAt
 hex-shown n s at p e =
     let l = partAt n s at in
-    let u = pick-shown (eqb (length l) n) (pick (allDigits l) (shown (at + n)) (refused 12 at)) 12 at p e in
-    let v = pick-shown (allDigits l) (shown (at + n)) 12 at p (u .1) in
+    let u = pick-shown _ _ 12 at p e in
+    let v = pick-shown _ _ 12 at p (u .1) in
     let c = eqb-true (length l) n (u .0) in
     let f : at + n ≡ p = shown-same (v .1) in
     record { span = rw f at (span-of-part s at n c); count = c; digits = pass-digits l (v .0) }
@@ -95,8 +92,8 @@ pub decimal-shown : (number n : ℕ) (s : List ℕ) (at : ℕ) (v : Read ℕ) �
 unfolding decimalAt isDecimal
 decimal-shown number n s at v e =
     let l = partAt n s at in
-    let u = pick-shown (pick (eqb (length l) n) (sameText l (decimal (numberOf l))) false) (read (numberOf l) (at + n)) number at v e in
-    let t = pick-true (eqb (length l) n) (sameText l (decimal (numberOf l))) (u .0) in
+    let u = pick-shown _ _ number at v e in
+    let t = pick-true _ _ (u .0) in
     let c = eqb-true (length l) n (t .0) in
     let f = read-same (u .1) in
     let d : l ≡ decimal (v .value) = text-same l (decimal (numberOf l)) (t .1) ∙ ap decimal (f .0) in

@@ -4,7 +4,6 @@ use Prim.Native.Nat.{ℕ, _≤_}
 use mathlib.Core.Path.{_≡_, sym, ap, _∙_}
 use mathlib.Core.List.{List}
 use lib.ListN.{length}
-use lib.Dec.{leb, eqb}
 use borrow.Author.Tests.{leb-true, eqb-true}
 use Rattle.scan.specs.Choice.{shown, Read, read}
 use Rattle.scan.specs.Span.{Span, All}
@@ -74,10 +73,10 @@ event-stands s v e =
 pub string-stands : {s : List ℕ} {e : Event} → readNson s ≡ shown e → Stands s e (length s) × (length s ≤ 65_536)
 unfolding readNson
 string-stands {s} {e} r =
-    let t = pick-shown (leb (length s) 65_536) _ 1 0 e r in
+    let t = pick-shown _ _ 1 0 e r in
     after (eventAt s) _ e (t .1)
     (λ v p e₁.
-    let u = pick-shown (eqb (v .next) (length s)) (shown (v .value)) 10 (v .next) e e₁ in
+    let u = pick-shown _ _ 10 (v .next) e e₁ in
     let f : v .value ≡ e = shown-same (u .1) in
     let k : v .next ≡ length s = eqb-true (v .next) (length s) (u .0) in
     (rw (f, k) at (event-stands s v p), leb-true (length s) 65_536 (t .0)))

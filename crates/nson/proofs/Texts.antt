@@ -4,9 +4,8 @@ use Prim.Native.Nat.{ℕ, _+_}
 use mathlib.Core.Path.{_≡_, refl, sym, ap, _∙_}
 use mathlib.Core.List.{List, [], _∷_}
 use lib.ListN.{length}
-use lib.Dec.{eqb}
 use borrow.Author.Tests.{eqb-true, eq-eqb, ne-eqb}
-use Rattle.scan.specs.Choice.{pick, shown, refused, Read, read}
+use Rattle.scan.specs.Choice.{shown, Read, read}
 use Rattle.scan.specs.Span.{Span, All}
 use Rattle.scan.proofs.SpanLaws.{join, cut, span-length}
 use Rattle.utf8.specs.Utf8.{Utf8}
@@ -69,8 +68,8 @@ pub text-shown : (n : ℕ) (s : List ℕ) (at p : ℕ) → textAt n s at ≡ sho
 unfolding textAt bytesIn
 text-shown n s at p e =
     let l = partAt n s at in
-    let u = pick-shown (eqb (faultIn l) 0) (pick (eqb (length l) n) (shown (at + n)) (refused 13 at)) (faultIn l) at p e in
-    let v = pick-shown (eqb (length l) n) (shown (at + n)) 13 at p (u .1) in
+    let u = pick-shown _ _ (faultIn l) at p e in
+    let v = pick-shown _ _ 13 at p (u .1) in
     let c = eqb-true (length l) n (v .0) in
     let f : at + n ≡ p = shown-same (v .1) in
     let g = faultless-text l (eqb-true (faultIn l) 0 (u .0)) in
