@@ -12,3 +12,4 @@ pub mod Stands
 pub mod Sound
 pub mod Complete
 pub mod Decision
+pub mod Example
