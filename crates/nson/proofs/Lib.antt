@@ -1,0 +1,15 @@
+pub mod Pieces
+pub mod Texts
+pub mod Arrays
+pub mod Repeats
+pub mod Descriptors
+pub mod Counts
+pub mod Field
+pub mod Body
+pub mod Head
+pub mod Carrying
+pub mod Stands
+pub mod Sound
+pub mod Complete
+pub mod Decision
+pub mod Example

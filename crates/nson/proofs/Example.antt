@@ -1,0 +1,58 @@
+-- The laws are not empty: document 01's example has 366 bytes and its counts, and is read; with other counts it is refused as the paper says.
+-- By running the definitions.
+use Prim.Native.Nat.{ℕ}
+use mathlib.Core.Path.{_≡_, refl}
+use mathlib.Core.List.{List, [], _∷_, _++_}
+use lib.ListN.{length, replicate}
+use Rattle.scan.specs.Choice.{shown, refused, many}
+use Rattle.scan.specs.Place.{begins, standsAt, within}
+use Rattle.utf8.specs.Encode.{encode}
+use Rattle.utf8.specs.Width.{widthOf}
+use Rattle.hex.specs.Hex.{hexes, valueOf, unhex, allDigits}
+use Rattle.decimal.specs.Decimal.{decimalIn, decimal}
+use Rattle.escape.specs.Escape.{nsonByte, escaped}
+use Rattle.event.specs.Event.{Event, sameText}
+use Rattle.jsontext.specs.Escape.{letterOf, letterEscape, escapeAt, orItself, unescaped, unescape}
+use Rattle.counted.specs.Counted.{isLetter, faultFrom, faultIn}
+use Rattle.tagtext.specs.TagText.{quoted, tagText, tagsText}
+use Rattle.nson.specs.Nson.{bytesIn, counts, field, headText, bodyText, nson}
+use Rattle.nson.specs.Read as reading
+use Rattle.nson.proofs.Sound.{Accepted, accepted}
+
+-- zero id, pubkey and sig, time 1,000,000,000, kind 1, no tags and content a"b
+abbrev event : Event
+event =
+    record {
+      id = replicate 32 0;
+      pubkey = replicate 32 0;
+      sig = replicate 64 0;
+      createdAt = 1_000_000_000;
+      kind = 1;
+      tags = [];
+      content = 0x61 ∷ 0x22 ∷ 0x62 ∷ [];
+    }
+
+-- the same text with another count of the content's bytes
+abbrev with : ℕ → List ℕ
+with n = headText event ++ hexes (0x08 ∷ 0x01 ∷ 0x00 ∷ n ∷ 0x00 ∷ []) ++ bodyText event
+
+pub example-field : field (counts event) ≡ hexes (0x08 ∷ 0x01 ∷ 0x00 ∷ 0x04 ∷ 0x00 ∷ [])
+unfolding field counts bytesIn escaped nsonByte decimal decimalIn
+example-field = refl
+
+pub example-length : length (nson event) ≡ 366
+unfolding nson headText bodyText field counts bytesIn escaped nsonByte decimal decimalIn tagsText
+example-length = refl
+
+pub example-read : reading.readNson (nson event) ≡ shown event
+unfolding nson headText bodyText field counts bytesIn escaped nsonByte decimal decimalIn tagsText tagText quoted reading.readNson reading.eventAt reading.eventOf reading.headAt reading.keysAt reading.labelledAt reading.timeAt reading.pieceAt reading.hexAt reading.decimalAt reading.isDecimal reading.countsAt reading.countsTo reading.kindCountAt reading.itemCountAt reading.tagCountsAt reading.byteCountAt reading.wordCountAt reading.descriptorAt reading.byteHere reading.wordHere reading.bodyAt reading.kindPartAt reading.kindAt reading.contentPartAt reading.tagsPartAt reading.tagsAt reading.tagAt reading.itemAt reading.arrayAt reading.itemsAt reading.textAt many faultIn faultFrom isLetter widthOf within standsAt begins valueOf unhex allDigits sameText unescape unescaped orItself escapeAt letterEscape letterOf encode
+example-read = refl
+
+-- the counts 3, 2 and 5 for the content's four bytes: the next piece does not follow, the escape is cut, and a quote is bare
+pub example-refused : (reading.readNson (with 3) ≡ refused 13 353) × (reading.readNson (with 2) ≡ refused 14 350) × (reading.readNson (with 5) ≡ refused 13 350)
+unfolding headText bodyText escaped nsonByte decimal decimalIn tagsText tagText quoted reading.readNson reading.eventAt reading.eventOf reading.headAt reading.keysAt reading.labelledAt reading.timeAt reading.pieceAt reading.hexAt reading.decimalAt reading.isDecimal reading.countsAt reading.countsTo reading.kindCountAt reading.itemCountAt reading.tagCountsAt reading.byteCountAt reading.wordCountAt reading.descriptorAt reading.byteHere reading.wordHere reading.bodyAt reading.kindPartAt reading.kindAt reading.contentPartAt reading.tagsPartAt reading.tagsAt reading.tagAt reading.itemAt reading.arrayAt reading.itemsAt reading.textAt many faultIn faultFrom isLetter widthOf within standsAt begins valueOf unhex allDigits sameText unescape unescaped orItself escapeAt letterEscape letterOf encode
+example-refused = (refl, refl, refl)
+
+-- so there is an event that is carried and valid
+pub example-accepted : Accepted (nson event) event
+example-accepted = accepted example-read
