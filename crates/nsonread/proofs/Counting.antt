@@ -8,7 +8,8 @@ use lib.ListN.{length}
 use borrow.Author.Tests.{eq-eqb, ne-eqb}
 use Rattle.scan.specs.Choice.{Answer, shown, refused, Read, read, andThen, many}
 use Rattle.scan.proofs.Many.{many-count}
-use Rattle.nson.specs.Read.{byteHere, wordHere, descriptorAt, byteCountAt, wordCountAt, kindCountAt, tagCountsAt, countsTo}
+use Rattle.nson.specs.Read.{hexAt, countsAt, byteHere, wordHere, descriptorAt, byteCountAt, wordCountAt, kindCountAt, tagCountsAt, countsTo}
+use Rattle.nson.proofs.Pieces.{pick-shown, shown-same}
 use Rattle.nsonread.specs.declared.Sizes.{Sizes}
 use Rattle.nsonread.specs.Walk.{nextOf, sizesOf}
 use Rattle.nsonread.proofs.Laws.{next-shown, next-refused}
@@ -68,20 +69,45 @@ module _ (end : ℕ) (s : List ℕ) (at : ℕ) where
       number-stops g = rw (e, f, g) refl
 
       module _ {c : ℕ} (g : descriptorAt 2 end s b ≡ shown c) where
-        pub tags-stop : {n p : ℕ} → nextOf (many (tagCountsAt end s) (byteHere s b) c) ≡ refused n p → Sized end s at ≡ refused n p
-        unfolding countsTo wordCountAt byteCountAt
-        tags-stop h = rw (e, f, g, next-refused (many (tagCountsAt end s) (byteHere s b) c) h) refl
+        module _ {w : ℕ} (o : w ≡ byteHere s b) where
+          again : {r : Answer ℕ} → nextOf (many (tagCountsAt end s) w c) ≡ r → nextOf (many (tagCountsAt end s) (byteHere s b) c) ≡ r
+          again h = ap (λ (i : ℕ). nextOf (many (tagCountsAt end s) i c)) (sym o) ∙ h
 
-        module _ {d : ℕ} (h : nextOf (many (tagCountsAt end s) (byteHere s b) c) ≡ shown d) where
-          pub size-stops : (d ≡ end → ⊥) → Sized end s at ≡ refused 13 318
+          pub tags-stop : {n p : ℕ} → nextOf (many (tagCountsAt end s) w c) ≡ refused n p → Sized end s at ≡ refused n p
           unfolding countsTo wordCountAt byteCountAt
-          size-stops k =
-              let t = next-shown (many (tagCountsAt end s) (byteHere s b) c) h in
-              rw (e, f, g, t .1, ne-eqb d end k) refl
+          tags-stop h = rw (e, f, g, next-refused (many (tagCountsAt end s) (byteHere s b) c) (again h)) refl
 
-          pub counts-found : d ≡ end → Sized end s at ≡ read (record { kind = k; content = wordHere s a; tags = byteHere s b }) d
-          unfolding countsTo wordCountAt byteCountAt
-          counts-found q =
-              let t = next-shown (many (tagCountsAt end s) (byteHere s b) c) h in
-              let m = many-count (tagCountsAt end s) (byteHere s b) c (record { value = t .0; next = d }) (t .1) in
-              rw (e, f, g, t .1, eq-eqb d end q, m) refl
+          module _ {d : ℕ} (h : nextOf (many (tagCountsAt end s) w c) ≡ shown d) where
+            pub size-stops : (d ≡ end → ⊥) → Sized end s at ≡ refused 13 318
+            unfolding countsTo wordCountAt byteCountAt
+            size-stops q =
+                let t = next-shown (many (tagCountsAt end s) (byteHere s b) c) (again h) in
+                rw (e, f, g, t .1, ne-eqb d end q) refl
+
+            found : d ≡ end → Sized end s at ≡ read (record { kind = k; content = wordHere s a; tags = byteHere s b }) d
+            unfolding countsTo wordCountAt byteCountAt
+            found q =
+                let t = next-shown (many (tagCountsAt end s) (byteHere s b) c) (again h) in
+                let m = many-count (tagCountsAt end s) (byteHere s b) c (record { value = t .0; next = d }) (t .1) in
+                rw (e, f, g, t .1, eq-eqb d end q, m) refl
+
+            pub counts-found : {v : ℕ} → v ≡ wordHere s a → d ≡ end → Sized end s at ≡ read (record { kind = k; content = v; tags = w }) d
+            counts-found u q = rw (o, u) (found q)
+
+-- ---- the whole field
+
+-- hex digits end where their number says
+pub hex-next : (n : ℕ) (s : List ℕ) (at : ℕ) {p : ℕ} → hexAt n s at ≡ shown p → p ≡ at + n
+unfolding hexAt
+hex-next n s at e =
+    let a = pick-shown _ _ _ _ _ e in
+    let b = pick-shown _ _ _ _ _ (a .1) in
+    sym (shown-same (b .1))
+
+pub field-stops : (s : List ℕ) {n p : ℕ} → hexAt 2 s 318 ≡ refused n p → andThen (countsAt s) (λ c. read (sizesOf (c .value)) (c .next)) ≡ refused n p
+unfolding countsAt
+field-stops s e = rw e refl
+
+pub field-counts : (s : List ℕ) {p k : ℕ} → hexAt 2 s 318 ≡ shown p → k ≡ byteHere s 318 → andThen (countsAt s) (λ c. read (sizesOf (c .value)) (c .next)) ≡ Sized (320 + k) s 320
+unfolding countsAt
+field-counts s {p} e q = let f : p ≡ 320 = hex-next 2 s 318 e in rw (q, e, f) refl

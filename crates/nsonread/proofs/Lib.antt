@@ -3,3 +3,4 @@ pub mod Decimals
 pub mod Counting
 pub mod Sizing
 pub mod Turns
+pub mod Parts

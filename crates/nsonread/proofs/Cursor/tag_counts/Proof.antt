@@ -1,3 +1,6 @@
+-- `Cursor::tag_counts`: the number of items, then a count for each.
+-- By the definition; only the place behind them is kept.
+use Rattle.nson.specs.Read.{tagCountsAt}
 use borrow.Author.Needs.{needs}
 use Rattle.nsonread.proofs.Cursor.tag_counts.Statement.{statement}
 use Rattle.nsonread.proofs.Cursor.tag_counts.Tie as tie
@@ -24,11 +27,13 @@ enum-known-found-2 c = search needs
 
 -- src/lib.rt:344:5
 returns : tie.Need-returns
-returns c = ?
+unfolding tagCountsAt
+returns c = simp (← c .before .before .before .before .item-count .ensures, c .before .before .found .given .1, ← c .item-sizes .ensures)
 
 -- src/lib.rt:344:5
 returns-2 : tie.Need-returns-2
-returns-2 c = ?
+unfolding tagCountsAt
+returns-2 c = simp (← c .before .before .before .item-count .ensures, c .before .found2 .given .1)
 
 pub tag-counts-spec : {M : Type 1} → statement M
 tag-counts-spec =

@@ -1,3 +1,13 @@
+-- `Cursor::tags`: an array of n tags, and the length of their strict form.
+-- Each way out is one law of `Sizing` or `Parts`.
+use mathlib.Core.Path.{sym, ap, _∙_}
+use native.Mathlib.Omega.{arith}
+use Rattle.notepack.specs.Strict.{packTags}
+use Rattle.nson.specs.Read.{tagAt, tagsAt}
+use Rattle.nsonread.specs.Walk.{tagSizes}
+use Rattle.nsonread.specs.Answers.{skip, numberRead}
+use Rattle.nsonread.proofs.Sizing.{open-stops, inside-stops, close-stops}
+use Rattle.nsonread.proofs.Parts.{tags-sized}
 use borrow.Author.Needs.{needs}
 use Rattle.nsonread.proofs.Cursor.tags.Statement.{statement}
 use Rattle.nsonread.proofs.Cursor.tags.Tie as tie
@@ -24,7 +34,8 @@ enum-known-bracket-2 c = search needs
 
 -- src/lib.rt:594:33
 returns : tie.Need-returns
-returns c = ?
+unfolding tagsAt
+returns c = (sym (open-stops (tagAt (c .before .before .before .before .before .before .args .s .now)) packTags packTags (tagSizes (c .before .before .before .before .before .before .args .n) (c .before .before .before .before .before .before .args .s .now) 328) (c .before .before .before .before .before .before .args .s .now) _ 0 (sym (c .before .before .before .piece .ensures) ∙ ap skip (c .before .bracket2 .given .1))), omega arith)
 
 -- src/lib.rt:596:13
 tag-list-requires : tie.Need-tag-list-requires
@@ -56,15 +67,19 @@ enum-known-list-2 c = search needs
 
 -- src/lib.rt:586:5
 returns-2 : tie.Need-returns-2
-returns-2 c = ?
+returns-2 c =
+    let m = rw (c .before .before .before .before .before .before .list .given .1) at (c .before .before .before .before .before .before .before .before .tag-list .ensures .1) in
+    (sym (tags-sized (tagSizes (c .before .before .before .before .before .before .before .before .before .before .before .before .before .before .before .args .n) (c .before .before .before .before .before .before .before .before .before .before .before .before .before .before .before .args .s .now) 328) (c .before .before .before .before .before .before .before .before .before .before .before .before .before .before .before .args .s .now) _ (sym (c .before .before .before .before .before .before .before .before .before .before .before .before .piece .ensures) ∙ ap skip (c .before .before .before .before .before .before .before .before .before .before .bracket .given .1)) (sym (c .before .before .before .before .before .before .before .before .tag-list .ensures .0) ∙ ap numberRead (c .before .before .before .before .before .before .list .given .1)) (sym (c .before .before .before .piece2 .ensures) ∙ ap skip (c .before .closing .given .1))), m)
 
 -- src/lib.rt:586:5
 returns-3 : tie.Need-returns-3
-returns-3 c = ?
+unfolding tagsAt
+returns-3 c = (sym (close-stops (tagAt (c .before .before .before .before .before .before .before .before .before .before .before .before .before .before .before .args .s .now)) packTags packTags (tagSizes (c .before .before .before .before .before .before .before .before .before .before .before .before .before .before .before .args .n) (c .before .before .before .before .before .before .before .before .before .before .before .before .before .before .before .args .s .now) 328) (c .before .before .before .before .before .before .before .before .before .before .before .before .before .before .before .args .s .now) _ 0 (sym (c .before .before .before .before .before .before .before .before .before .before .before .before .piece .ensures) ∙ ap skip (c .before .before .before .before .before .before .before .before .before .before .bracket .given .1)) (sym (c .before .before .before .before .before .before .before .before .tag-list .ensures .0) ∙ ap numberRead (c .before .before .before .before .before .before .list .given .1)) (sym (c .before .before .before .piece2 .ensures) ∙ ap skip (c .before .closing2 .given .1))), omega arith)
 
 -- src/lib.rt:586:5
 returns-4 : tie.Need-returns-4
-returns-4 c = ?
+unfolding tagsAt
+returns-4 c = (sym (inside-stops (tagAt (c .before .before .before .before .before .before .before .before .before .before .args .s .now)) packTags packTags (tagSizes (c .before .before .before .before .before .before .before .before .before .before .args .n) (c .before .before .before .before .before .before .before .before .before .before .args .s .now) 328) (c .before .before .before .before .before .before .before .before .before .before .args .s .now) _ 0 (sym (c .before .before .before .before .before .before .before .piece .ensures) ∙ ap skip (c .before .before .before .before .before .bracket .given .1)) (sym (c .before .before .before .tag-list .ensures .0) ∙ ap numberRead (c .before .list2 .given .1))), omega arith)
 
 pub tags-spec : {M : Type 1} → statement M
 tags-spec =

@@ -1,3 +1,10 @@
+-- `Cursor::tags_part`: the label, the tags and the closing brace.
+-- Each way out is one law of `Parts`.
+use mathlib.Core.Path.{sym, ap, _∙_}
+use native.Mathlib.Omega.{arith}
+use Rattle.nsonread.specs.Walk.{tagSizes}
+use Rattle.nsonread.specs.Answers.{skip, numberRead}
+use Rattle.nsonread.proofs.Parts.{label-stops, list-stops, brace-stops, part-sized}
 use borrow.Author.Needs.{needs}
 use Rattle.nsonread.proofs.Cursor.tags_part.Statement.{statement}
 use Rattle.nsonread.proofs.Cursor.tags_part.Tie as tie
@@ -24,7 +31,7 @@ enum-known-label-2 c = search needs
 
 -- src/lib.rt:645:33
 returns : tie.Need-returns
-returns c = ?
+returns c = (sym (label-stops (tagSizes (c .before .before .before .before .before .before .args .n) (c .before .before .before .before .before .before .args .s .now) 328) (c .before .before .before .before .before .before .args .s .now) _ (sym (c .before .before .before .piece .ensures) ∙ ap skip (c .before .label2 .given .1))), omega arith)
 
 -- src/lib.rt:647:13
 tags-requires : tie.Need-tags-requires
@@ -56,15 +63,17 @@ enum-known-list-2 c = search needs
 
 -- src/lib.rt:637:5
 returns-2 : tie.Need-returns-2
-returns-2 c = ?
+returns-2 c =
+    let m = rw (c .before .before .before .before .before .before .list .given .1) at (c .before .before .before .before .before .before .before .before .tags .ensures .1) in
+    (sym (part-sized (tagSizes (c .before .before .before .before .before .before .before .before .before .before .before .before .before .before .before .args .n) (c .before .before .before .before .before .before .before .before .before .before .before .before .before .before .before .args .s .now) 328) (c .before .before .before .before .before .before .before .before .before .before .before .before .before .before .before .args .s .now) _ (sym (c .before .before .before .before .before .before .before .before .before .before .before .before .piece .ensures) ∙ ap skip (c .before .before .before .before .before .before .before .before .before .before .label .given .1)) (sym (c .before .before .before .before .before .before .before .before .tags .ensures .0) ∙ ap numberRead (c .before .before .before .before .before .before .list .given .1)) (sym (c .before .before .before .piece2 .ensures) ∙ ap skip (c .before .brace .given .1))), m)
 
 -- src/lib.rt:637:5
 returns-3 : tie.Need-returns-3
-returns-3 c = ?
+returns-3 c = (sym (brace-stops (tagSizes (c .before .before .before .before .before .before .before .before .before .before .before .before .before .before .before .args .n) (c .before .before .before .before .before .before .before .before .before .before .before .before .before .before .before .args .s .now) 328) (c .before .before .before .before .before .before .before .before .before .before .before .before .before .before .before .args .s .now) _ (sym (c .before .before .before .before .before .before .before .before .before .before .before .before .piece .ensures) ∙ ap skip (c .before .before .before .before .before .before .before .before .before .before .label .given .1)) (sym (c .before .before .before .before .before .before .before .before .tags .ensures .0) ∙ ap numberRead (c .before .before .before .before .before .before .list .given .1)) (sym (c .before .before .before .piece2 .ensures) ∙ ap skip (c .before .brace2 .given .1))), omega arith)
 
 -- src/lib.rt:637:5
 returns-4 : tie.Need-returns-4
-returns-4 c = ?
+returns-4 c = (sym (list-stops (tagSizes (c .before .before .before .before .before .before .before .before .before .before .args .n) (c .before .before .before .before .before .before .before .before .before .before .args .s .now) 328) (c .before .before .before .before .before .before .before .before .before .before .args .s .now) _ (sym (c .before .before .before .before .before .before .before .piece .ensures) ∙ ap skip (c .before .before .before .before .before .label .given .1)) (sym (c .before .before .before .tags .ensures .0) ∙ ap numberRead (c .before .list2 .given .1))), omega arith)
 
 pub tags-part-spec : {M : Type 1} → statement M
 tags-part-spec =

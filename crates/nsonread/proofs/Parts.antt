@@ -1,0 +1,85 @@
+-- The parts behind the descriptors as the code passes over them: each way out of the tags' part and of the body is one law.
+-- By the definitions, with each read taken apart.
+use Prim.Native.Nat.{ℕ, _+_}
+use mathlib.Core.Path.{_≡_, refl, sym, ap, _∙_}
+use mathlib.Core.Bool.{false}
+use mathlib.Core.List.{List, [], _∷_}
+use native.Mathlib.Nat.{zero-add}
+use native.Mathlib.Omega.{arith}
+use lib.ListN.{length}
+use Rattle.scan.specs.Choice.{Answer, shown, refused, Read, read, andThen}
+use Rattle.event.specs.Event.{Tag}
+use Rattle.notepack.specs.Strict.{packTags}
+use Rattle.nson.specs.Nson.{tagsLabel, endLabel, Counts}
+use Rattle.nson.specs.Read.{pieceAt, itemsAt, tagAt, tagsAt, kindPartAt, contentPartAt, tagsPartAt, bodyAt}
+use Rattle.nsonread.specs.declared.Body.{Body}
+use Rattle.nsonread.specs.Walk.{nextOf, sized, bodySize}
+use Rattle.nsonread.proofs.Laws.{next-shown, next-refused, sized-shown, sized-refused}
+use Rattle.nsonread.proofs.Sizing.{array-sized}
+
+-- the tags are as long as their list
+pub tags-sized : (l : List (List ℕ)) (s : List ℕ) (at : ℕ) {a b c m : ℕ} → pieceAt 13 (0x5B ∷ []) s at ≡ shown a → sized packTags 0 (itemsAt (tagAt s) false l s a) ≡ read m b
+    → pieceAt 13 (0x5D ∷ []) s b ≡ shown c → sized packTags 0 (tagsAt l s at) ≡ read m c
+unfolding tagsAt
+tags-sized l s at {c = c} {m = m} e q h =
+    let x = array-sized (tagAt s) packTags packTags l s at 0 e q h in
+    let v : 0 + length (packTags (x .0)) ≡ m = omega (arith, x .2) in
+    x .3 ∙ ap (λ (i : ℕ). read i c) v
+
+-- ---- the label, the tags and the closing brace
+
+abbrev Part : List (List ℕ) → List ℕ → ℕ → Answer (Read ℕ)
+Part l s at = sized packTags 0 (tagsPartAt l s at)
+
+module _ (l : List (List ℕ)) (s : List ℕ) (at : ℕ) where
+  pub label-stops : {n p : ℕ} → pieceAt 13 tagsLabel s at ≡ refused n p → Part l s at ≡ refused n p
+  unfolding tagsPartAt
+  label-stops e = rw e refl
+
+  pub list-stops : {a n p : ℕ} → pieceAt 13 tagsLabel s at ≡ shown a → sized packTags 0 (tagsAt l s a) ≡ refused n p → Part l s at ≡ refused n p
+  unfolding tagsPartAt
+  list-stops {a} e q = rw (e, sized-refused packTags 0 (tagsAt l s a) q) refl
+
+  pub brace-stops : {a b m n p : ℕ} → pieceAt 13 tagsLabel s at ≡ shown a → sized packTags 0 (tagsAt l s a) ≡ read m b → pieceAt 13 endLabel s b ≡ refused n p → Part l s at ≡ refused n p
+  unfolding tagsPartAt
+  brace-stops {a} e q h = let x = sized-shown packTags 0 (tagsAt l s a) q in rw (e, x .1, h) refl
+
+  part-read : {a b c : ℕ} (t : List Tag) → pieceAt 13 tagsLabel s at ≡ shown a → tagsAt l s a ≡ read t b → pieceAt 13 endLabel s b ≡ shown c
+      → Part l s at ≡ read (0 + length (packTags t)) c
+  unfolding tagsPartAt
+  part-read t e q h = rw (e, q, h) refl
+
+  pub part-sized : {a b c m : ℕ} → pieceAt 13 tagsLabel s at ≡ shown a → sized packTags 0 (tagsAt l s a) ≡ read m b → pieceAt 13 endLabel s b ≡ shown c → Part l s at ≡ read m c
+  part-sized {a} {c = c} e q h =
+      let x = sized-shown packTags 0 (tagsAt l s a) q in
+      part-read (x .0) e (x .1) h ∙ ap (λ (i : ℕ). read i c) (sym (x .2))
+
+-- ---- the body
+
+abbrev Whole : Counts → List ℕ → ℕ → Answer (Read Body)
+Whole n s at = andThen (bodyAt n s at) (λ b. read (bodySize (b .value)) (b .next))
+
+module _ (n : Counts) (s : List ℕ) (at : ℕ) where
+  pub kind-stops : {k p : ℕ} → kindPartAt (n .kind) s at ≡ refused k p → Whole n s at ≡ refused k p
+  unfolding bodyAt
+  kind-stops e = rw e refl
+
+  module _ {v a : ℕ} (e : kindPartAt (n .kind) s at ≡ read v a) where
+    pub content-stops : {k p : ℕ} → nextOf (contentPartAt (n .content) s a) ≡ refused k p → Whole n s at ≡ refused k p
+    unfolding bodyAt
+    content-stops q = rw (e, next-refused (contentPartAt (n .content) s a) q) refl
+
+    module _ {b : ℕ} (q : nextOf (contentPartAt (n .content) s a) ≡ shown b) where
+      pub tags-stop : {k p : ℕ} → Part (n .tags) s b ≡ refused k p → Whole n s at ≡ refused k p
+      unfolding bodyAt
+      tags-stop h = let x = next-shown (contentPartAt (n .content) s a) q in rw (e, x .1, sized-refused packTags 0 (tagsPartAt (n .tags) s b) h) refl
+
+      body-read : {c : ℕ} (t : List Tag) → tagsPartAt (n .tags) s b ≡ read t c → Whole n s at ≡ read (record { kind = v; «tags_len» = length (packTags t) }) c
+      unfolding bodyAt
+      body-read t h = let x = next-shown (contentPartAt (n .content) s a) q in rw (e, x .1, h) refl
+
+      pub body-found : {m c : ℕ} → Part (n .tags) s b ≡ read m c → Whole n s at ≡ read (record { kind = v; «tags_len» = m }) c
+      body-found {m} {c} h =
+          let y = sized-shown packTags 0 (tagsPartAt (n .tags) s b) h in
+          let z : length (packTags (y .0)) ≡ m = omega (arith, y .2) in
+          body-read (y .0) (y .1) ∙ ap (λ (i : ℕ). read (record { kind = v; «tags_len» = i }) c) z
