@@ -1,9 +1,9 @@
 -- `read_part` reads an element's part again.
 -- By what its two callees told, case by case.
 use borrow.Author.Needs.{needs}
-use Rattle.canonical.specs.Copy.{partAt}
-use Rattle.canonical.proofs.read_part.Statement.{statement}
-use Rattle.canonical.proofs.read_part.Tie as tie
+use Rattle.tagtext.specs.Copy.{partAt}
+use Rattle.tagtext.proofs.read_part.Statement.{statement}
+use Rattle.tagtext.proofs.read_part.Tie as tie
 
 found : tie.Need-returns
 unfolding partAt

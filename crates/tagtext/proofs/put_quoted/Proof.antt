@@ -2,9 +2,9 @@
 -- Three writers in a row are one.
 use borrow.Author.Needs.{needs}
 use Rattle.store.proofs.Laws.{then}
-use Rattle.canonical.specs.Canonical.{quoted}
-use Rattle.canonical.proofs.put_quoted.Statement.{statement}
-use Rattle.canonical.proofs.put_quoted.Tie as tie
+use Rattle.tagtext.specs.TagText.{quoted}
+use Rattle.tagtext.proofs.put_quoted.Statement.{statement}
+use Rattle.tagtext.proofs.put_quoted.Tie as tie
 
 returns : tie.Need-returns
 unfolding quoted

@@ -18,15 +18,15 @@ use Rattle.scan.proofs.Many.{then-shown}
 use Rattle.varint.specs.Varint.{varintAt}
 use Rattle.varint.proofs.VarintLaws.{consumes-some}
 use Rattle.varint.proofs.UlebLaws.{spells-one}
-use Rattle.escape.specs.Escape.{canonicalByte}
-use Rattle.escape.proofs.ByteLaws.{canonical-escaping}
+use Rattle.escape.specs.Block.{byteOf}
+use Rattle.escape.proofs.ByteLaws.{escaping}
 use Rattle.escape.proofs.TextLaws.{length-most}
 use Rattle.notepack.specs.declared.Part.{Part}
 use Rattle.notepack.specs.Unpack.{partOf, bytesOf, textOf, payloadAt, tagCountAt}
 use Rattle.notepack.proofs.Sound.{count-reads}
-use Rattle.canonical.specs.Canonical.{quoted}
-use Rattle.canonical.specs.Copy.{orElse, partAt, comma, elementsText, elementsEnd, tagsText}
-use Rattle.canonical.proofs.Texts.{length-quoted, length-quoted-hexes}
+use Rattle.tagtext.specs.TagText.{quoted}
+use Rattle.tagtext.specs.Copy.{orElse, partAt, comma, elementsFrom, elementsEnd, tagsFrom}
+use Rattle.tagtext.proofs.Texts.{length-quoted, length-quoted-hexes}
 
 -- a test passed before what is shown
 pick-shown : {A : Type 0} (t : Bool) (x : Answer A) (n q : ℕ) (a : A) → pick t x (refused n q) ≡ shown a → (t ≡ true) × (x ≡ shown a)
@@ -47,52 +47,52 @@ module _ (s : List ℕ) where
       let k : n ≡ e .value .len = ap (λ (q : Part). q .len) (f .0) in
       (omega (arith, f .1), omega (arith, f .1))
 
-  module _ (bytes : IsBytes s) where
+  module _ (all : Bool) (bytes : IsBytes s) where
     -- a part's string has at most two bytes for each of its own, and two quotes
-    pub quoted-room : (p : Part) → length (quoted (textOf s p)) ≤ 2 * length (bytesOf s p) + 2
+    pub quoted-room : (p : Part) → length (quoted (byteOf all) (textOf s p)) ≤ 2 * length (bytesOf s p) + 2
     unfolding textOf
     quoted-room p =
         let b = all-take {l = drop (p .at) s} (p .len) (all-drop (p .at) bytes) in
-        pick-by (λ (t : List ℕ). length (quoted t) ≤ 2 * length (bytesOf s p) + 2) (p .raw) (λ t. omega (arith, length-quoted-hexes b))
-        (λ f. omega (arith, length-quoted (bytesOf s p), length-most canonicalByte canonical-escaping (bytesOf s p)))
+        pick-by (λ (t : List ℕ). length (quoted (byteOf all) t) ≤ 2 * length (bytesOf s p) + 2) (p .raw) (λ t. omega (arith, length-quoted-hexes all b))
+        (λ f. omega (arith, length-quoted (byteOf all) (bytesOf s p), length-most (byteOf all) (escaping all) (bytesOf s p)))
 
     comma-room : (n : ℕ) → length (comma n) ≤ 1
     comma-room n = pick-by (λ (l : List ℕ). length l ≤ 1) (ltb 0 n) (λ t. omega arith) (λ f. omega arith)
 
-    pub elements-room : (n at : ℕ) → (length (elementsText n s at) + 3 * at ≤ 3 * elementsEnd n s at) × (elementsEnd n s at - at ≤ length s - at)
-    unfolding elementsText elementsEnd
+    pub elements-room : (n at : ℕ) → (length (elementsFrom (byteOf all) n s at) + 3 * at ≤ 3 * elementsEnd n s at) × (elementsEnd n s at - at ≤ length s - at)
+    unfolding elementsFrom elementsEnd
     elements-room zero at = (omega arith, omega arith)
     elements-room (suc n) at = go (λ k. elements-room n k) (partAt s at) refl
       where
-        go : ((k : ℕ) → (length (elementsText n s k) + 3 * k ≤ 3 * elementsEnd n s k) × (elementsEnd n s k - k ≤ length s - k)) → (r : Answer (Read Part)) → partAt s at ≡ r
-            → (length (orElse [] r (λ (e : Read Part). quoted (textOf s (e .value)) ++ (comma n ++ elementsText n s (e .next)))) + 3 * at ≤ 3 * orElse at r (λ (e : Read Part). elementsEnd n s (e .next)))
+        go : ((k : ℕ) → (length (elementsFrom (byteOf all) n s k) + 3 * k ≤ 3 * elementsEnd n s k) × (elementsEnd n s k - k ≤ length s - k)) → (r : Answer (Read Part)) → partAt s at ≡ r
+            → (length (orElse [] r (λ (e : Read Part). quoted (byteOf all) (textOf s (e .value)) ++ (comma n ++ elementsFrom (byteOf all) n s (e .next)))) + 3 * at ≤ 3 * orElse at r (λ (e : Read Part). elementsEnd n s (e .next)))
             × (orElse at r (λ (e : Read Part). elementsEnd n s (e .next)) - at ≤ length s - at)
         go f (refused k q) e = (omega arith, omega arith)
         go f (shown e) k =
             let r = part-room at e k in
             let i = f (e .next) in
-            let x = quoted (textOf s (e .value)) in
-            let m = elementsText n s (e .next) in
+            let x = quoted (byteOf all) (textOf s (e .value)) in
+            let m = elementsFrom (byteOf all) n s (e .next) in
             let t = length-take (e .value .len) (drop (e .value .at) s) in (
               omega (arith, r, i, quoted-room (e .value), comma-room n, length-append x (comma n ++ m), length-append (comma n) m, t),
               omega (arith, r, i),
             )
 
     -- tags are at most three times as long as what stands from their place on
-    pub tags-room : (n at : ℕ) → length (tagsText n s at) ≤ 3 * (length s - at)
-    unfolding tagsText
+    pub tags-room : (n at : ℕ) → length (tagsFrom (byteOf all) n s at) ≤ 3 * (length s - at)
+    unfolding tagsFrom
     tags-room zero at = omega arith
     tags-room (suc n) at = go (λ k. tags-room n k) (tagCountAt s at) refl
       where
-        go : ((k : ℕ) → length (tagsText n s k) ≤ 3 * (length s - k)) → (r : Answer (Read ℕ)) → tagCountAt s at ≡ r
-            → length (orElse [] r (λ (c : Read ℕ). (0x5B ∷ []) ++ (elementsText (c .value) s (c .next) ++ ((0x5D ∷ []) ++ (comma n ++ tagsText n s (elementsEnd (c .value) s (c .next))))))) ≤ 3 * (length s - at)
+        go : ((k : ℕ) → length (tagsFrom (byteOf all) n s k) ≤ 3 * (length s - k)) → (r : Answer (Read ℕ)) → tagCountAt s at ≡ r
+            → length (orElse [] r (λ (c : Read ℕ). (0x5B ∷ []) ++ (elementsFrom (byteOf all) (c .value) s (c .next) ++ ((0x5D ∷ []) ++ (comma n ++ tagsFrom (byteOf all) n s (elementsEnd (c .value) s (c .next))))))) ≤ 3 * (length s - at)
         go f (refused k q) e = omega arith
         go f (shown c) e =
             let g = shown-reads (rw e at (count-reads s bytes at)) in
             let one = spells-one (g .1 .0 .spells) in
             let end = elementsEnd (c .value) s (c .next) in
-            let es = elementsText (c .value) s (c .next) in
-            let m = tagsText n s end in
+            let es = elementsFrom (byteOf all) (c .value) s (c .next) in
+            let m = tagsFrom (byteOf all) n s end in
             let i = elements-room (c .value) (c .next) in
             omega (
               arith,

@@ -3,8 +3,8 @@
 use borrow.Author.Needs.{needs}
 use borrow.Author.Tests.{le-ltb, lt-ltb}
 use Rattle.store.proofs.Laws.{nothing}
-use Rattle.canonical.proofs.put_comma.Statement.{statement}
-use Rattle.canonical.proofs.put_comma.Tie as tie
+use Rattle.tagtext.proofs.put_comma.Statement.{statement}
+use Rattle.tagtext.proofs.put_comma.Tie as tie
 
 pub put-comma-spec : {M : Type 1} → statement M
 put-comma-spec =
