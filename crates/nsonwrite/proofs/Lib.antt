@@ -1,0 +1,5 @@
+pub mod Plain
+pub mod Places
+pub mod Over
+pub mod Counts
+pub mod Whole
