@@ -3,3 +3,4 @@ pub mod Places
 pub mod Over
 pub mod Counts
 pub mod Whole
+pub mod Entry

@@ -32,7 +32,7 @@ use Rattle.nsonwrite.specs.Copy.{cutWord, cutWords, textsFrom, tagsOver,
 -- ---- whether all fit
 
 -- one test after another, gathered
-pick-both : (a b c : Bool) → pick a (pick b c false) false ≡ pick (pick a b false) c false
+pub pick-both : (a b c : Bool) → pick a (pick b c false) false ≡ pick (pick a b false) c false
 pick-both true b c = refl
 pick-both false b c = refl
 

@@ -85,9 +85,9 @@ headFrom s h =
     ++ decimal (h .«created_at»)
     ++ nsonLabel
 
--- the nson field with the descriptors d
+-- the nson field with the descriptors d, the size's lower byte first; for 127 or less that is the size
 unfoldable pub fieldOf : List ℕ → List ℕ
-fieldOf d = hexes (2 * length d ∷ d)
+fieldOf d = hexes (2 * length d % 256 ∷ d)
 
 -- behind the nson field
 unfoldable pub bodyFrom : List ℕ → Head → List ℕ

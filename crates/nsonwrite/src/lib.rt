@@ -17,7 +17,7 @@ ghost use Rattle.escape.specs.Escape.{nsonByte, nsonText};
 ghost use Rattle.notepack.specs.Unpack.{textOf, unpack};
 ghost use Rattle.tagtext.specs.Copy.{elementsFrom, elementsEnd, tagsFrom};
 ghost use Rattle.nson.specs.Nson.{nson};
-ghost use Rattle.nson.specs.Carries.{fits, allFit, tagsFit};
+ghost use Rattle.nson.specs.Carries.{allFit, tagsFit};
 ghost use Rattle.nsonwrite.specs.Carried.{carried};
 ghost use Rattle.nsonwrite.specs.Copy.{cutWord, textsFrom, cutWords, tagsOver, tagWords, countsFrom, textsFit, textsLength, lengthWith, measuredFit, headFrom, fieldOf, bodyFrom, wholeFrom};
 ghost use Rattle.nsonwrite.specs.Answers.{nsonWrite};
@@ -241,10 +241,9 @@ fn put_head(out: &mut [u8], at: usize, s: &[u8], h: Head) -> usize
 
 // The size, which counts the hex characters behind it, and the descriptors.
 fn put_field(out: &mut [u8], at: usize, d: &[u8]) -> usize
-    requires { ⌜ length (now d) ≤ 127 ⌝ }
     ensures { λ r. ⌜ Wrote (now (out .entry)) at (fieldOf (now (d .entry))) (now (out .exit)) r ⌝ }
 {
-    let size = [2 * d.len() as u8];
+    let size = [(2 * d.len() % 256) as u8];
     let a = hex::put_hex(out, at, &size);
     hex::put_hex(out, a, d)
 }
@@ -264,7 +263,6 @@ fn put_body(out: &mut [u8], at: usize, s: &[u8], h: Head) -> usize
 
 // The whole text, with the descriptors d.
 fn put_whole(out: &mut [u8], at: usize, s: &[u8], h: Head, d: &[u8]) -> usize
-    requires { ⌜ length (now d) ≤ 127 ⌝ }
     ensures { λ r. ⌜ Wrote (now (out .entry)) at (wholeFrom (now (d .entry)) (now (s .entry)) h) (now (out .exit)) r ⌝ }
 {
     let a = put_head(out, at, s, h);
@@ -290,8 +288,8 @@ pub fn write_nson(s: &[u8], out: &mut [u8]) -> NsonWrite
                         place: m.len,
                     });
                 }
-                let end = m.out;
-                return NsonWrite::Written(put_whole(out, 0, s, h, &descriptors[..end]));
+                let d = scan::part(&descriptors, 0, m.out);
+                return NsonWrite::Written(put_whole(out, 0, s, h, d));
             }
             NsonWrite::Refused(Refusal {
                 number: event::NOT_CARRIED,

@@ -2,17 +2,16 @@
 -- By the laws of the entry for each outcome of the walk and of the measure.
 use mathlib.Core.Path.{refl, ap}
 use native.Mathlib.Omega.{arith}
-use lib.ListN.{length-take}
 use borrow.Author.Needs.{needs}
 use Rattle.scan.proofs.AllLaws.{all-places}
-use Rattle.store.proofs.Laws.{kept}
 use Rattle.notepack.specs.Answers.{walk}
-use Rattle.nsonwrite.proofs.Whole.{walk-shows, measured-good, measured-bad, write-refused, write-misfit, write-short, write-fitted}
+use Rattle.nsonwrite.proofs.Whole.{walk-shows}
+use Rattle.nsonwrite.proofs.Entry.{measured-good, measured-bad, write-refused, write-misfit, write-short, write-fitted}
 use Rattle.nsonwrite.proofs.write_nson.Statement.{statement}
 use Rattle.nsonwrite.proofs.write_nson.Tie as tie
 
-requires : tie.Need-measure-requires
-requires c κs =
+input-short : tie.Need-measure-requires
+input-short c κs =
     let told = c .before .before in
     let called = told .before .before in
     let known = called .before .before in
@@ -24,7 +23,7 @@ requires c κs =
 short : tie.Need-returns
 short c =
     let tested = c .before .before in
-    let measured = c .before .before .before .before .before in
+    let measured = tested .before .before .before in
     let told = measured .before .before .before in
     let called = told .before .before in
     let known = called .before .before in
@@ -35,55 +34,12 @@ short c =
     let ready = measured-good g refl (m .0) (m .1 .0) (m .1 .1) (tested .before .is-carried .ensures) (tested .if1 .taken) in
     write-short (a .s .now) (a .out .now) g ready (c .if2 .taken)
 
-ends-within : tie.Need-array-share-prefix-descriptors
-ends-within c =
-    let tested = c .before .before .before in
-    let measured = c .before .before .before .before .before .before in
-    let told = measured .before .before .before in
-    let called = told .before .before in
-    let known = called .before .before in
-    let a = known .before .args in
-    let bytes = all-places (a .s .now) (λ i. omega (arith, known .shared-slice-known .given i)) in
-    let g = walk-shows (a .s .now) bytes _ _ (called .walk-packed .ensures) (ap walk (told .walked2 .given .1)) in
-    let m = measured .measure .ensures in
-    let ready = measured-good g refl (m .0) (m .1 .0) (m .1 .1) (tested .before .is-carried .ensures) (tested .if1 .taken) in
-    let few = ready .few in
-    omega (arith, kept (m .1 .0))
-
-part-length : tie.Need-slice-aggregate-put-whole
-part-length c =
-    let tested = c .before .before .before .before in
-    let measured = c .before .before .before .before .before .before .before in
-    let told = measured .before .before .before in
-    let called = told .before .before in
-    let known = called .before .before in
-    let a = known .before .args in
-    let bytes = all-places (a .s .now) (λ i. omega (arith, known .shared-slice-known .given i)) in
-    let g = walk-shows (a .s .now) bytes _ _ (called .walk-packed .ensures) (ap walk (told .walked2 .given .1)) in
-    let m = measured .measure .ensures in
-    let ready = measured-good g refl (m .0) (m .1 .0) (m .1 .1) (tested .before .is-carried .ensures) (tested .if1 .taken) in
-    let few = ready .few in
-    omega (arith, kept (m .1 .0), length-take (measured .measure .result .out) (measured .measure .last .1 .1 .0))
-
-part-short : tie.Need-put-whole-requires
-part-short c κs =
-    let tested = c .before .before .before .before in
-    let measured = c .before .before .before .before .before .before .before in
-    let told = measured .before .before .before in
-    let called = told .before .before in
-    let known = called .before .before in
-    let a = known .before .args in
-    let bytes = all-places (a .s .now) (λ i. omega (arith, known .shared-slice-known .given i)) in
-    let g = walk-shows (a .s .now) bytes _ _ (called .walk-packed .ensures) (ap walk (told .walked2 .given .1)) in
-    let m = measured .measure .ensures in
-    let ready = measured-good g refl (m .0) (m .1 .0) (m .1 .1) (tested .before .is-carried .ensures) (tested .if1 .taken) in
-    let few = ready .few in
-    omega (arith, length-take (measured .measure .result .out) (measured .measure .last .1 .1 .0))
-
 fitted : tie.Need-returns-2
 fitted c =
-    let tested = c .before .before .before .before .before .before .before in
-    let measured = c .before .before .before .before .before .before .before .before .before .before in
+    let part = c .before .before .before .before in
+    let room = part .before .before in
+    let tested = room .before .before in
+    let measured = tested .before .before .before in
     let told = measured .before .before .before in
     let called = told .before .before in
     let known = called .before .before in
@@ -92,7 +48,7 @@ fitted c =
     let g = walk-shows (a .s .now) bytes _ _ (called .walk-packed .ensures) (ap walk (told .walked2 .given .1)) in
     let m = measured .measure .ensures in
     let ready = measured-good g refl (m .0) (m .1 .0) (m .1 .1) (tested .before .is-carried .ensures) (tested .if1 .taken) in
-    write-fitted (a .s .now) (a .out .now) g ready (c .before .before .before .before .before .if2 .left) (c .before .before .put-whole .ensures)
+    write-fitted (a .s .now) (a .out .now) g ready (room .if2 .left) (part .part .ensures) (c .before .before .put-whole .ensures)
 
 refused : tie.Need-returns-3
 refused c =
@@ -120,12 +76,12 @@ write-nson-spec =
     (λ c. search needs)
     (λ c. search needs)
     (λ c. search needs)
-    requires
+    input-short
     (λ c κs. search needs)
     short
-    ends-within
-    part-length
-    part-short
+    (λ c. search needs)
+    (λ c κs. search needs)
+    (λ c κs. search needs)
     (λ c. search needs)
     fitted
     refused
