@@ -4,3 +4,4 @@ pub mod Over
 pub mod Counts
 pub mod Whole
 pub mod Entry
+pub mod Written
