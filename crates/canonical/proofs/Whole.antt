@@ -1,6 +1,7 @@
 -- The text that the writer goes over is the canonical text of the event that the reader shows; and what the entry answers and leaves.
 -- The fields of the event stand in the input; the tags by `tags-again`.
 use Prim.Native.Nat.{ℕ, _+_, _*_, _≤_, _<_}
+use mathlib.Core.Bool.{true}
 use mathlib.Core.Path.{_≡_, refl, sym, ap, _∙_, subst}
 use mathlib.Core.List.{List, [], _∷_, _++_, append-assoc}
 use native.Mathlib.Omega.{arith}
@@ -19,6 +20,7 @@ use Rattle.hex.specs.Hex.{hexes}
 use Rattle.hex.proofs.Texts.{length-hexes}
 use Rattle.decimal.specs.Decimal.{decimal}
 use Rattle.decimal.proofs.Spelling.{length-u64}
+use Rattle.escape.specs.Escape.{canonicalByte}
 use Rattle.event.specs.Event.{Event}
 use Rattle.notepack.specs.declared.Head.{Head}
 use Rattle.notepack.specs.Unpack.{textOf, headAt, Packed, packedAt, eventOf, unpack}
@@ -26,11 +28,13 @@ use Rattle.notepack.specs.Answers.{Walked, walkAt}
 use Rattle.notepack.proofs.Sound.{sized-text, head-gives, sound}
 use Rattle.notepack.proofs.Walking.{walked-packed, walk-refuses}
 use Rattle.notepack.proofs.Viewing.{packed-head, packed-apart}
-use Rattle.canonical.specs.Canonical.{quoted, array, canonical}
-use Rattle.canonical.specs.Copy.{tagsText, frontText, wholeText}
-use Rattle.canonical.proofs.Texts.{quoted-hexes}
-use Rattle.canonical.proofs.Again.{tags-again}
-use Rattle.canonical.proofs.Room.{quoted-room, tags-room}
+use Rattle.tagtext.specs.TagText.{quoted, array, tagsText}
+use Rattle.tagtext.specs.Copy.{tagsFrom}
+use Rattle.tagtext.proofs.Texts.{quoted-hexes}
+use Rattle.tagtext.proofs.Again.{tags-again}
+use Rattle.tagtext.proofs.Room.{quoted-room, tags-room}
+use Rattle.canonical.specs.Canonical.{canonical}
+use Rattle.canonical.specs.Copy.{frontText, wholeText}
 
 -- the writer's pieces in a row
 abbrev row : (key time kind tags content : List ℕ) → List ℕ
@@ -39,8 +43,8 @@ row key time kind tags content =
 
 -- they make the array
 row-array : (key time kind tags content : List ℕ) → IsBytes key
-    → row key time kind tags content ≡ array ((0x30 ∷ []) ∷ quoted (hexes key) ∷ time ∷ kind ∷ (0x5B ∷ (tags ++ (0x5D ∷ []))) ∷ content ∷ [])
-row-array key time kind tags content b = rw (quoted-hexes b) (simp append-assoc)
+    → row key time kind tags content ≡ array ((0x30 ∷ []) ∷ quoted canonicalByte (hexes key) ∷ time ∷ kind ∷ (0x5B ∷ (tags ++ (0x5D ∷ []))) ∷ content ∷ [])
+row-array key time kind tags content b = rw (quoted-hexes true b) (simp append-assoc)
 
 row-length : (key time kind tags content : List ℕ)
     → length (row key time kind tags content) ≡ 12 + 2 * length key + length time + length kind + length tags + length content
@@ -53,13 +57,13 @@ part-most s part from n e = omega (arith, ap length e, length-take n (drop from 
 -- the length of the writer's text
 pub whole-length : (s : List ℕ) (h : Head) (key : List ℕ) → key ≡ take 32 (drop 32 s)
     → length (wholeText s h)
-    ≡ 12 + 2 * length key + length (decimal (h .«created_at»)) + length (decimal (h .kind)) + length (tagsText (h .«tag_count») s (h .«tags_at»)) + length (quoted (textOf s (h .content)))
+    ≡ 12 + 2 * length key + length (decimal (h .«created_at»)) + length (decimal (h .kind)) + length (tagsFrom canonicalByte (h .«tag_count») s (h .«tags_at»)) + length (quoted canonicalByte (textOf s (h .content)))
 unfolding wholeText frontText
 whole-length s h key e =
     let time = decimal (h .«created_at») in
     let kind = decimal (h .kind) in
-    let tags = tagsText (h .«tag_count») s (h .«tags_at») in
-    let content = quoted (textOf s (h .content)) in
+    let tags = tagsFrom canonicalByte (h .«tag_count») s (h .«tags_at») in
+    let content = quoted canonicalByte (textOf s (h .content)) in
     ap (λ (k : List ℕ). length (row k time kind tags content)) (sym e) ∙ row-length key time kind tags content
 
 -- the text is at most three times as long as the packed event: what stands in front of the tags has room for the fixed bytes, the key and the numbers
@@ -73,8 +77,8 @@ whole-most s bytes h found =
       d .ids .1,
       length-u64 (h .«created_at») (let w = d .time .2 .within in omega arith),
       length-u64 (h .kind) (let w = d .kind .2 .within in omega arith),
-      tags-room s bytes (h .«tag_count») (h .«tags_at»),
-      quoted-room s bytes (h .content),
+      tags-room s true bytes (h .«tag_count») (h .«tags_at»),
+      quoted-room s true bytes (h .content),
       ap length (c .5),
       c .4,
       ap length (c .1),
@@ -96,20 +100,20 @@ pub record Shows (s : List ℕ) (h : Head) : Type 0 where
   pub most : length (wholeText s h) ≤ 3 * length s
 
 packed-shows : (s : List ℕ) → IsBytes s → (p : Packed) → packedAt s ≡ shown p → Shows s (p .head)
-unfolding unpack eventOf canonical wholeText frontText
+unfolding unpack eventOf canonical wholeText frontText tagsText
 packed-shows s bytes p e =
     let a = packed-apart s p e in
-    let tags = tags-again s (p .head .«tag_count») (p .head .«tags_at») _ (a .1) in
+    let tags = tags-again canonicalByte s (p .head .«tag_count») (p .head .«tags_at») _ (a .1) in
     let key = take 32 (drop 32 s) in
     let time = decimal (p .head .«created_at») in
     let kind = decimal (p .head .kind) in
-    let content = quoted (textOf s (p .head .content)) in
+    let content = quoted canonicalByte (textOf s (p .head .content)) in
     let u : unpack s ≡ shown (eventOf s p) = rw e in
     record {
       event = eventOf s p;
       shows = u;
-      text = row-array key time kind (tagsText (p .head .«tag_count») s (p .head .«tags_at»)) content (all-take 32 (all-drop 32 bytes))
-          ∙ ap (λ (l : List ℕ). array ((0x30 ∷ []) ∷ quoted (hexes key) ∷ time ∷ kind ∷ (0x5B ∷ (l ++ (0x5D ∷ []))) ∷ content ∷ [])) tags;
+      text = row-array key time kind (tagsFrom canonicalByte (p .head .«tag_count») s (p .head .«tags_at»)) content (all-take 32 (all-drop 32 bytes))
+          ∙ ap (λ (l : List ℕ). array ((0x30 ∷ []) ∷ quoted canonicalByte (hexes key) ∷ time ∷ kind ∷ (0x5B ∷ (l ++ (0x5D ∷ []))) ∷ content ∷ [])) tags;
       short = sound s bytes (eventOf s p) u .short;
       most = whole-most s bytes (p .head) (packed-head s p e);
     }

@@ -1,4 +1,4 @@
--- What the private functions promise one another. `all` says which escaping: true is the canonical text's, false NSON's. Assumes nothing.
+-- Either escaping by one flag, `all`: true is the canonical text's, false NSON's; and what the private functions promise one another. Assumes nothing.
 use Prim.Native.Nat.{ℕ, suc}
 use mathlib.Core.Bool.{Bool, true, false}
 use mathlib.Core.List.{List, [], _∷_}

@@ -74,7 +74,8 @@ fn escapes(all: bool, block: &[u8]) -> u8
     n
 }
 
-fn escaped_len(all: bool, s: &[u8]) -> usize
+// The length of a text with either escaping.
+pub fn escaped_len(all: bool, s: &[u8]) -> usize
     ensures { λ r. ⌜ r ≡ length (escaped (byteOf all) (now (s .entry))) ⌝ }
     ensures { λ r. ⌜ r ≤ 2 * length (now (s .entry)) ⌝ }
 {
@@ -169,8 +170,8 @@ fn put_rest(all: bool, out: &mut [u8], at: usize, s: &[u8]) -> usize
     put_each(all, out, at, s)
 }
 
-// Block by block. A block is copied whole; what stands behind its first escape is then written over.
-fn put_escaped(all: bool, out: &mut [u8], at: usize, s: &[u8]) -> usize
+// A text with either escaping, block by block. A block is copied whole; what stands behind its first escape is then written over.
+pub fn put_escaped(all: bool, out: &mut [u8], at: usize, s: &[u8]) -> usize
     ensures { λ r. ⌜ Wrote (now (out .entry)) at (escaped (byteOf all) (now (s .entry))) (now (out .exit)) r ⌝ }
 {
     if out.len() <= at {

@@ -1,21 +1,23 @@
 -- `elements_len` measures the elements as it reads them again. The invariant: what is counted and the length of the elements left are the length of all,
 -- and they end where all end. Each turn is one law; the sum is at most three times the input.
 use Prim.Native.Nat.{_+_}
+use mathlib.Core.Bool.{true}
 use mathlib.Core.Path.{_≡_, refl, sym, ap, _∙_}
 use native.Mathlib.Omega.{arith}
 use lib.ListN.{length}
 use borrow.Author.Needs.{needs}
 use Rattle.scan.proofs.AllLaws.{all-places}
 use Rattle.notepack.specs.Answers.{partRead}
-use Rattle.canonical.specs.Copy.{elementsText, elementsEnd}
-use Rattle.canonical.proofs.Again.{elements-turn, elements-count, elements-stop, elements-left}
-use Rattle.canonical.proofs.Room.{elements-room}
+use Rattle.escape.specs.Escape.{canonicalByte}
+use Rattle.tagtext.specs.Copy.{elementsFrom, elementsEnd}
+use Rattle.tagtext.proofs.Again.{elements-turn, elements-count, elements-stop, elements-left}
+use Rattle.tagtext.proofs.Room.{elements-room}
 use Rattle.canonical.proofs.elements_len.Statement.{statement}
 use Rattle.canonical.proofs.elements_len.Tie as tie
 
 abbrev Inv-loop : tie.InvT-loop
 Inv-loop s from count n₀ at₀ left₀ n at left =
-    (n + length (elementsText left s at) ≡ n₀ + length (elementsText left₀ s at₀)) × (elementsEnd left₀ s at₀ ≡ elementsEnd left s at)
+    (n + length (elementsFrom canonicalByte left s at) ≡ n₀ + length (elementsFrom canonicalByte left₀ s at₀)) × (elementsEnd left₀ s at₀ ≡ elementsEnd left s at)
 
 abbrev μ-loop : tie.MeasureT-loop
 μ-loop s from count n₀ at₀ left₀ n at left = left
@@ -26,7 +28,7 @@ fits c =
     let known = c .before .before .before .before .before .before .before .before in
     let a = known .before .args in
     let bytes = all-places (a .s .now) (λ i. omega (arith, known .shared-slice-known .given i)) in
-    let most = elements-room (a .s .now) bytes (a .count) (a .from) in
+    let most = elements-room (a .s .now) true bytes (a .count) (a .from) in
     omega (arith, q .inv .0, most, known .before .pre, c .comma-len .ensures .1, c .before .quoted-len .ensures .1)
 
 again : tie.Need-loop-again Inv-loop μ-loop
@@ -37,8 +39,8 @@ again c =
     let q = turn .before .loop in
     let s = turn .before .before .before .args .s .now in
     let test = turn .loop-test .taken in
-    let t = elements-turn s (q .left) (q .at) _ _ _ test (called .read-part .ensures) (told .found .given .1) in
-    let n = elements-count s (q .left) (q .at) _ _ _ test (called .read-part .ensures) (told .found .given .1) in
+    let t = elements-turn canonicalByte s (q .left) (q .at) _ _ _ test (called .read-part .ensures) (told .found .given .1) in
+    let n = elements-count canonicalByte s (q .left) (q .at) _ _ _ test (called .read-part .ensures) (told .found .given .1) in
     (omega (arith, q .inv .0, n, c .comma-len .ensures .0, c .before .quoted-len .ensures .0), q .inv .1 ∙ t .1)
 
 stop : tie.Need-returns Inv-loop μ-loop
@@ -50,8 +52,8 @@ stop c =
     let a = known .before .args in
     let s = a .s .now in
     let bytes = all-places s (λ i. omega (arith, known .shared-slice-known .given i)) in
-    let most = elements-room s bytes (a .count) (a .from) in
-    let t = elements-stop s (q .left) (q .at) (called .read-part .result) _ _ (turn .loop-test .taken) (called .read-part .ensures) (ap partRead (c .enum-told .given .1)) in
+    let most = elements-room s true bytes (a .count) (a .from) in
+    let t = elements-stop canonicalByte s (q .left) (q .at) (called .read-part .result) _ _ (turn .loop-test .taken) (called .read-part .ensures) (ap partRead (c .enum-told .given .1)) in
     (omega (arith, q .inv .0, ap length (t .0)), (sym (q .inv .1 ∙ t .1), omega (arith, q .inv .0, most)))
 
 end : tie.Need-returns-2 Inv-loop μ-loop
@@ -61,8 +63,8 @@ end c =
     let a = known .before .args in
     let s = a .s .now in
     let bytes = all-places s (λ i. omega (arith, known .shared-slice-known .given i)) in
-    let most = elements-room s bytes (a .count) (a .from) in
-    let t = elements-left s (q .left) (q .at) (c .loop-test .left) in
+    let most = elements-room s true bytes (a .count) (a .from) in
+    let t = elements-left canonicalByte s (q .left) (q .at) (c .loop-test .left) in
     (omega (arith, q .inv .0, ap length (t .0)), (sym (q .inv .1 ∙ t .1), omega (arith, q .inv .0, most)))
 
 pub elements-len-spec : {M : Type 1} → statement M

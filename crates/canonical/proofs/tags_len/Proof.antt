@@ -1,20 +1,22 @@
 -- `tags_len` measures the tags as it reads them again. The invariant: what is counted and the length of the tags left are the length of all.
 -- Each turn is one law; the sum is at most three times the input.
 use Prim.Native.Nat.{ℕ, _+_, _-_}
+use mathlib.Core.Bool.{true}
 use mathlib.Core.Path.{_≡_, refl, ap}
 use native.Mathlib.Omega.{arith}
 use lib.ListN.{length}
 use borrow.Author.Needs.{needs}
 use Rattle.scan.proofs.AllLaws.{all-places}
 use Rattle.notepack.specs.Answers.{numberRead}
-use Rattle.canonical.specs.Copy.{tagsText}
-use Rattle.canonical.proofs.Again.{tags-count, tags-stop, tags-left}
-use Rattle.canonical.proofs.Room.{tags-room}
+use Rattle.escape.specs.Escape.{canonicalByte}
+use Rattle.tagtext.specs.Copy.{tagsFrom}
+use Rattle.tagtext.proofs.Again.{tags-count, tags-stop, tags-left}
+use Rattle.tagtext.proofs.Room.{tags-room}
 use Rattle.canonical.proofs.tags_len.Statement.{statement}
 use Rattle.canonical.proofs.tags_len.Tie as tie
 
 abbrev Inv-loop : tie.InvT-loop
-Inv-loop s from count n₀ at₀ left₀ n at left = n + length (tagsText left s at) ≡ n₀ + length (tagsText left₀ s at₀)
+Inv-loop s from count n₀ at₀ left₀ n at left = n + length (tagsFrom canonicalByte left s at) ≡ n₀ + length (tagsFrom canonicalByte left₀ s at₀)
 
 abbrev μ-loop : tie.MeasureT-loop
 μ-loop s from count n₀ at₀ left₀ n at left = left
@@ -25,7 +27,7 @@ fits c =
     let known = c .before .before .before .before .before .before .before .before .before in
     let a = known .before .args in
     let bytes = all-places (a .s .now) (λ i. omega (arith, known .shared-slice-known .given i)) in
-    let most = tags-room (a .s .now) bytes (a .count) (a .from) in
+    let most = tags-room (a .s .now) true bytes (a .count) (a .from) in
     omega (arith, q .inv, most, known .before .pre, c .comma-len .ensures .1, c .before .before .elements-len .ensures .1 .1)
 
 again : tie.Need-loop-again Inv-loop μ-loop
@@ -36,8 +38,8 @@ again c =
     let turn = called .before in
     let q = turn .before .loop in
     let s = turn .before .before .before .args .s .now in
-    let n = tags-count s (q .left) (q .at) _ _ _ (turn .loop-test .taken) (called .tag-count .ensures) (told .found .given .1) in
-    let rest = ap (λ (i : ℕ). length (tagsText (q .left - 1) s i)) (elements .1 .0) in
+    let n = tags-count canonicalByte s (q .left) (q .at) _ _ _ (turn .loop-test .taken) (called .tag-count .ensures) (told .found .given .1) in
+    let rest = ap (λ (i : ℕ). length (tagsFrom canonicalByte (q .left - 1) s i)) (elements .1 .0) in
     omega (arith, q .inv, n, rest, elements .0, c .comma-len .ensures .0)
 
 stop : tie.Need-returns Inv-loop μ-loop
@@ -49,8 +51,8 @@ stop c =
     let a = known .before .args in
     let s = a .s .now in
     let bytes = all-places s (λ i. omega (arith, known .shared-slice-known .given i)) in
-    let most = tags-room s bytes (a .count) (a .from) in
-    let t = tags-stop s (q .left) (q .at) (called .tag-count .result) _ _ (turn .loop-test .taken) (called .tag-count .ensures) (ap numberRead (c .enum-told .given .1)) in
+    let most = tags-room s true bytes (a .count) (a .from) in
+    let t = tags-stop canonicalByte s (q .left) (q .at) (called .tag-count .result) _ _ (turn .loop-test .taken) (called .tag-count .ensures) (ap numberRead (c .enum-told .given .1)) in
     (omega (arith, q .inv, ap length t), omega (arith, q .inv, most))
 
 end : tie.Need-returns-2 Inv-loop μ-loop
@@ -60,8 +62,8 @@ end c =
     let a = known .before .args in
     let s = a .s .now in
     let bytes = all-places s (λ i. omega (arith, known .shared-slice-known .given i)) in
-    let most = tags-room s bytes (a .count) (a .from) in
-    let t = tags-left s (q .left) (q .at) (c .loop-test .left) in
+    let most = tags-room s true bytes (a .count) (a .from) in
+    let t = tags-left canonicalByte s (q .left) (q .at) (c .loop-test .left) in
     (omega (arith, q .inv, ap length t), omega (arith, q .inv, most))
 
 pub tags-len-spec : {M : Type 1} → statement M

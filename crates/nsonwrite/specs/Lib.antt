@@ -1,0 +1,3 @@
+pub mod Copy
+pub mod Carried
+pub mod Answers

@@ -1,0 +1,300 @@
+// The NSON of a packed event: measured first, and written where NSON can carry the event and there is room for it.
+use event::Refusal;
+use notepack::Head;
+use notepack::NumberRead;
+use notepack::Part;
+use notepack::PartRead;
+use notepack::Walk;
+ghost use Prim.Native.Nat.{_+_, _*_, _≤_};
+ghost use mathlib.Core.Path.{_≡_};
+ghost use mathlib.Core.Bool.{false};
+ghost use lib.ListN.{length};
+ghost use lib.Dec.{leb};
+ghost use Rattle.scan.specs.Choice.{pick};
+ghost use Rattle.store.specs.Store.{Wrote};
+ghost use Rattle.store.specs.Entry.{writes, leaves};
+ghost use Rattle.escape.specs.Escape.{nsonByte, nsonText};
+ghost use Rattle.notepack.specs.Unpack.{textOf, unpack};
+ghost use Rattle.tagtext.specs.Copy.{elementsFrom, elementsEnd, tagsFrom};
+ghost use Rattle.nson.specs.Nson.{nson};
+ghost use Rattle.nson.specs.Carries.{allFit, tagsFit};
+ghost use Rattle.nsonwrite.specs.Carried.{carried};
+ghost use Rattle.nsonwrite.specs.Copy.{cutWord, textsFrom, cutWords, tagsOver, tagWords, countsFrom, textsFit, textsLength, lengthWith, measuredFit, headFrom, fieldOf, bodyFrom, wholeFrom};
+ghost use Rattle.nsonwrite.specs.Answers.{nsonWrite};
+
+pub enum NsonWrite {
+    Written(usize),
+    Refused(Refusal),
+}
+
+// What NSON can carry: the times, the longest text between two quotes, and the most bytes of descriptors.
+const MIN_CREATED_AT: u64 = 1_000_000_000;
+
+const MAX_CREATED_AT: u64 = 9_999_999_999;
+
+const MAX_TEXT: usize = 65_535;
+
+const MAX_DESCRIPTORS: usize = 127;
+
+// Whether NSON can carry each text, the text's length, the place behind the descriptors, and the place behind what was measured.
+struct Measured {
+    fits: bool,
+    len: usize,
+    out: usize,
+    next: usize,
+}
+
+// ---- the measure
+
+// A count in two bytes, the upper one first.
+fn put_word(out: &mut [u8], at: usize, n: usize) -> usize
+    ensures { λ r. ⌜ Wrote (now (out .entry)) at (cutWord n) (now (out .exit)) r ⌝ }
+{
+    let o = store::put_byte(out, at, (n / 256 % 256) as u8);
+    store::put_byte(out, o, (n % 256) as u8)
+}
+
+// Whether a part's text has no byte that NSON can't carry. Hex digits are none.
+fn is_plain(s: &[u8], p: Part) -> bool
+    ensures { λ r. ⌜ r ≡ nsonText (textOf (now (s .entry)) p) ⌝ }
+{
+    if p.raw {
+        return true;
+    }
+    escape::nson_fits(scan::part(s, p.at, p.len))
+}
+
+// Whether NSON can carry a part's text, whose escaped length is n.
+fn text_fits(s: &[u8], p: Part, n: usize) -> bool
+    ensures { λ r. ⌜ r ≡ pick (nsonText (textOf (now (s .entry)) p)) (leb n 65535) false ⌝ }
+{
+    if is_plain(s, p) {
+        return n <= MAX_TEXT;
+    }
+    false
+}
+
+fn both(a: bool, b: bool) -> bool
+    ensures { λ r. ⌜ r ≡ pick a b false ⌝ }
+{
+    if a { b } else { false }
+}
+
+// count elements from a place on. The descriptors of their texts go into d.
+fn measure_elements(s: &[u8], from: usize, count: u64, d: &mut [u8], at: usize) -> Measured
+    requires { ⌜ length (now s) ≤ 65536 ⌝ }
+    ensures { λ r. ⌜ r .fits ≡ allFit (textsFrom count (now (s .entry)) from) ⌝ }
+    ensures { λ r. ⌜ Wrote (now (d .entry)) at (cutWords (textsFrom count (now (s .entry)) from)) (now (d .exit)) (r .out) ⌝ }
+    ensures { λ r. ⌜ r .len ≡ length (elementsFrom nsonByte count (now (s .entry)) from) ⌝ }
+    ensures { λ r. ⌜ r .next ≡ elementsEnd count (now (s .entry)) from ⌝ }
+    ensures { λ r. ⌜ r .len ≤ 3 * length (now (s .entry)) ⌝ }
+{
+    let mut fits = true;
+    let mut len = 0;
+    let mut out = at;
+    let mut next = from;
+    let mut left = count;
+    while 0 < left {
+        let found = tagtext::read_part(s, next);
+        match found {
+            PartRead::Found(p, behind) => {
+                left -= 1;
+                let n = tagtext::text_len(false, s, p);
+                fits = both(fits, text_fits(s, p, n));
+                len += n + 2 + tagtext::comma_len(left);
+                out = put_word(d, out, n);
+                next = behind.at;
+            }
+            PartRead::Refused(_) => return Measured {
+                fits,
+                len,
+                out,
+                next,
+            },
+        }
+    }
+    Measured {
+        fits,
+        len,
+        out,
+        next,
+    }
+}
+
+// count tags from a place on.
+fn measure_tags(s: &[u8], from: usize, count: u64, d: &mut [u8], at: usize) -> Measured
+    requires { ⌜ length (now s) ≤ 65536 ⌝ }
+    ensures { λ r. ⌜ r .fits ≡ tagsFit (tagsOver count (now (s .entry)) from) ⌝ }
+    ensures { λ r. ⌜ Wrote (now (d .entry)) at (tagWords count (now (s .entry)) from) (now (d .exit)) (r .out) ⌝ }
+    ensures { λ r. ⌜ r .len ≡ length (tagsFrom nsonByte count (now (s .entry)) from) ⌝ }
+    ensures { λ r. ⌜ r .len ≤ 3 * length (now (s .entry)) ⌝ }
+{
+    let mut fits = true;
+    let mut len = 0;
+    let mut out = at;
+    let mut next = from;
+    let mut left = count;
+    while 0 < left {
+        let found = notepack::Cursor { at: next }.tag_count(s);
+        match found {
+            NumberRead::Number(texts, first) => {
+                left -= 1;
+                out = store::put_byte(d, out, (texts % 256) as u8);
+                let elements = measure_elements(s, first.at, texts, d, out);
+                fits = both(fits, elements.fits);
+                len += elements.len + 2 + tagtext::comma_len(left);
+                out = elements.out;
+                next = elements.next;
+            }
+            NumberRead::Refused(_) => return Measured {
+                fits,
+                len,
+                out,
+                next,
+            },
+        }
+    }
+    Measured {
+        fits,
+        len,
+        out,
+        next,
+    }
+}
+
+// The content and the tags: whether they fit, and their length. All descriptors go into d.
+fn measure_texts(s: &[u8], h: Head, d: &mut [u8]) -> Measured
+    requires { ⌜ (length (now s) ≤ 65536) × (length (now d) ≡ 128) ⌝ }
+    ensures { λ r. ⌜ r .fits ≡ textsFit (now (s .entry)) h ⌝ }
+    ensures { λ r. ⌜ Wrote (now (d .entry)) 0 (countsFrom (now (s .entry)) h) (now (d .exit)) (r .out) ⌝ }
+    ensures { λ r. ⌜ r .len ≡ textsLength (now (s .entry)) h ⌝ }
+    ensures { λ r. ⌜ (r .out ≤ 128) × (r .len ≤ 5 * 65536) ⌝ }
+{
+    let content = h.content;
+    let kind = decimal::decimal_len(h.kind);
+    let n = tagtext::text_len(false, s, content);
+    let a = store::put_byte(d, 0, kind as u8);
+    let b = put_word(d, a, n);
+    let c = store::put_byte(d, b, (h.tag_count % 256) as u8);
+    let tags = measure_tags(s, h.tags_at, h.tag_count, d, c);
+    Measured {
+        fits: both(text_fits(s, content, n), tags.fits),
+        len: n + tags.len,
+        out: tags.out,
+        next: tags.next,
+    }
+}
+
+// The whole text: whether its strings fit, its length, and where its descriptors end in d.
+fn measure(s: &[u8], h: Head, d: &mut [u8]) -> Measured
+    requires { ⌜ (length (now s) ≤ 65536) × (length (now d) ≡ 128) ⌝ }
+    ensures { λ r. ⌜ r .fits ≡ textsFit (now (s .entry)) h ⌝ }
+    ensures { λ r. ⌜ Wrote (now (d .entry)) 0 (countsFrom (now (s .entry)) h) (now (d .exit)) (r .out) ⌝ }
+    ensures { λ r. ⌜ r .len ≡ lengthWith (r .out) (now (s .entry)) h ⌝ }
+{
+    let texts = measure_texts(s, h, d);
+    let time = decimal::decimal_len(h.created_at);
+    let kind = decimal::decimal_len(h.kind);
+    Measured {
+        fits: texts.fits,
+        len: 343 + time + 2 * texts.out + kind + texts.len,
+        out: texts.out,
+        next: texts.next,
+    }
+}
+
+// Whether NSON can carry the event that was measured.
+fn is_carried(h: Head, m: Measured) -> bool
+    ensures { λ r. ⌜ r ≡ measuredFit (h .«created_at») (m .fits) (m .out) (m .len) ⌝ }
+{
+    if h.created_at < MIN_CREATED_AT {
+        return false;
+    }
+    if MAX_CREATED_AT < h.created_at {
+        return false;
+    }
+    if m.fits {
+        if m.out <= MAX_DESCRIPTORS {
+            return m.len <= event::MAX_INPUT;
+        }
+        return false;
+    }
+    false
+}
+
+// ---- the text
+
+// Up to and including "nson":".
+fn put_head(out: &mut [u8], at: usize, s: &[u8], h: Head) -> usize
+    ensures { λ r. ⌜ Wrote (now (out .entry)) at (headFrom (now (s .entry)) h) (now (out .exit)) r ⌝ }
+{
+    let a = store::put_bytes(out, at, b"{\"id\":\"");
+    let b = hex::put_hex(out, a, scan::part(s, 0, 32));
+    let c = store::put_bytes(out, b, b"\",\"pubkey\":\"");
+    let d = hex::put_hex(out, c, scan::part(s, 32, 32));
+    let e = store::put_bytes(out, d, b"\",\"sig\":\"");
+    let f = hex::put_hex(out, e, scan::part(s, 64, 64));
+    let g = store::put_bytes(out, f, b"\",\"created_at\":");
+    let i = decimal::put_decimal(out, g, h.created_at);
+    store::put_bytes(out, i, b",\"nson\":\"")
+}
+
+// The size, which counts the hex characters behind it, and the descriptors.
+fn put_field(out: &mut [u8], at: usize, d: &[u8]) -> usize
+    ensures { λ r. ⌜ Wrote (now (out .entry)) at (fieldOf (now (d .entry))) (now (out .exit)) r ⌝ }
+{
+    let size = [(2 * d.len() % 256) as u8];
+    let a = hex::put_hex(out, at, &size);
+    hex::put_hex(out, a, d)
+}
+
+// Behind the nson field.
+fn put_body(out: &mut [u8], at: usize, s: &[u8], h: Head) -> usize
+    ensures { λ r. ⌜ Wrote (now (out .entry)) at (bodyFrom (now (s .entry)) h) (now (out .exit)) r ⌝ }
+{
+    let a = store::put_bytes(out, at, b"\",\"kind\":");
+    let b = decimal::put_decimal(out, a, h.kind);
+    let c = store::put_bytes(out, b, b",\"content\":\"");
+    let d = tagtext::put_text(false, out, c, s, h.content);
+    let e = store::put_bytes(out, d, b"\",\"tags\":[");
+    let f = tagtext::put_tags(false, out, e, s, h.tags_at, h.tag_count);
+    store::put_bytes(out, f, b"]}")
+}
+
+// The whole text, with the descriptors d.
+fn put_whole(out: &mut [u8], at: usize, s: &[u8], h: Head, d: &[u8]) -> usize
+    ensures { λ r. ⌜ Wrote (now (out .entry)) at (wholeFrom (now (d .entry)) (now (s .entry)) h) (now (out .exit)) r ⌝ }
+{
+    let a = put_head(out, at, s, h);
+    let b = put_field(out, a, d);
+    put_body(out, b, s, h)
+}
+
+// The NSON of a packed event: the reader's refusals, 17 where NSON can't carry it, then 11 with the length needed; else written from the start.
+pub fn write_nson(s: &[u8], out: &mut [u8]) -> NsonWrite
+    ensures { λ r. ⌜ nsonWrite r ≡ writes nson (carried (unpack (now (s .entry)))) (now (out .entry)) ⌝ }
+    ensures { λ _. ⌜ now (out .exit) ≡ leaves nson (carried (unpack (now (s .entry)))) (now (out .entry)) ⌝ }
+{
+    let walked = notepack::walk_packed(s);
+    match walked {
+        Walk::Refused(r) => NsonWrite::Refused(r),
+        Walk::Done(h, _) => {
+            let mut descriptors = [0u8; 128];
+            let m = measure(s, h, &mut descriptors);
+            if is_carried(h, m) {
+                if out.len() < m.len {
+                    return NsonWrite::Refused(Refusal {
+                        number: event::TOO_LITTLE_ROOM,
+                        place: m.len,
+                    });
+                }
+                let d = scan::part(&descriptors, 0, m.out);
+                return NsonWrite::Written(put_whole(out, 0, s, h, d));
+            }
+            NsonWrite::Refused(Refusal {
+                number: event::NOT_CARRIED,
+                place: 0,
+            })
+        }
+    }
+}
