@@ -7,9 +7,10 @@ use native.Mathlib.Omega.{arith}
 use lib.ListN.{length}
 use borrow.Author.Tests.{eq-eqb, ne-eqb}
 use Rattle.scan.specs.Choice.{Answer, shown, refused, Read, read, andThen, many}
+use Rattle.scan.proofs.SpanLaws.{span-length}
 use Rattle.scan.proofs.Many.{many-count}
 use Rattle.nson.specs.Read.{hexAt, countsAt, byteHere, wordHere, descriptorAt, byteCountAt, wordCountAt, kindCountAt, tagCountsAt, countsTo}
-use Rattle.nson.proofs.Pieces.{pick-shown, shown-same}
+use Rattle.nson.proofs.Pieces.{hex-shown}
 use Rattle.nsonread.specs.declared.Sizes.{Sizes}
 use Rattle.nsonread.specs.Walk.{nextOf, sizesOf}
 use Rattle.nsonread.proofs.Laws.{next-shown, next-refused}
@@ -98,11 +99,7 @@ module _ (end : ℕ) (s : List ℕ) (at : ℕ) where
 
 -- hex digits end where their number says
 pub hex-next : (n : ℕ) (s : List ℕ) (at : ℕ) {p : ℕ} → hexAt n s at ≡ shown p → p ≡ at + n
-unfolding hexAt
-hex-next n s at e =
-    let a = pick-shown _ _ _ _ _ e in
-    let b = pick-shown _ _ _ _ _ (a .1) in
-    sym (shown-same (b .1))
+hex-next n s at {p} e = let h = hex-shown n s at p e in let k = h .count in omega (arith, span-length (h .span))
 
 pub field-stops : (s : List ℕ) {n p : ℕ} → hexAt 2 s 318 ≡ refused n p → andThen (countsAt s) (λ c. read (sizesOf (c .value)) (c .next)) ≡ refused n p
 unfolding countsAt

@@ -4,3 +4,8 @@ pub mod Counting
 pub mod Sizing
 pub mod Turns
 pub mod Parts
+pub mod Placing
+pub mod Copying
+pub mod Whole
+pub mod Walking
+pub mod Writing

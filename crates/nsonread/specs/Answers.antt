@@ -2,6 +2,7 @@
 use Prim.Native.Nat.{ℕ}
 use Rattle.scan.specs.Choice.{Answer, shown, Read, read}
 use Rattle.event.specs.Answers.{told}
+use Rattle.nsonread.specs.Copy.{tagsPlace}
 use Rattle.nsonread.specs.declared.Sizes.{Sizes}
 use Rattle.nsonread.specs.declared.Body.{Body}
 use Rattle.nsonread.specs.declared.Walked.{Walked}
@@ -61,3 +62,11 @@ placeIn (sizes-by.Refused r) = 0
 abbrev pub tagsIn : BodyRead → ℕ
 tagsIn (body-by.Found b c) = b .«tags_len»
 tagsIn (body-by.Refused r) = 0
+
+abbrev pub sizesOfWalk : Walk → Sizes
+sizesOfWalk (walk-by.Done w) = w .sizes
+sizesOfWalk (walk-by.Refused r) = record { kind = 0; content = 0; tags = 0 }
+
+abbrev pub tagsPlaceOf : Walk → ℕ
+tagsPlaceOf (walk-by.Done w) = tagsPlace w
+tagsPlaceOf (walk-by.Refused r) = 0

@@ -4,6 +4,8 @@ use mathlib.Core.List.{List, [], _∷_}
 use lib.ListN.{length}
 use lib.Dec.{leb, eqb}
 use Rattle.scan.specs.Choice.{pick, Answer, shown, refused, Read, read, andThen}
+use Rattle.varint.specs.Uleb.{uleb}
+use Rattle.jsontext.specs.Escape.{unescape}
 use Rattle.notepack.specs.Strict.{packTags, pack}
 use Rattle.nson.specs.Nson.{Counts}
 use Rattle.nson.specs.Read as nson
@@ -40,7 +42,18 @@ countsOf s z = record { kind = z .kind; content = z .content; tags = tagSizes (z
 abbrev pub bodySize : nson.Body → Body
 bodySize b = record { kind = b .kind; «tags_len» = length (packTags (b .tags)) }
 
--- what is kept of the whole
+-- what the code keeps of an accepted text: the length by what it measured
+abbrev pub kept : List ℕ → ℕ → Sizes → ℕ → Body → Walked
+kept s time z at b =
+    let content = length (unescape (nson.partAt (z .content) s (at + 21 + z .kind))) in record {
+      «created_at» = time;
+      kind = b .kind;
+      sizes = z;
+      «body_at» = at;
+      len = 128 + (length (uleb time) + length (uleb (b .kind))) + (length (uleb content) + length (uleb (z .tags))) + content + b .«tags_len»;
+    }
+
+-- what is kept of the whole: the length is that of the event's strict form
 abbrev pub walkedOf : List ℕ → ℕ → Read Counts → nson.Body → Walked
 walkedOf s time n b = record {
   «created_at» = time;

@@ -11,9 +11,9 @@ ghost use Rattle.store.specs.Entry.{writes, leaves};
 ghost use Rattle.varint.specs.Uleb.{uleb};
 ghost use Rattle.notepack.specs.Strict.{packElement, packElements, packTag, packTags, pack};
 ghost use Rattle.nson.specs.Read.{pieceAt, hexAt, labelledAt, decimalAt, textAt, keysAt, timeAt, headAt, byteHere, wordHere, descriptorAt, wordCountAt, kindCountAt, itemCountAt, tagCountsAt, countsTo, countsAt, kindAt, commaAt, itemsAt, itemAt, tagAt, tagsAt, kindPartAt, contentPartAt, tagsPartAt, bodyAt, readNson};
-ghost use Rattle.nsonread.specs.Walk.{nextOf, sized, itemSizes, tagSizes, sizesOf, countsOf, bodySize, walkAt};
-ghost use Rattle.nsonread.specs.Copy.{itemsText, itemsEnd, tagsText, contentPlace, contentText, frontText, wholeText};
-ghost use Rattle.nsonread.specs.Answers.{nsonRead, skip, numberRead, sizesRead, bodyRead, walk, numberIn, sizesIn, placeIn, tagsIn};
+ghost use Rattle.nsonread.specs.Walk.{nextOf, sized, itemSizes, tagSizes, sizesOf, countsOf, bodySize, kept, walkAt};
+ghost use Rattle.nsonread.specs.Copy.{itemsText, itemsEnd, tagsText, contentPlace, tagsPlace, frontText, wholeText};
+ghost use Rattle.nsonread.specs.Answers.{nsonRead, skip, numberRead, sizesRead, bodyRead, walk, numberIn, sizesIn, placeIn, tagsIn, sizesOfWalk, tagsPlaceOf};
 
 pub enum NsonRead {
     Written(usize),
@@ -53,6 +53,12 @@ struct Sizes {
 enum SizesRead {
     Found(Sizes, Cursor),
     Refused(Refusal),
+}
+
+// The counts and the cursor behind them.
+struct Measured {
+    sizes: Sizes,
+    next: Cursor,
 }
 
 // The kind, and the length of the tags' strict form.
@@ -684,6 +690,160 @@ impl Cursor {
                 end,
             ),
             NumberRead::Refused(r) => BodyRead::Refused(r),
+        }
+    }
+}
+
+// What is kept of an accepted text, with the length of its strict form.
+fn keep(s: &[u8], time: usize, z: Sizes, from: usize, b: Body) -> Walked
+    requires { ⌜ z .kind ≤ 5 ⌝ }
+    requires { ⌜ z .content ≤ 65535 ⌝ }
+    requires { ⌜ from ≤ 575 ⌝ }
+    requires { ⌜ b .«tags_len» ≤ 16713985 * 255 ⌝ }
+    ensures { λ r. ⌜ r ≡ kept (now (s .entry)) time z from b ⌝ }
+{
+    let content = jsontext::unescaped_len(s, from + 21 + z.kind, z.content);
+    let numbers = varint::varint_len(time as u64) + varint::varint_len(b.kind as u64);
+    let counts = varint::varint_len(content as u64) + varint::varint_len(z.tags as u64);
+    Walked {
+        created_at: time,
+        kind: b.kind,
+        sizes: z,
+        body_at: from,
+        len: 128 + numbers + counts + content + b.tags_len,
+    }
+}
+
+// The whole input.
+fn walk_text(s: &[u8]) -> Walk
+    ensures { λ r. ⌜ walk r ≡ walkAt (now (s .entry)) ⌝ }
+    ensures { λ r. ⌜ sizesOfWalk r .tags ≤ 255 ⌝ }
+    ensures { λ r. ⌜ tagsPlaceOf r ≤ 100000 ⌝ }
+{
+    if 65536 < s.len() {
+        return Walk::Refused(Refusal {
+            number: event::INPUT_TOO_LONG,
+            place: 0,
+        });
+    }
+    let front = head(s);
+    let created_at = match front {
+        NumberRead::Number(n, _) => n,
+        NumberRead::Refused(r) => return Walk::Refused(r),
+    };
+    let found = counts(s);
+    let first = match found {
+        SizesRead::Found(sizes, next) => Measured { sizes, next },
+        SizesRead::Refused(r) => return Walk::Refused(r),
+    };
+    let rest = first.next.body(s, first.sizes);
+    match rest {
+        BodyRead::Found(body, end) => {
+            if end.at == s.len() {
+                return Walk::Done(keep(s, created_at, first.sizes, first.next.at, body));
+            }
+            Walk::Refused(Refusal {
+                number: event::AFTER_THE_END,
+                place: end.at,
+            })
+        }
+        BodyRead::Refused(r) => Walk::Refused(r),
+    }
+}
+
+// ---- the strict form
+
+// n items, whose counts stand from d on and whose first quote stands at a place.
+fn put_items(out: &mut [u8], at: usize, s: &[u8], n: usize, d: usize, from: usize) -> Copied
+    requires { ⌜ n ≤ 255 ⌝ }
+    requires { ⌜ d ≤ 1000000 ⌝ }
+    requires { ⌜ from ≤ 10000000000 ⌝ }
+    ensures { λ r. ⌜ Wrote (now (out .entry)) at (itemsText n (now (s .entry)) d from) (now (out .exit)) (r .out) ⌝ }
+    ensures { λ r. ⌜ r .next ≡ itemsEnd n (now (s .entry)) d from ⌝ }
+    ensures { λ r. ⌜ r .next ≤ from + 65538 * n ⌝ }
+{
+    let mut o = at;
+    let mut left = n;
+    let mut count_at = d;
+    let mut place = from;
+    while 0 < left {
+        let size = word_here(s, count_at);
+        o = spelled::put_element(out, o, s, place + 1, size);
+        place += size + 3;
+        count_at += 4;
+        left -= 1;
+    }
+    Copied { out: o, next: place }
+}
+
+// n tags, whose counts stand from d on and whose first bracket stands at a place.
+fn put_tags(out: &mut [u8], at: usize, s: &[u8], n: usize, d: usize, from: usize) -> usize
+    requires { ⌜ n ≤ 255 ⌝ }
+    requires { ⌜ d ≤ 1000 ⌝ }
+    requires { ⌜ from ≤ 100000 ⌝ }
+    ensures { λ r. ⌜ Wrote (now (out .entry)) at (tagsText n (now (s .entry)) d from) (now (out .exit)) r ⌝ }
+{
+    let mut o = at;
+    let mut left = n;
+    let mut count_at = d;
+    let mut place = from;
+    while 0 < left {
+        let items = byte_here(s, count_at);
+        o = varint::put_varint(out, o, items as u64);
+        let copied = put_items(out, o, s, items, count_at + 2, place + 1);
+        o = copied.out;
+        place = copied.next + 1;
+        count_at += 2 + 4 * items;
+        left -= 1;
+    }
+    o
+}
+
+// All in front of the tags.
+fn put_front(out: &mut [u8], at: usize, s: &[u8], w: Walked) -> usize
+    requires { ⌜ contentPlace w ≤ 100000 ⌝ }
+    ensures { λ r. ⌜ Wrote (now (out .entry)) at (frontText (now (s .entry)) w) (now (out .exit)) r ⌝ }
+{
+    let z = w.sizes;
+    let content_at = w.body_at + 21 + z.kind;
+    let a = hex::put_unhex(out, at, scan::part(s, 7, 64));
+    let b = hex::put_unhex(out, a, scan::part(s, 83, 64));
+    let c = hex::put_unhex(out, b, scan::part(s, 156, 128));
+    let d = varint::put_varint(out, c, w.created_at as u64);
+    let e = varint::put_varint(out, d, w.kind as u64);
+    let f = varint::put_varint(out, e, jsontext::unescaped_len(s, content_at, z.content) as u64);
+    let g = jsontext::put_unescaped(out, f, s, content_at, z.content);
+    varint::put_varint(out, g, z.tags as u64)
+}
+
+// The whole strict form.
+fn put_whole(out: &mut [u8], s: &[u8], w: Walked) -> usize
+    requires { ⌜ w .sizes .tags ≤ 255 ⌝ }
+    requires { ⌜ tagsPlace w ≤ 100000 ⌝ }
+    ensures { λ r. ⌜ Wrote (now (out .entry)) 0 (wholeText (now (s .entry)) w) (now (out .exit)) r ⌝ }
+{
+    let z = w.sizes;
+    let o = put_front(out, 0, s, w);
+    put_tags(out, o, s, z.tags, 328, w.body_at + 21 + z.kind + z.content + 10)
+}
+
+// The event of an NSON text, in strict form: every refusal first, then 11 with the length needed; else written from the start.
+pub fn read_nson(s: &[u8], out: &mut [u8]) -> NsonRead
+    ensures { λ r. ⌜ nsonRead r ≡ writes pack (readNson (now (s .entry))) (now (out .entry)) ⌝ }
+    ensures { λ _. ⌜ now (out .exit) ≡ leaves pack (readNson (now (s .entry))) (now (out .entry)) ⌝ }
+{
+    let walked = walk_text(s);
+    match walked {
+        Walk::Refused(r) => NsonRead::Refused(r),
+        Walk::Done(w) => {
+            let need = w.len;
+            if out.len() < need {
+                return NsonRead::Refused(Refusal {
+                    number: event::TOO_LITTLE_ROOM,
+                    place: need,
+                });
+            }
+            NsonRead::Written(put_whole(out, s, w))
         }
     }
 }

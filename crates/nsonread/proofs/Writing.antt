@@ -1,0 +1,35 @@
+-- The turns of the two loops that write: one item or one tag is written, the others are left.
+-- By the definitions, one step each.
+use Prim.Native.Nat.{ℕ, zero, suc, _+_, _*_, _-_, _<_, _≤_}
+use mathlib.Core.Path.{_≡_, refl, sym, ap, _∙_}
+use mathlib.Core.List.{List, [], _++_}
+use native.Mathlib.Omega.{arith}
+use Rattle.varint.specs.Uleb.{uleb}
+use Rattle.jsontext.specs.Escape.{unescape}
+use Rattle.notepack.specs.Strict.{packElement}
+use Rattle.nson.specs.Read.{partAt, wordHere, byteHere}
+use Rattle.nsonread.specs.Copy.{itemsText, itemsEnd, tagsText}
+
+module _ (s : List ℕ) where
+  pub items-write : (left d at : ℕ) {w : ℕ} → 0 < left → w ≡ wordHere s d
+      → (itemsText left s d at ≡ packElement (unescape (partAt w s (at + 1))) ++ itemsText (left - 1) s (d + 4) (at + (w + 3)))
+      × (itemsEnd left s d at ≡ itemsEnd (left - 1) s (d + 4) (at + (w + 3)))
+  unfolding itemsText itemsEnd
+  items-write zero d at h e = absurd (omega arith)
+  items-write (suc n) d at h e = let k : suc n - 1 ≡ n = omega arith in (rw (e, k) refl, rw (e, k) refl)
+
+  pub items-written : (left d at : ℕ) → left ≤ 0 → (itemsText left s d at ≡ []) × (itemsEnd left s d at ≡ at)
+  unfolding itemsText itemsEnd
+  items-written zero d at h = (refl, refl)
+  items-written (suc n) d at h = absurd (omega arith)
+
+  pub tags-write : (left d at : ℕ) {w e : ℕ} → 0 < left → w ≡ byteHere s d → e ≡ itemsEnd w s (d + 2) (at + 1)
+      → tagsText left s d at ≡ uleb w ++ (itemsText w s (d + 2) (at + 1) ++ tagsText (left - 1) s (d + (2 + 4 * w)) (e + 1))
+  unfolding tagsText
+  tags-write zero d at h q f = absurd (omega arith)
+  tags-write (suc n) d at h q f = let k : suc n - 1 ≡ n = omega arith in rw (f, q, k) refl
+
+  pub tags-written : (left d at : ℕ) → left ≤ 0 → tagsText left s d at ≡ []
+  unfolding tagsText
+  tags-written zero d at h = refl
+  tags-written (suc n) d at h = absurd (omega arith)
