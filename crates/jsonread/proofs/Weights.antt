@@ -42,7 +42,7 @@ use Rattle.jsontext.proofs.TokenLaws.{number-consumes}
 use Rattle.jsontext.proofs.FirstByte.{begins-value, some-bytes}
 use Rattle.jsontext.proofs.Walk.{space-onward}
 use Rattle.jsontext.specs.Escape.{unescape}
-use Rattle.json.specs.Field.{textOf, textAt, hexAt, isHexOf, digitsOnly, wholeOf, wholeAt, insideAt, arrayAt, oneOrMore, itemsAt, tagAt, Value, missing, bytes, tags, text, under}
+use Rattle.json.specs.Field.{textOf, textAt, hexAt, isHexOf, digitsOnly, wholeOf, wholeAt, insideAt, arrayAt, oneOrMore, itemsAt, tagAt, tagsAt, Value, missing, bytes, tags, text, under}
 use Rattle.json.specs.Field as field
 use Rattle.jsonread.specs.declared.Spot.{Spot}
 use Rattle.jsonread.specs.declared.Sized.{Sized}
@@ -248,10 +248,10 @@ tags-weigh s first {t} {e} small f = let g = under-read (sized tagSize) (insideA
     go l g h =
         let same : tagsFrom s first ≡ l = rw g in
         let text : tagsText (length l) s first ≡ packTags l =
-            inside-by (tagAt s) s 999 first (λ (l : List Tag). tagsText (length l) s first ≡ packTags l) (tags-left s 0 first (omega arith)) (λ l c r. tags-written s r) g in
+        inside-by (tagAt s) s 999 first (λ (l : List Tag). tagsText (length l) s first ≡ packTags l) (tags-left s 0 first (omega arith)) (λ l c r. tags-written s r) g in
         let most : total tagSize l ≤ length s + 2_560_000 =
-            inside-by (tagAt s) s 999 first (λ (l : List Tag). total tagSize l ≤ length s + 2_560_000) (none-most s)
-            (λ l c r. let u = took-bound (tagAt s) tagSize s 2_560 (tag-bound s small) r in omega (arith, u)) g in
+        inside-by (tagAt s) s 999 first (λ (l : List Tag). total tagSize l ≤ length s + 2_560_000) (none-most s)
+        (λ l c r. let u = took-bound (tagAt s) tagSize s 2_560 (tag-bound s small) r in omega (arith, u)) g in
         record {
           says = g ∙ ap (λ (l : List Tag). read l e) (sym same);
           count = ap (λ (x : Sized). x .count) (sym h) ∙ ap length (sym same);
@@ -352,3 +352,60 @@ module _ (s : List ℕ) (at max refusal : ℕ) (f : Skip) (e : skipRead f ≡ nu
         → spotRead 3 s x ≡ under field.number (wholeAt max refusal s at)
     unfolding wholeAt
     whole-taken x {l} h g = spot-number s x ∙ g ∙ rw (number-past, h)
+
+-- ---- the tags
+
+pub tags-not : (s : List ℕ) (at : ℕ) {b : ℕ} → b ≡ getD s at 0 → (b ≡ 0x5B → ⊥) → refused 14 at ≡ under tags (tagsAt s at)
+unfolding tagsAt arrayAt
+tags-not s at e f = rw (ne-eqb (getD s at 0) 0x5B (λ z. f (e ∙ z)))
+
+module _ (s : List ℕ) (at : ℕ) {b first : ℕ} (e : b ≡ getD s at 0) (f : b ≡ 0x5B) (g : first ≡ spaceAt s (at + 1))
+    (found : SizedRead) (h : sizedRead found ≡ under (sized tagSize) (insideAt (tagAt s) 999 s first)) where
+  tags-open : tagsAt s at ≡ insideAt (tagAt s) 999 s first
+  unfolding tagsAt arrayAt
+  tags-open = rw (eq-eqb (getD s at 0) 0x5B (sym e ∙ f)) (ap (insideAt (tagAt s) 999 s) (sym g))
+
+  pub tags-refused : {why : Refusal} → found ≡ sized-by.Refused why → told why ≡ under tags (tagsAt s at)
+  tags-refused k = let r = under-refused (sized tagSize) (insideAt (tagAt s) 999 s first) (sym (ap sizedRead k) ∙ h) in rw (tags-open, r)
+
+  module _ {t : Sized} {next : own.Cursor} (k : found ≡ sized-by.Done t next) (small : length s < 2 ^ 63) where
+    pub tags-weighed : TagsWeigh s first t (next .at)
+    tags-weighed = tags-weigh s first small (sym (ap sizedRead k) ∙ h)
+
+    pub tags-taken : read (tags (tagsFrom s first)) (next .at) ≡ under tags (tagsAt s at)
+    tags-taken = let r = tags-open ∙ tags-weighed .says in rw r
+
+    pub tags-found : {m : ℕ} → m ≡ length (uleb (t .count)) → m ≤ 10 → Weighs s 5 (record { from = first; count = 0; number = t .count; len = m + t .len })
+    tags-found i j = tags-spot s first tags-weighed (omega (arith, g, space-onward s (at + 1))) i j
+
+-- ---- one kind of value at several numbers
+
+pub hex-at-1 : (s : List ℕ) (r : SpotRead) → spotRead 1 s r ≡ spotRead 0 s r
+unfolding saysAs
+hex-at-1 s (spot-by.Found p c) = refl
+hex-at-1 s (spot-by.Refused r) = refl
+
+pub hex-at-2 : (s : List ℕ) (r : SpotRead) → spotRead 2 s r ≡ spotRead 0 s r
+unfolding saysAs
+hex-at-2 s (spot-by.Found p c) = refl
+hex-at-2 s (spot-by.Refused r) = refl
+
+pub number-at-4 : (s : List ℕ) (r : SpotRead) → spotRead 4 s r ≡ spotRead 3 s r
+unfolding saysAs
+number-at-4 s (spot-by.Found p c) = refl
+number-at-4 s (spot-by.Refused r) = refl
+
+pub good-at-1 : {s : List ℕ} {r : SpotRead} → SpotGood s 0 r → SpotGood s 1 r
+unfolding saysAs spotText
+good-at-1 (found w) = found (record { there = w .there; writes = w .writes; len = w .len; most = w .most })
+good-at-1 SpotGood.refused = SpotGood.refused
+
+pub good-at-2 : {s : List ℕ} {r : SpotRead} → SpotGood s 0 r → SpotGood s 2 r
+unfolding saysAs spotText
+good-at-2 (found w) = found (record { there = w .there; writes = w .writes; len = w .len; most = w .most })
+good-at-2 SpotGood.refused = SpotGood.refused
+
+pub good-at-4 : {s : List ℕ} {r : SpotRead} → SpotGood s 3 r → SpotGood s 4 r
+unfolding saysAs spotText
+good-at-4 (found w) = found (record { there = w .there; writes = w .writes; len = w .len; most = w .most })
+good-at-4 SpotGood.refused = SpotGood.refused

@@ -459,6 +459,7 @@ impl Cursor {
 
     // The value of field number k.
     fn field(self, s: &[u8], k: usize) -> SpotRead
+        requires { ⌜ k ≤ 7 ⌝ }
         ensures { λ r. ⌜ spotRead k (now (s .entry)) r ≡ fieldAt k (now (s .entry)) (self .at) ⌝ }
         ensures { λ r. ⌜ SpotGood (now (s .entry)) k r ⌝ }
     {
@@ -595,7 +596,13 @@ impl Fields {
         requires { ⌜ measured self < 2 ^ 64 ⌝ }
         ensures { λ r. ⌜ r ≡ measured self ⌝ }
     {
-        self.id.len + self.pubkey.len + self.sig.len + self.created_at.len + self.kind.len + self.content.len + self.tags.len
+        self.id.len
+            + self.pubkey.len
+            + self.sig.len
+            + self.created_at.len
+            + self.kind.len
+            + self.content.len
+            + self.tags.len
     }
 }
 
@@ -619,6 +626,7 @@ fn none_found() -> Fields
 impl Cursor {
     // Behind the name of field number k: a colon, then its value.
     fn colon(self, s: &[u8], f: Fields, k: usize) -> FieldsRead
+        requires { ⌜ k ≤ 7 ⌝ }
         requires { ⌜ Good (now s) f ⌝ }
         ensures { λ r. ⌜ fieldsRead (now (s .entry)) r ≡ colonAt k (fieldsOf (now (s .entry)) f) (now (s .entry)) (self .at) ⌝ }
         ensures { λ r. ⌜ FieldsGood (now (s .entry)) r ⌝ }

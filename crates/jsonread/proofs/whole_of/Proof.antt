@@ -13,9 +13,10 @@ returns : tie.Need-returns
 unfolding saysAs
 returns c =
     let a = c .before .before .before .before .before .before .before .before .args in
-    let e = sym (ap decimalRead (c .before .before .before .before .found .given .1)) ∙ c .before .before .before .before .before .before .decimal .ensures in
-    (ap (field.under field.number) (whole-number (a .max) (a .over) (a .l .now) (a .at) (a .next) e (c .before .if1 .taken)),
-    found (number-weighs _ _ (a .next) (c .before .before .before .before .before .before .before .before .pre .1) (c .varint-len .ensures .0) (c .varint-len .ensures .1)))
+    let e = sym (ap decimalRead (c .before .before .before .before .found .given .1)) ∙ c .before .before .before .before .before .before .decimal .ensures in (
+      ap (field.under field.number) (whole-number (a .max) (a .over) (a .l .now) (a .at) (a .next) e (c .before .if1 .taken)),
+      found (number-weighs _ _ (a .next) (c .before .before .before .before .before .before .before .before .pre .1) (c .varint-len .ensures .0) (c .varint-len .ensures .1)),
+    )
 
 over : tie.Need-returns-2
 over c =

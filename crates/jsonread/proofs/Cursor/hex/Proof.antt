@@ -18,9 +18,10 @@ returns c =
 
 other : tie.Need-returns-2
 other c =
-    let a = c .before .before .before .before .before .before .before .before .args in
-    (rw (c .no-spot .ensures) (hex-other (a .s .now) (a .self .at) (c .before .before .before .before .before .before .string .ensures) (c .before .before .before .before .found .given .1) (a .n) (c .before .before .is-hex-of .ensures) (c .before .if1 .left)),
-    rw (c .no-spot .ensures) refused)
+    let a = c .before .before .before .before .before .before .before .before .args in (
+      rw (c .no-spot .ensures) (hex-other (a .s .now) (a .self .at) (c .before .before .before .before .before .before .string .ensures) (c .before .before .before .before .found .given .1) (a .n) (c .before .before .is-hex-of .ensures) (c .before .if1 .left)),
+      rw (c .no-spot .ensures) refused,
+    )
 
 no-string : tie.Need-returns-3
 no-string c = let a = c .before .before .before .before .before .args in (hex-refused (a .s .now) (a .self .at) (c .before .before .before .string .ensures) (a .n) (c .before .found2 .given .1), refused)

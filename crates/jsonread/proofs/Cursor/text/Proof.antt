@@ -15,9 +15,10 @@ unfolding saysAs
 returns c =
     let a = c .before .before .before .before .before .before .before .args in
     let e = c .before .before .before .before .before .string .ensures in
-    let k = c .before .before .before .found .given .1 in
-    (text-taken (a .s .now) (a .self .at) e k field.text,
-    found (text-found (a .s .now) (a .self .at) e k (c .before .unescaped-len .ensures .0) (c .varint-len .ensures .0) (c .varint-len .ensures .1)))
+    let k = c .before .before .before .found .given .1 in (
+      text-taken (a .s .now) (a .self .at) e k field.text,
+      found (text-found (a .s .now) (a .self .at) e k (c .before .unescaped-len .ensures .0) (c .varint-len .ensures .0) (c .varint-len .ensures .1)),
+    )
 
 no-string : tie.Need-returns-2
 no-string c = let a = c .before .before .before .before .before .args in (text-refused (a .s .now) (a .self .at) (c .before .before .before .string .ensures) field.text (c .before .found2 .given .1), refused)

@@ -16,12 +16,14 @@ whole-spec =
     (λ c. let a = c .before .before .before .before .before .args in omega (arith, number-place (a .s .now) (a .self .at) (a .max) (a .over) _ (c .before .before .before .number .ensures) (c .before .found .given .1)))
     (λ c κs. search needs)
     (λ c κs.
-    let a = c .before .before .before .before .before .before .args in
-    (number-some (a .s .now) (a .self .at) (a .max) (a .over) _ (c .before .before .before .before .number .ensures) (c .before .before .found .given .1) (c .part .ensures),
-    omega (arith, number-place (a .s .now) (a .self .at) (a .max) (a .over) _ (c .before .before .before .before .number .ensures) (c .before .before .found .given .1))))
+    let a = c .before .before .before .before .before .before .args in (
+      number-some (a .s .now) (a .self .at) (a .max) (a .over) _ (c .before .before .before .before .number .ensures) (c .before .before .found .given .1) (c .part .ensures),
+      omega (arith, number-place (a .s .now) (a .self .at) (a .max) (a .over) _ (c .before .before .before .before .number .ensures) (c .before .before .found .given .1)),
+    ))
     (λ c. search needs)
     (λ c.
-    let a = c .before .before .before .before .before .before .before .args in
-    (whole-taken (a .s .now) (a .self .at) (a .max) (a .over) _ (c .before .before .before .before .before .number .ensures) (c .before .before .before .found .given .1) _ (c .before .part .ensures) (c .whole-of .ensures .0),
-    good-number (a .s .now) (c .whole-of .ensures .1)))
+    let a = c .before .before .before .before .before .before .before .args in (
+      whole-taken (a .s .now) (a .self .at) (a .max) (a .over) _ (c .before .before .before .before .before .number .ensures) (c .before .before .before .found .given .1) (c .whole-of .result) (c .before .part .ensures) (c .whole-of .ensures .0),
+      good-number (a .s .now) (c .whole-of .ensures .1),
+    ))
     (λ c. let a = c .before .before .before .before .before .args in (whole-refused (a .s .now) (a .self .at) (a .max) (a .over) _ (c .before .before .before .number .ensures) (c .before .found2 .given .1), refused)))
