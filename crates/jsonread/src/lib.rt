@@ -161,7 +161,7 @@ impl Cursor {
                 }
                 no_spot(event::BAD_PIECE, at)
             }
-            StringRead::Refused(r) => SpotRead::Refused(r),
+            StringRead::Refused(why) => no_spot(why.number, why.place),
         }
     }
 

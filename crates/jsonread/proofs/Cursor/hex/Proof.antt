@@ -24,7 +24,9 @@ other c =
     )
 
 no-string : tie.Need-returns-3
-no-string c = let a = c .before .before .before .before .before .args in (hex-refused (a .s .now) (a .self .at) (c .before .before .before .string .ensures) (a .n) (c .before .found2 .given .1), refused)
+no-string c =
+    let a = c .before .before .before .before .before .before .args in
+    (rw (c .no-spot2 .ensures) (hex-refused (a .s .now) (a .self .at) (c .before .before .before .before .string .ensures) (a .n) (c .before .before .found2 .given .1)), rw (c .no-spot2 .ensures) refused)
 
 pub hex-spec : {M : Type 1} → statement M
 hex-spec =
@@ -36,5 +38,6 @@ hex-spec =
     returns
     (λ c κs. search needs)
     (λ c. search needs)
+    (λ c κs. search needs)
     other
     no-string)
