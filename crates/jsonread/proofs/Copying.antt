@@ -18,33 +18,27 @@ use Rattle.notepack.specs.Strict.{packElement, packElements, packTag, packTags}
 use Rattle.notepack.proofs.Lengths.{tag-form}
 use Rattle.strict.specs.Copy.{orElse}
 use Rattle.jsontext.specs.declared.Spelled.{Spelled}
-use Rattle.jsontext.specs.declared.Cursor.{Cursor}
-use Rattle.jsontext.specs.declared.StringRead.{StringRead}
-use Rattle.jsontext.specs.declared.StringRead.the-variants as string
-use Rattle.jsontext.specs.Answers.{stringRead}
 use Rattle.jsontext.specs.Token.{spaceAt}
 use Rattle.jsontext.specs.Text.{stringAt}
 use Rattle.jsontext.proofs.Fits.{byte-positive}
 use Rattle.json.specs.Field.{textOf, textAt, itemsAt, insideAt, arrayAt, oneOrMore, tagAt}
-use Rattle.jsonread.specs.Copy.{behindAt, nextAt, countTexts, textsText, textsEnd, tagText, tagsText}
-use Rattle.jsonread.proofs.Strings.{text-string}
+use Rattle.jsonread.specs.Copy.{behindAt, nextAt, textEnd, countTexts, textsText, textsEnd, tagText, tagsText}
+use Rattle.jsonread.proofs.Strings.{string-ends, text-string}
 use Rattle.jsonread.proofs.Items.{never-shown, Took, last, more, items-took}
 
 -- ---- the turns of the loops
 
 module _ (s : List ℕ) where
-  pub texts-turn : (left at : ℕ) (f : StringRead) (p : Spelled) (c : Cursor) → 0 < left → stringRead f ≡ stringAt s at → f ≡ string.Text p c
-      → (textsText left s at ≡ packElement (textOf s p) ++ textsText (left - 1) s (nextAt s (c .at)))
-      × (textsEnd left s at ≡ textsEnd (left - 1) s (nextAt s (c .at)))
+  pub texts-turn : (left at : ℕ) {p : Spelled} {e : ℕ} → 0 < left → stringAt s at ≡ read p e
+      → (textsText left s at ≡ packElement (textOf s p) ++ textsText (left - 1) s (nextAt s e)) × (textsEnd left s at ≡ textsEnd (left - 1) s (nextAt s e))
   unfolding textsText textsEnd
-  texts-turn zero at f p c h e k = absurd (omega arith)
-  texts-turn (suc left) at f p c h e k = let r = sym e ∙ ap stringRead k in (rw (r, sub-one), rw (r, sub-one))
+  texts-turn zero at h r = absurd (omega arith)
+  texts-turn (suc left) at h r = (rw (r, sub-one), rw (r, sub-one))
 
-  pub texts-stop : (left at : ℕ) (f : StringRead) (n q : ℕ) → 0 < left → stringRead f ≡ stringAt s at → stringRead f ≡ refused n q
-      → (textsText left s at ≡ []) × (textsEnd left s at ≡ at)
+  pub texts-stop : (left at : ℕ) {n q : ℕ} → 0 < left → stringAt s at ≡ refused n q → (textsText left s at ≡ []) × (textsEnd left s at ≡ at)
   unfolding textsText textsEnd
-  texts-stop zero at f n q h e k = absurd (omega arith)
-  texts-stop (suc left) at f n q h e k = let r = sym e ∙ k in (rw r, rw r)
+  texts-stop zero at h r = absurd (omega arith)
+  texts-stop (suc left) at h r = (rw r, rw r)
 
   pub texts-left : (left at : ℕ) → left ≤ 0 → (textsText left s at ≡ []) × (textsEnd left s at ≡ at)
   unfolding textsText textsEnd
@@ -83,31 +77,47 @@ module _ (s : List ℕ) where
   pub counting-start : (at : ℕ) → Counting at at 0
   counting-start at = record { same = omega arith; few = omega arith }
 
-  module _ {at i n : ℕ} (v : Counting at i n) (f : StringRead) (e : stringRead f ≡ stringAt s i) (h : n < 255) where
-    counted : (k : ℕ) → 255 - n ≡ suc k → (p : Spelled) (c : Cursor) → f ≡ string.Text p c
-        → countTexts 255 s at ≡ n + suc (pick (eqb (getD s (spaceAt s (c .at)) 0) 0x2C) (countTexts k s (nextAt s (c .at))) 0)
-    unfolding countTexts
-    counted k d p c g = let r = sym e ∙ ap stringRead g in v .same ∙ rw (d, r)
+  -- the place behind a text, and 0 where none is read
+  end-shown : (i : ℕ) {end : ℕ} → end ≡ textEnd s i → (end ≡ 0 → ⊥) → (x : Spelled) × (stringAt s i ≡ read x end)
+  unfolding textEnd
+  end-shown i {end} e h = go (stringAt s i) refl
+    where
+      go : (r : Answer (Read Spelled)) → stringAt s i ≡ r → (x : Spelled) × (stringAt s i ≡ read x end)
+      go (shown v) f = let z : end ≡ v .next = e ∙ rw f in (v .value, f ∙ ap (λ (n : ℕ). read (v .value) n) (sym z))
+      go (refused n p) f = let z : end ≡ 0 = e ∙ rw f in absurd (h z)
 
-    pub counting-stop : (m q : ℕ) → stringRead f ≡ refused m q → n ≡ countTexts 255 s at
+  end-none : (i : ℕ) {end : ℕ} → end ≡ textEnd s i → end ≡ 0 → (n : ℕ) × (q : ℕ) × (stringAt s i ≡ refused n q)
+  unfolding textEnd
+  end-none i {end} e h = go (stringAt s i) refl
+    where
+      go : (r : Answer (Read Spelled)) → stringAt s i ≡ r → (n : ℕ) × (q : ℕ) × (stringAt s i ≡ refused n q)
+      go (shown v) f = let z : end ≡ v .next = e ∙ rw f in absurd (omega (arith, z, h, string-ends s i f))
+      go (refused n p) f = (n, p, f)
+
+  module _ {at i n end : ℕ} (v : Counting at i n) (e : end ≡ textEnd s i) (h : n < 255) where
+    pub counting-stop : end ≡ 0 → n ≡ countTexts 255 s at
     unfolding countTexts
-    counting-stop m q g = sym (v .same ∙ go (255 - n) (omega arith))
+    counting-stop z = sym (v .same ∙ go (255 - n) (omega arith))
       where
         go : (k : ℕ) → 0 < k → n + countTexts k s i ≡ n
         go zero l = absurd (omega arith)
-        go (suc k) l = let r = sym e ∙ g in rw r (omega arith)
+        go (suc k) l = let r = end-none i e z .2 in rw r (omega arith)
 
-    module _ {p : Spelled} {c : Cursor} (g : f ≡ string.Text p c) {q b : ℕ} (w : q ≡ spaceAt s (c .at)) (y : b ≡ getD s q 0) where
+    module _ (f : end ≡ 0 → ⊥) {q b : ℕ} (w : q ≡ spaceAt s end) (y : b ≡ getD s q 0) where
+      counted : (k : ℕ) → 255 - n ≡ suc k → countTexts 255 s at ≡ n + suc (pick (eqb (getD s (spaceAt s end) 0) 0x2C) (countTexts k s (nextAt s end)) 0)
+      unfolding countTexts
+      counted k d = let r = end-shown i e f .1 in v .same ∙ rw (d, r)
+
       pub counting-last : (b ≡ 0x2C → ⊥) → n + 1 ≡ countTexts 255 s at
       counting-last z =
           let d : 255 - n ≡ suc (255 - n - 1) = omega arith in
-          sym (counted (255 - n - 1) d p c g ∙ rw (← w, ne-eqb (getD s q 0) 0x2C (λ u. z (y ∙ u))))
+          sym (counted (255 - n - 1) d ∙ rw (← w, ne-eqb (getD s q 0) 0x2C (λ u. z (y ∙ u))))
 
       pub counting-again : {j : ℕ} → b ≡ 0x2C → j ≡ behindAt s q → Counting at j (n + 1)
       unfolding nextAt
       counting-again {j} z t =
           let d : 255 - n ≡ suc (255 - (n + 1)) = omega arith in
-          let k : countTexts 255 s at ≡ n + suc (countTexts (255 - (n + 1)) s j) = counted (255 - (n + 1)) d p c g ∙ rw (← w, eq-eqb (getD s q 0) 0x2C (sym y ∙ z), ← t) in
+          let k : countTexts 255 s at ≡ n + suc (countTexts (255 - (n + 1)) s j) = counted (255 - (n + 1)) d ∙ rw (← w, eq-eqb (getD s q 0) 0x2C (sym y ∙ z), ← t) in
           record { same = k ∙ omega arith; few = omega arith }
 
   pub counting-all : {at i n : ℕ} → Counting at i n → 255 ≤ n → n ≡ countTexts 255 s at

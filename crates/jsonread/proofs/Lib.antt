@@ -6,3 +6,4 @@ pub mod Naming
 pub mod Known
 pub mod Members
 pub mod Whole
+pub mod Plain

@@ -15,29 +15,25 @@ use Rattle.scan.proofs.Many.{then-shown}
 use Rattle.event.specs.declared.Refusal.{Refusal}
 use Rattle.event.specs.Answers.{told}
 use Rattle.event.specs.Event.{Event, Text}
-use Rattle.jsontext.specs.declared.Spelled.{Spelled}
-use Rattle.jsontext.specs.declared.Cursor as text
-use Rattle.jsontext.specs.declared.StringRead.{StringRead}
-use Rattle.jsontext.specs.declared.StringRead.the-variants as string
-use Rattle.jsontext.specs.Answers.{stringRead}
 use Rattle.jsontext.specs.Token.{spaceAt}
-use Rattle.jsontext.specs.Text.{stringAt}
 use Rattle.jsontext.proofs.Fits.{byte-positive}
 use Rattle.jsontext.proofs.Walk.{space-onward, space-inside}
-use Rattle.json.specs.Field.{Value, textOf, textAt, fieldOf, fieldAt}
+use Rattle.json.specs.Field.{Value, under, textAt, fieldOf, fieldAt}
 use Rattle.json.specs.Object.{noFields, isMissing, field, noneMissing, eventOf, colonAt, memberAt, closeAt, afterMember, membersAt, insideAt, objectAt}
 use Rattle.json.proofs.FieldSound.{field-says}
 use Rattle.jsonread.specs.declared.Cursor.{Cursor}
 use Rattle.jsonread.specs.declared.Spot.{Spot}
 use Rattle.jsonread.specs.declared.Fields.{Fields}
+use Rattle.jsonread.specs.declared.LenRead.{LenRead}
+use Rattle.jsonread.specs.declared.LenRead.the-variants as len-by
 use Rattle.jsonread.specs.declared.SpotRead.{SpotRead}
 use Rattle.jsonread.specs.declared.SpotRead.the-variants as spot-by
 use Rattle.jsonread.specs.declared.FieldsRead.{FieldsRead}
 use Rattle.jsonread.specs.declared.FieldsRead.the-variants as fields-by
 use Rattle.jsonread.specs.Found.{saysAs, fieldsOf, spotOf, withSpot, noneFound, allFound, Weighs, SpotGood, found, Good, FieldsGood, good, Packs, ObjectGood, packs}
-use Rattle.jsonread.specs.Answers.{spotRead, fieldsRead, objectRead}
+use Rattle.jsonread.specs.Answers.{lenRead, spotRead, fieldsRead, objectRead}
 use Rattle.jsonread.proofs.Strings.{string-ends, text-string}
-use Rattle.jsonread.proofs.Items.{never-shown}
+use Rattle.jsonread.proofs.Items.{never-shown, under-read, under-refused}
 use Rattle.jsonread.proofs.Naming.{number-most}
 use Rattle.jsonread.proofs.Known.{field-missing, none-said, fields-with, none-good, good-with, all-there, packs-all}
 
@@ -77,28 +73,30 @@ module _ (s : List ℕ) (f : Fields) (k p : ℕ) {b first : ℕ} (e : b ≡ getD
 
 -- ---- a member
 
-module _ (s : List ℕ) (f : Fields) (at : ℕ) (r : StringRead) (e : stringRead r ≡ stringAt s at) where
-  pub member-refused : {why : Refusal} → r ≡ string.Refused why → told why ≡ memberAt (fieldsOf s f) s at
-  unfolding memberAt textAt
-  member-refused z = let u = sym e ∙ ap stringRead z in rw u
+module _ (s : List ℕ) (f : Fields) (at : ℕ) (r : LenRead) (e : lenRead r ≡ under fieldOf (textAt s at)) where
+  pub member-refused : {why : Refusal} → r ≡ len-by.Refused why → told why ≡ memberAt (fieldsOf s f) s at
+  unfolding memberAt
+  member-refused z = let u = under-refused fieldOf (textAt s at) (sym (ap lenRead z) ∙ e) in rw u
 
-  module _ {x : Spelled} {c : text.Cursor} (z : r ≡ string.Text x c) {k : ℕ} (n : k ≡ fieldOf (textOf s x)) {p : Spot} (q : p ≡ spotOf f k) where
+  module _ {k : ℕ} {c : Cursor} (z : r ≡ len-by.Len k c) where
+    name-read : (t : Text) × (textAt s at ≡ read t (c .at)) × (fieldOf t ≡ k)
+    name-read = under-read fieldOf (textAt s at) (sym (ap lenRead z) ∙ e)
+
     pub number-small : k ≤ 7
-    number-small = omega (arith, n, number-most (textOf s x))
+    number-small = omega (arith, name-read .2, number-most (name-read .0))
 
-    member-open : memberAt (fieldsOf s f) s at
-        ≡ pick (eqb (p .from) 0) (colonAt k (fieldsOf s f) s (spaceAt s (c .at))) (refused 16 at)
-    unfolding memberAt textAt
-    member-open =
-        let u = sym e ∙ ap stringRead z in
-        let m : isMissing (field (fieldsOf s f) k) ≡ eqb (p .from) 0 = field-missing s f k number-small ∙ ap (λ (y : Spot). eqb (y .from) 0) (sym q) in
-        rw (u, ← n, m)
+    module _ {p : Spot} (q : p ≡ spotOf f k) where
+      member-open : memberAt (fieldsOf s f) s at ≡ pick (eqb (p .from) 0) (colonAt k (fieldsOf s f) s (spaceAt s (c .at))) (refused 16 at)
+      unfolding memberAt
+      member-open =
+          let m : isMissing (field (fieldsOf s f) k) ≡ eqb (p .from) 0 = field-missing s f k number-small ∙ ap (λ (y : Spot). eqb (y .from) 0) (sym q) in
+          rw (name-read .1, name-read .2, m)
 
-    pub member-twice : (p .from ≡ 0 → ⊥) → refused 16 at ≡ memberAt (fieldsOf s f) s at
-    member-twice w = sym (member-open ∙ rw (ne-eqb (p .from) 0 w))
+      pub member-twice : (p .from ≡ 0 → ⊥) → refused 16 at ≡ memberAt (fieldsOf s f) s at
+      member-twice w = sym (member-open ∙ rw (ne-eqb (p .from) 0 w))
 
-    pub member-on : p .from ≡ 0 → {i : ℕ} → i ≡ spaceAt s (c .at) → colonAt k (fieldsOf s f) s i ≡ memberAt (fieldsOf s f) s at
-    member-on w {i} y = ap (colonAt k (fieldsOf s f) s) y ∙ sym (member-open ∙ rw (eq-eqb (p .from) 0 w))
+      pub member-on : p .from ≡ 0 → {i : ℕ} → i ≡ spaceAt s (c .at) → colonAt k (fieldsOf s f) s i ≡ memberAt (fieldsOf s f) s at
+      member-on w {i} y = ap (colonAt k (fieldsOf s f) s) y ∙ sym (member-open ∙ rw (eq-eqb (p .from) 0 w))
 
 -- ---- a member goes on
 

@@ -9,7 +9,10 @@ use native.Mathlib.Decide.{decLt}
 use mathlib.Core.Logic.{dite}
 use lib.ListN.{length}
 use Rattle.scan.specs.Choice.{pick}
+use Rattle.scan.specs.Place.{standsAt}
 use Rattle.scan.proofs.Step.{pick-by, false-true}
+use Rattle.scan.proofs.SpanLaws.{whole-span, input-span}
+use Rattle.scan.proofs.PlaceLaws.{span-stands, stands-span}
 use Rattle.event.specs.Event.{Text, sameText}
 use Rattle.event.proofs.Laws.{same-text, text-same}
 use Rattle.json.specs.Meaning.{names}
@@ -45,3 +48,15 @@ no-name t a b c d e f g =
     dite (decLt (fieldOf t) 7)
     (λ h. absurd (by-seven (λ (k : ℕ). name k ≡ t → ⊥) a b c d e f g (fieldOf t) h (number-name t h)))
     (λ h. omega (arith, h, number-most t))
+
+-- ---- a name that is its own text
+
+pub stands-name : (k m : ℕ) (t : Text) {b : Bool} → k < 7 → length (name k) ≡ m → length t ≡ m → b ≡ standsAt (name k) t 0 → b ≡ true → k ≡ fieldOf t
+stands-name k m t h l n e f =
+    let r = stands-span (name k) t 0 (sym e ∙ f) in
+    let z : 0 + length (name k) ≡ length t = omega (arith, l, n) in
+    let same : t ≡ name k = whole-span (rw z at r) in
+    sym (ap fieldOf same ∙ name-number k h)
+
+pub stands-not : (k : ℕ) (t : Text) {b : Bool} → b ≡ standsAt (name k) t 0 → b ≡ false → name k ≡ t → ⊥
+stands-not k t e f g = false-true (sym (sym e ∙ f) ∙ ap (λ (n : Text). standsAt n t 0) g ∙ span-stands (input-span t))

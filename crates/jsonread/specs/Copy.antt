@@ -25,6 +25,10 @@ behindAt s at = pick (ltb at (length s)) (spaceAt s (at + 1)) at
 unfoldable pub nextAt : List ℕ → ℕ → ℕ
 nextAt s at = behindAt s (spaceAt s at)
 
+-- behind the text at a place; 0 where none is read
+unfoldable pub textEnd : List ℕ → ℕ → ℕ
+textEnd s at = orElse 0 (stringAt s at) λ r. r .next
+
 -- how many texts stand from a place on, up to a limit: each but the last has a comma behind it
 unfoldable pub countTexts : ℕ → List ℕ → ℕ → ℕ
 countTexts zero s at = 0

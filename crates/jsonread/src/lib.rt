@@ -4,24 +4,27 @@ use event::Refusal;
 use jsontext::Skip;
 use jsontext::Spelled;
 use jsontext::StringRead;
-ghost use Prim.Native.Nat.{_+_, _*_, _^_, _≤_, _<_};
+ghost use Prim.Native.Nat.{min, _+_, _*_, _^_, _≤_, _<_};
 ghost use mathlib.Core.Path.{_≡_};
 ghost use mathlib.Core.List.{[]};
 ghost use lib.ListN.{length};
+ghost use lib.Dec.{eqb};
 ghost use Rattle.store.specs.Store.{Wrote};
 ghost use Rattle.store.specs.Entry.{writes, leaves};
 ghost use Rattle.hex.specs.Hex.{unhex};
 ghost use Rattle.notepack.specs.Strict.{packElement, pack};
+ghost use Rattle.jsontext.specs.Block.{specialOf, PlainTo};
 ghost use Rattle.jsontext.specs.Token.{spaceAt};
+ghost use Rattle.jsontext.specs.Text.{stringAt};
 ghost use Rattle.jsontext.specs.Value.{valueAt};
 ghost use Rattle.json.specs.Field.{missing, bytes, number, tags, text, under, textOf, textAt, isHexOf, hexAt, wholeOf, insideAt, tagAt, tagsAt, fieldOf, fieldAt};
 ghost use Rattle.json.specs.Field.{wholeAt};
 ghost use Rattle.json.specs.Object.{noFields, colonAt, memberAt, membersAt, objectAt, readJson};
 ghost use Rattle.json.specs.Object as object;
 ghost use Rattle.jsonread.specs.Size.{elementSize, tagSize, sized};
-ghost use Rattle.jsonread.specs.Copy.{behindAt, countTexts, textsText, textsEnd, tagsText, partOf, fieldsText, measured};
-ghost use Rattle.jsonread.specs.Found.{fieldsOf, noSpot, spotOf, withSpot, noneFound, allFound, SpotGood, Good, FieldsGood, ObjectGood};
-ghost use Rattle.jsonread.specs.Answers.{lenRead, sizedRead, spotRead, fieldsRead, objectRead, wholeRead, jsonRead};
+ghost use Rattle.jsonread.specs.Copy.{behindAt, textEnd, countTexts, textsText, textsEnd, tagsText, partOf, fieldsText, measured};
+ghost use Rattle.jsonread.specs.Found.{PlainText, fieldsOf, noSpot, spotOf, withSpot, noneFound, allFound, SpotGood, Good, FieldsGood, ObjectGood};
+ghost use Rattle.jsonread.specs.Answers.{textRead, lenRead, sizedRead, spotRead, fieldsRead, objectRead, wholeRead, jsonRead};
 
 // A place in the input. A cursor past the end reads as the end.
 pub struct Cursor {
@@ -73,7 +76,14 @@ pub enum FieldsRead {
     Refused(Refusal),
 }
 
-// The length of an item in the strict form with the cursor behind it, or the refusal.
+// A string of plain ASCII, which is its own text; any other string; or the refusal.
+enum TextRead {
+    Plain(Spelled, Cursor),
+    Other(Spelled, Cursor),
+    Refused(Refusal),
+}
+
+// The length of an item in the strict form, or a number, with the cursor behind it; or the refusal.
 enum LenRead {
     Len(usize, Cursor),
     Refused(Refusal),
@@ -122,7 +132,91 @@ fn past_space(s: &[u8], at: usize) -> usize
 
 // ---- strings and numbers
 
-// Whether the text of a spelled string is n bytes in lowercase hex.
+// Whether a byte is plain ASCII in a string: no control byte, no quote, no backslash.
+fn is_plain(b: u8) -> bool
+    ensures { λ r. ⌜ r ≡ eqb (specialOf b) 0 ⌝ }
+{
+    if b < 0x20 {
+        return false;
+    }
+    if b == 0x22 {
+        return false;
+    }
+    if b == 0x5C {
+        return false;
+    }
+    b < 0x80
+}
+
+// The end of 80 bytes from a place on, or of the n bytes.
+fn short_end(at: usize, n: usize) -> usize
+    requires { ⌜ at ≤ n ⌝ }
+    ensures { λ r. ⌜ r ≡ min (at + 80) n ⌝ }
+{
+    if n - at <= 80 { n } else { at + 80 }
+}
+
+// Passes plain bytes from a place on, at most 80.
+fn pass_plain(s: &[u8], at: usize) -> usize
+    requires { ⌜ at ≤ length (now s) ⌝ }
+    ensures { λ r. ⌜ PlainTo (now (s .entry)) at r ⌝ }
+{
+    let end = short_end(at, s.len());
+    let mut i = at;
+    while i < end {
+        let b = s[i];
+        if is_plain(b) {
+            i += 1;
+        } else {
+            break;
+        }
+    }
+    i
+}
+
+// The same; 64 hex digits in front of a quote, an id or a key, are passed at once.
+fn plain_end(s: &[u8], at: usize) -> usize
+    requires { ⌜ at ≤ length (now s) ⌝ }
+    ensures { λ r. ⌜ PlainTo (now (s .entry)) at r ⌝ }
+{
+    let e = at + 64;
+    if scan::byte_at(s, e) == 0x22 {
+        if hex::all_digits(scan::part(s, at, 64)) {
+            return e;
+        }
+    }
+    pass_plain(s, at)
+}
+
+impl Cursor {
+    // The string at the cursor. Most are short and plain, which is told at once.
+    fn spelled(self, s: &[u8]) -> TextRead
+        ensures { λ r. ⌜ textRead r ≡ stringAt (now (s .entry)) (self .at) ⌝ }
+        ensures { λ r. ⌜ PlainText (now (s .entry)) r ⌝ }
+    {
+        let at = self.at;
+        if scan::byte_at(s, at) == 0x22 {
+            let from = at + 1;
+            let end = plain_end(s, from);
+            if scan::byte_at(s, end) == 0x22 {
+                return TextRead::Plain(
+                    Spelled {
+                        from,
+                        count: end - from,
+                    },
+                    Cursor { at: end + 1 },
+                );
+            }
+        }
+        let found = jsontext::Cursor { at }.string(s);
+        match found {
+            StringRead::Text(p, next) => TextRead::Other(p, Cursor { at: next.at }),
+            StringRead::Refused(r) => TextRead::Refused(r),
+        }
+    }
+}
+
+// Whether the text of a spelled string is n bytes in lowercase hex. Most are spelled so, with no escape.
 fn is_hex_of(s: &[u8], p: Spelled, n: usize) -> bool
     requires { ⌜ 0 < n ⌝ }
     requires { ⌜ n ≤ 64 ⌝ }
@@ -130,6 +224,12 @@ fn is_hex_of(s: &[u8], p: Spelled, n: usize) -> bool
 {
     let from = p.from;
     let count = p.count;
+    let t = scan::part(s, from, count);
+    if t.len() == 2 * n {
+        if hex::goes_as_bytes(t) {
+            return true;
+        }
+    }
     if jsontext::unescaped_len(s, from, count) == 2 * n {
         return jsontext::unescaped_goes_as_bytes(s, from, count);
     }
@@ -261,11 +361,14 @@ impl Cursor {
     fn element(self, s: &[u8]) -> LenRead
         ensures { λ r. ⌜ lenRead r ≡ under elementSize (textAt (now (s .entry)) (self .at)) ⌝ }
     {
-        let at = self.at;
-        let found = jsontext::Cursor { at }.string(s);
+        let found = self.spelled(s);
         match found {
-            StringRead::Text(p, next) => LenRead::Len(element_len(s, p), Cursor { at: next.at }),
-            StringRead::Refused(r) => LenRead::Refused(r),
+            TextRead::Plain(p, next) => LenRead::Len(
+                notepack::text_len(scan::part(s, p.from, p.count)),
+                next,
+            ),
+            TextRead::Other(p, next) => LenRead::Len(element_len(s, p), next),
+            TextRead::Refused(r) => LenRead::Refused(r),
         }
     }
 
@@ -435,7 +538,69 @@ fn field_of(s: &[u8], p: Spelled) -> usize
     7
 }
 
+// The same of a name that is its own text.
+fn field_spelled(t: &[u8]) -> usize
+    ensures { λ r. ⌜ r ≡ fieldOf (now (t .entry)) ⌝ }
+{
+    let n = t.len();
+    if n == 2 {
+        if scan::stands_at(b"id", t, 0) {
+            return 0;
+        }
+        return 7;
+    }
+    if n == 3 {
+        if scan::stands_at(b"sig", t, 0) {
+            return 2;
+        }
+        return 7;
+    }
+    if n == 4 {
+        if scan::stands_at(b"kind", t, 0) {
+            return 4;
+        }
+        if scan::stands_at(b"tags", t, 0) {
+            return 5;
+        }
+        return 7;
+    }
+    if n == 6 {
+        if scan::stands_at(b"pubkey", t, 0) {
+            return 1;
+        }
+        return 7;
+    }
+    if n == 7 {
+        if scan::stands_at(b"content", t, 0) {
+            return 6;
+        }
+        return 7;
+    }
+    if n == 10 {
+        if scan::stands_at(b"created_at", t, 0) {
+            return 3;
+        }
+        return 7;
+    }
+    7
+}
+
 impl Cursor {
+    // The name at the cursor, as the number of its field.
+    fn name(self, s: &[u8]) -> LenRead
+        ensures { λ r. ⌜ lenRead r ≡ under fieldOf (textAt (now (s .entry)) (self .at)) ⌝ }
+    {
+        let found = self.spelled(s);
+        match found {
+            TextRead::Plain(p, next) => LenRead::Len(
+                field_spelled(scan::part(s, p.from, p.count)),
+                next,
+            ),
+            TextRead::Other(p, next) => LenRead::Len(field_of(s, p), next),
+            TextRead::Refused(r) => LenRead::Refused(r),
+        }
+    }
+
     // A value that is ignored: nothing of it is kept.
     fn ignored(self, s: &[u8]) -> SpotRead
         ensures { λ r. ⌜ spotRead 7 (now (s .entry)) r ≡ under (λ x. missing) (valueAt 16 (now (s .entry)) (self .at)) ⌝ }
@@ -650,10 +815,9 @@ impl Cursor {
         ensures { λ r. ⌜ FieldsGood (now (s .entry)) r ⌝ }
     {
         let at = self.at;
-        let found = jsontext::Cursor { at }.string(s);
+        let found = self.name(s);
         match found {
-            StringRead::Text(p, next) => {
-                let k = field_of(s, p);
+            LenRead::Len(k, next) => {
                 let before = f.spot(k);
                 if before.from != 0 {
                     return no_fields(event::FIELD_TWICE, at);
@@ -661,7 +825,7 @@ impl Cursor {
                 let behind = past_space(s, next.at);
                 Cursor { at: behind }.colon(s, f, k)
             }
-            StringRead::Refused(r) => FieldsRead::Refused(r),
+            LenRead::Refused(r) => FieldsRead::Refused(r),
         }
     }
 
@@ -742,6 +906,18 @@ fn behind(s: &[u8], at: usize) -> usize
     at
 }
 
+// Behind the text at a place; 0 where none is read.
+fn text_end(s: &[u8], at: usize) -> usize
+    ensures { λ r. ⌜ r ≡ textEnd (now (s .entry)) at ⌝ }
+{
+    let found = Cursor { at }.spelled(s);
+    match found {
+        TextRead::Plain(_, next) => next.at,
+        TextRead::Other(_, next) => next.at,
+        TextRead::Refused(_) => 0,
+    }
+}
+
 // How many texts stand from a place on, up to 255: each but the last has a comma behind it.
 fn count_texts(s: &[u8], at: usize) -> u64
     ensures { λ r. ⌜ r ≡ countTexts 255 (now (s .entry)) at ⌝ }
@@ -749,18 +925,16 @@ fn count_texts(s: &[u8], at: usize) -> u64
     let mut i = at;
     let mut count: u64 = 0;
     while count < event::MAX_TEXTS {
-        let found = jsontext::Cursor { at: i }.string(s);
-        match found {
-            StringRead::Text(_, next) => {
-                count += 1;
-                let p = past_space(s, next.at);
-                if scan::byte_at(s, p) != 0x2C {
-                    return count;
-                }
-                i = behind(s, p);
-            }
-            StringRead::Refused(_) => return count,
+        let end = text_end(s, i);
+        if end == 0 {
+            return count;
         }
+        count += 1;
+        let p = past_space(s, end);
+        if scan::byte_at(s, p) != 0x2C {
+            return count;
+        }
+        i = behind(s, p);
     }
     count
 }
@@ -774,14 +948,19 @@ fn put_texts(out: &mut [u8], at: usize, s: &[u8], from: usize, count: u64) -> Co
     let mut i = from;
     let mut left = count;
     while 0 < left {
-        let found = jsontext::Cursor { at: i }.string(s);
+        let found = Cursor { at: i }.spelled(s);
         match found {
-            StringRead::Text(p, next) => {
+            TextRead::Plain(p, next) => {
+                o = strict::put_text(out, o, scan::part(s, p.from, p.count));
+                i = behind(s, past_space(s, next.at));
+                left -= 1;
+            }
+            TextRead::Other(p, next) => {
                 o = put_element(out, o, s, p);
                 i = behind(s, past_space(s, next.at));
                 left -= 1;
             }
-            StringRead::Refused(_) => return Copied { out: o, next: i },
+            TextRead::Refused(_) => return Copied { out: o, next: i },
         }
     }
     Copied { out: o, next: i }

@@ -1,10 +1,8 @@
 -- `count_texts` counts the texts of a tag. The invariant: those counted and those from here on are all.
 -- Each turn is one law.
 use Prim.Native.Nat.{_-_}
-use mathlib.Core.Path.{_≡_, sym, ap, _∙_}
 use native.Mathlib.Omega.{arith}
 use borrow.Author.Needs.{needs}
-use Rattle.jsontext.specs.Answers.{stringRead}
 use Rattle.jsonread.proofs.Copying.{Counting, counting-start, counting-stop, counting-last, counting-again, counting-all}
 use Rattle.jsonread.proofs.count_texts.Statement.{statement}
 use Rattle.jsonread.proofs.count_texts.Tie as tie
@@ -15,19 +13,15 @@ Inv-loop s at i₀ count₀ i count = Counting s i₀ i count
 abbrev μ-loop : tie.MeasureT-loop
 μ-loop s at i₀ count₀ i count = 255 - count
 
-last : tie.Need-returns Inv-loop μ-loop
+last : tie.Need-returns-2 Inv-loop μ-loop
 last c =
-    counting-last (c .before .before .before .before .before .before .before .before .before .before .args .s .now) (c .before .before .before .before .before .before .before .before .loop .inv) _ (c .before .before .before .before .before .before .string .ensures) (c .before .before .before .before .before .before .before .loop-test .taken) (c .before .before .before .before .found .given .1) (c .before .before .past-space .ensures)
-    (c .before .byte-at .ensures) (c .if1 .taken)
+    counting-last (c .before .before .before .before .before .before .before .before .args .s .now) (c .before .before .before .before .before .before .loop .inv) (c .before .before .before .before .text-end .ensures) (c .before .before .before .before .before .loop-test .taken) (c .before .before .before .if1 .left) (c .before .before .past-space .ensures)
+    (c .before .byte-at .ensures) (c .if2 .taken)
 
 again : tie.Need-loop-again Inv-loop μ-loop
 again c =
-    counting-again (c .before .before .before .before .before .before .before .before .before .before .before .args .s .now) (c .before .before .before .before .before .before .before .before .before .loop .inv) _ (c .before .before .before .before .before .before .before .string .ensures) (c .before .before .before .before .before .before .before .before .loop-test .taken) (c .before .before .before .before .before .found .given .1) (c .before .before .before .past-space .ensures)
-    (c .before .before .byte-at .ensures) (c .before .if1 .left) (c .behind .ensures)
-
-stop : tie.Need-returns-2 Inv-loop μ-loop
-stop c =
-    counting-stop (c .before .before .before .before .before .before .args .s .now) (c .before .before .before .before .loop .inv) (c .before .before .string .result) (c .before .before .string .ensures) (c .before .before .before .loop-test .taken) _ _ (ap stringRead (c .enum-told .given .1))
+    counting-again (c .before .before .before .before .before .before .before .before .before .args .s .now) (c .before .before .before .before .before .before .before .loop .inv) (c .before .before .before .before .before .text-end .ensures) (c .before .before .before .before .before .before .loop-test .taken) (c .before .before .before .before .if1 .left) (c .before .before .before .past-space .ensures)
+    (c .before .before .byte-at .ensures) (c .before .if2 .left) (c .behind .ensures)
 
 pub count-texts-spec : {M : Type 1} → statement M
 count-texts-spec =
@@ -37,7 +31,7 @@ count-texts-spec =
     μ-loop
     (λ c. counting-start (c .before .args .s .now) _)
     (λ c κs. search needs)
-    (λ c. search needs)
+    (λ c. counting-stop (c .before .before .before .before .before .args .s .now) (c .before .before .before .loop .inv) (c .before .text-end .ensures) (c .before .before .loop-test .taken) (c .if1 .taken))
     (λ c. search needs)
     (λ c κs. search needs)
     (λ c κs. search needs)
@@ -45,6 +39,4 @@ count-texts-spec =
     (λ c κs. search needs)
     (λ c. omega arith)
     again
-    (λ c. search needs)
-    stop
     (λ c. counting-all (c .before .before .before .args .s .now) (c .before .loop .inv) (c .loop-test .left)))

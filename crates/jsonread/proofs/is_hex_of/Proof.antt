@@ -1,7 +1,10 @@
--- `is_hex_of` asks for the length first, and then for digits.
--- A text of that length, which is not 0, goes as bytes exactly where it is all digits.
+-- `is_hex_of` asks whether the string is spelled as digits; else for the length of its text, and then for digits.
+-- Digits are their own text; a text of that length, which is not 0, goes as bytes exactly where it is all digits.
+use mathlib.Core.Path.{_≡_, sym, ap, _∙_}
+use lib.ListN.{length}
 use borrow.Author.Needs.{needs}
 use Rattle.jsonread.proofs.Weights.{hex-so, hex-not}
+use Rattle.jsonread.proofs.Plain.{hex-spelled}
 use Rattle.jsonread.proofs.is_hex_of.Statement.{statement}
 use Rattle.jsonread.proofs.is_hex_of.Tie as tie
 
@@ -12,5 +15,9 @@ is-hex-of-spec =
     (λ c κs. search needs)
     (λ c. search needs)
     (λ c κs. search needs)
-    (λ c. hex-so _ _ (c .before .before .before .before .pre .0) (c .before .before .unescaped-len .ensures .0) (c .before .if1 .taken) (c .unescaped-goes-as-bytes .ensures))
-    (λ c. hex-not _ _ (c .before .unescaped-len .ensures .0) (c .if1 .left)))
+    (λ c. hex-spelled _ _ (c .before .before .before .part .ensures) (c .before .before .if1 .taken) (c .before .goes-as-bytes .ensures) (c .if2 .taken))
+    (λ c κs. search needs)
+    (λ c. search needs)
+    (λ c κs. search needs)
+    (λ c. hex-so _ _ (c .before .before .before .before .before .before .pre .0) (c .before .before .unescaped-len .ensures .0) (c .before .if3 .taken) (c .unescaped-goes-as-bytes .ensures))
+    (λ c. hex-not _ _ (c .before .unescaped-len .ensures .0) (c .if3 .left)))

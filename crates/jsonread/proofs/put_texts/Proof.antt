@@ -1,12 +1,13 @@
 -- `put_texts` writes the texts of a tag as it reads them again. The invariant: what is left to write is the text of those left, and they end where all end.
--- Each turn is one law; a refusal ends both alike.
+-- Each turn is one law, for a plain string and for any other; a refusal ends both alike.
 use Prim.Native.Nat.{_-_}
 use mathlib.Core.Path.{_≡_, refl, sym, ap, _∙_}
 use native.Mathlib.Omega.{arith}
 use borrow.Author.Needs.{needs}
 use Rattle.store.proofs.Laws.{Left, start, part, done, also, same}
-use Rattle.jsontext.specs.Answers.{stringRead}
 use Rattle.jsonread.specs.Copy.{nextAt, textsText, textsEnd}
+use Rattle.jsonread.specs.Answers.{textRead}
+use Rattle.jsonread.proofs.Plain.{plain-own, same-wrote}
 use Rattle.jsonread.proofs.Copying.{texts-turn, texts-stop, texts-left, next-place}
 use Rattle.jsonread.proofs.put_texts.Statement.{statement}
 use Rattle.jsonread.proofs.put_texts.Tie as tie
@@ -18,19 +19,29 @@ Inv-loop out₀ at s from count o₀ i₀ left₀ out o i left =
 abbrev μ-loop : tie.MeasureT-loop
 μ-loop out₀ at s from count o₀ i₀ left₀ out o i left = left
 
-again : tie.Need-loop-again Inv-loop μ-loop
+plain-again : tie.Need-loop-again Inv-loop μ-loop
+plain-again c =
+    let q = c .before .before .before .before .before .before .before .before .before .before .before .before .loop in
+    let s = c .before .before .before .before .before .before .before .before .before .before .before .before .before .before .before .args .s .now in
+    let k = c .before .before .before .before .before .before .before .before .found .given .1 in
+    let t = texts-turn s (q .left) (q .i) (c .before .before .before .before .before .before .before .before .before .before .before .loop-test .taken) (sym (c .before .before .before .before .before .before .before .before .before .before .spelled .ensures .0) ∙ ap textRead k) in
+    let n = next-place s _ (c .before .past-space .ensures) (c .behind .ensures) in
+    (also (ap (textsText (q .left - 1) s) n) (part (also (t .0) (q .inv .0)) (same-wrote (c .before .before .before .before .put-text .ensures) (c .before .before .before .before .before .part .ensures) (plain-own (c .before .before .before .before .before .before .before .before .before .before .spelled .ensures .1) k))), q .inv .1 ∙ t .1 ∙ ap (textsEnd (q .left - 1) s) n)
+
+again : tie.Need-loop-again-2 Inv-loop μ-loop
 again c =
     let q = c .before .before .before .before .before .before .before .before .before .before .before .loop in
     let s = c .before .before .before .before .before .before .before .before .before .before .before .before .before .before .args .s .now in
-    let t = texts-turn s (q .left) (q .i) _ _ _ (c .before .before .before .before .before .before .before .before .before .before .loop-test .taken) (c .before .before .before .before .before .before .before .before .before .string .ensures) (c .before .before .before .before .before .before .before .found .given .1) in
-    let n = next-place s _ (c .before .past-space .ensures) (c .behind .ensures) in
+    let k = c .before .before .before .before .before .before .before .found2 .given .1 in
+    let t = texts-turn s (q .left) (q .i) (c .before .before .before .before .before .before .before .before .before .before .loop-test .taken) (sym (c .before .before .before .before .before .before .before .before .before .spelled .ensures .0) ∙ ap textRead k) in
+    let n = next-place s _ (c .before .past-space2 .ensures) (c .behind2 .ensures) in
     (also (ap (textsText (q .left - 1) s) n) (part (also (t .0) (q .inv .0)) (c .before .before .before .before .put-element .ensures)), q .inv .1 ∙ t .1 ∙ ap (textsEnd (q .left - 1) s) n)
 
 stop : tie.Need-returns Inv-loop μ-loop
 stop c =
     let q = c .before .before .before .before .loop in
     let s = c .before .before .before .before .before .before .before .args .s .now in
-    let t = texts-stop s (q .left) (q .i) (c .before .before .string .result) _ _ (c .before .before .before .loop-test .taken) (c .before .before .string .ensures) (ap stringRead (c .enum-told .given .1)) in
+    let t = texts-stop s (q .left) (q .i) (c .before .before .before .loop-test .taken) (sym (c .before .before .spelled .ensures .0) ∙ ap textRead (c .enum-told .given .1)) in
     (done (also (t .0) (q .inv .0)), sym (q .inv .1 ∙ t .1))
 
 end : tie.Need-returns-2 Inv-loop μ-loop
@@ -47,6 +58,14 @@ put-texts-spec =
     μ-loop
     (λ c. (start, refl))
     (λ c κs. search needs)
+    (λ c. search needs)
+    (λ c κs. search needs)
+    (λ c κs. search needs)
+    (λ c κs. search needs)
+    (λ c κs. search needs)
+    (λ c. search needs)
+    (λ c. search needs)
+    plain-again
     (λ c. search needs)
     (λ c κs. search needs)
     (λ c κs. search needs)
