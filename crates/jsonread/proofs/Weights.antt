@@ -52,10 +52,10 @@ use Rattle.jsonread.specs.declared.SizedRead.the-variants as sized-by
 use Rattle.jsonread.specs.declared.SpotRead.{SpotRead}
 use Rattle.jsonread.specs.declared.SpotRead.the-variants as spot-by
 use Rattle.jsonread.specs.Size.{elementSize, tagSize, total, sized, packValue}
-use Rattle.jsonread.specs.Copy.{partOf, spotText, tagsText}
+use Rattle.jsonread.specs.Copy.{partOf, contentText, spotText, tagsText}
 use Rattle.jsonread.specs.Found.{tagsFrom, saysAs, Weighs, SpotGood, found, refused}
 use Rattle.jsonread.specs.Answers.{sizedRead, spotRead}
-use Rattle.jsonread.proofs.Strings.{part-most, text-bound, string-ends}
+use Rattle.jsonread.proofs.Strings.{part-most, text-bound, string-ends, string-same}
 use Rattle.jsonread.proofs.Items.{never-shown, Took, items-took, Bound, took-bound, under-read, under-refused, inside-by}
 use Rattle.jsonread.proofs.Copying.{tag-took, tags-left, tags-written}
 
@@ -83,14 +83,20 @@ hex-weighs s n p h m g =
 
 -- ---- a string
 
-pub text-weighs : (s : List ℕ) (p : Spelled) {n k : ℕ} → 0 < p .from → n ≡ length (textOf s p) → k ≡ length (uleb n) → k ≤ 10
-    → Weighs s 6 (record { from = p .from; count = p .count; number = n; len = k + n })
+content-own : (s : List ℕ) (p : Spot) → (p .number ≡ p .count → textOf s (partOf p) ≡ take (p .count) (drop (p .from) s)) → contentText s p ≡ textOf s (partOf p)
+unfolding contentText
+content-own s p h =
+    pick-by (λ (l : List ℕ). l ≡ textOf s (partOf p)) (eqb (p .number) (p .count)) (λ t. sym (h (eqb-true (p .number) (p .count) t))) (λ t. refl)
+
+pub text-weighs : (s : List ℕ) (p : Spelled) {n k : ℕ} → 0 < p .from → (length (textOf s p) ≡ p .count → textOf s p ≡ take (p .count) (drop (p .from) s))
+    → n ≡ length (textOf s p) → k ≡ length (uleb n) → k ≤ 10 → Weighs s 6 (record { from = p .from; count = p .count; number = n; len = k + n })
 unfolding spotText saysAs
-text-weighs s p {n} {k} h e f m =
+text-weighs s p {n} {k} h own e f m =
     let t = textOf s p in
+    let c = content-own s (record { from = p .from; count = p .count; number = n; len = k + n }) (λ z. own (sym e ∙ z)) in
     record {
       there = h;
-      writes = rw e;
+      writes = rw c (ap (λ (j : ℕ). uleb j ++ t) e);
       len = rw (length-append (uleb (length t)) t, ← e) (ap (λ (j : ℕ). j + n) f);
       most = omega (arith, m, part-most s (p .from) (p .count) e);
     }
@@ -296,7 +302,7 @@ module _ (s : List ℕ) (at : ℕ) {f : StringRead} (e : stringRead f ≡ string
 
     pub text-found : {n m : ℕ} → n ≡ length (textOf s x) → m ≡ length (uleb n) → m ≤ 10
         → Weighs s 6 (record { from = x .from; count = x .count; number = n; len = m + n })
-    text-found h i j = text-weighs s x from-there h i j
+    text-found h i j = text-weighs s x from-there (string-same s at was-read) h i j
 
     pub hex-taken : (n : ℕ) {b : Bool} → b ≡ isHexOf n (textOf s x) → b ≡ true → read (bytes (unhex (textOf s x))) (c .at) ≡ under bytes (hexAt n s at)
     unfolding hexAt textAt

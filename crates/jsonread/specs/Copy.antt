@@ -1,7 +1,7 @@
 -- What the second pass writes from the places that the first pass found. Total: a refusal ends it. Assumes nothing.
 use Prim.Native.Nat.{ℕ, zero, suc, _+_}
 use mathlib.Core.List.{List, [], _∷_, _++_}
-use lib.ListN.{length}
+use lib.ListN.{length, take, drop}
 use lib.Dec.{ltb, eqb}
 use Rattle.scan.specs.Choice.{pick, Read}
 use Rattle.scan.specs.Place.{byteAt}
@@ -58,6 +58,10 @@ tagsText (suc n) s at =
 abbrev pub partOf : Spot → Spelled
 partOf p = record { from = p .from; count = p .count }
 
+-- the content: where it is as long as it is spelled, its bytes as they are
+unfoldable pub contentText : List ℕ → Spot → List ℕ
+contentText s p = pick (eqb (p .number) (p .count)) (take (p .count) (drop (p .from) s)) (textOf s (partOf p))
+
 -- a field by its number
 unfoldable pub spotText : ℕ → List ℕ → Spot → List ℕ
 spotText k s p =
@@ -67,7 +71,7 @@ spotText k s p =
     (pick (eqb k 3) (uleb (p .number))
     (pick (eqb k 4) (uleb (p .number))
     (pick (eqb k 5) (uleb (p .number) ++ tagsText (p .number) s (p .from))
-    (pick (eqb k 6) (uleb (p .number) ++ textOf s (partOf p)) []))))))
+    (pick (eqb k 6) (uleb (p .number) ++ contentText s p) []))))))
 
 -- the seven fields, in the order of the strict form
 unfoldable pub fieldsText : List ℕ → Fields → List ℕ

@@ -22,7 +22,7 @@ ghost use Rattle.json.specs.Field.{wholeAt};
 ghost use Rattle.json.specs.Object.{noFields, colonAt, memberAt, membersAt, objectAt, readJson};
 ghost use Rattle.json.specs.Object as object;
 ghost use Rattle.jsonread.specs.Size.{elementSize, tagSize, sized};
-ghost use Rattle.jsonread.specs.Copy.{behindAt, textEnd, countTexts, textsText, textsEnd, tagsText, partOf, fieldsText, measured};
+ghost use Rattle.jsonread.specs.Copy.{behindAt, textEnd, countTexts, textsText, textsEnd, tagsText, partOf, contentText, fieldsText, measured};
 ghost use Rattle.jsonread.specs.Found.{PlainText, fieldsOf, noSpot, spotOf, withSpot, noneFound, allFound, SpotGood, Good, FieldsGood, ObjectGood};
 ghost use Rattle.jsonread.specs.Answers.{textRead, lenRead, sizedRead, spotRead, fieldsRead, objectRead, wholeRead, jsonRead};
 
@@ -992,6 +992,16 @@ fn put_bytes(out: &mut [u8], at: usize, s: &[u8], p: Spot) -> usize
     jsontext::put_unescaped_unhex(out, at, s, p.from, p.count)
 }
 
+// The text of a spelled string. As long as it is spelled, it is its own text.
+fn put_content(out: &mut [u8], at: usize, s: &[u8], p: Spot) -> usize
+    ensures { λ r. ⌜ Wrote (now (out .entry)) at (contentText (now (s .entry)) p) (now (out .exit)) r ⌝ }
+{
+    if p.number == p.count as u64 {
+        return store::put_part(out, at, s, p.from, p.count);
+    }
+    jsontext::put_unescaped(out, at, s, p.from, p.count)
+}
+
 // The strict form of the event that the fields say.
 pub fn put_event(out: &mut [u8], at: usize, s: &[u8], f: Fields) -> usize
     ensures { λ r. ⌜ Wrote (now (out .entry)) at (fieldsText (now (s .entry)) f) (now (out .exit)) r ⌝ }
@@ -1004,7 +1014,7 @@ pub fn put_event(out: &mut [u8], at: usize, s: &[u8], f: Fields) -> usize
     let d = varint::put_varint(out, c, f.created_at.number);
     let e = varint::put_varint(out, d, f.kind.number);
     let g = varint::put_varint(out, e, content.number);
-    let h = jsontext::put_unescaped(out, g, s, content.from, content.count);
+    let h = put_content(out, g, s, content);
     let i = varint::put_varint(out, h, tags.number);
     put_tags(out, i, s, tags.from, tags.number)
 }

@@ -10,7 +10,7 @@ returns : tie.Need-returns
 unfolding fieldsText spotText
 returns c =
     let tags = then (c .before .before .before .before .before .before .put-varint4 .ensures) (c .before .before .put-tags .ensures) in
-    let content = then (c .before .before .before .before .before .before .before .before .before .before .before .before .before .before .put-varint3 .ensures) (c .before .before .before .before .before .before .before .before .before .before .put-unescaped .ensures) in
+    let content = then (c .before .before .before .before .before .before .before .before .before .before .before .before .before .before .put-varint3 .ensures) (c .before .before .before .before .before .before .before .before .before .before .put-content .ensures) in
     let ids = then (then (c .before .before .before .before .before .before .before .before .before .before .before .before .before .before .before .before .before .before .before .before .before .before .before .before .before .before .before .before .before .before .before .before .before .before .put-bytes .ensures) (c .before .before .before .before .before .before .before .before .before .before .before .before .before .before .before .before .before .before .before .before .before .before .before .before .before .before .before .before .before .before .put-bytes2 .ensures)) (c .before .before .before .before .before .before .before .before .before .before .before .before .before .before .before .before .before .before .before .before .before .before .before .before .before .before .put-bytes3 .ensures) in
     then (then (then (then ids (c .before .before .before .before .before .before .before .before .before .before .before .before .before .before .before .before .before .before .before .before .before .before .put-varint .ensures)) (c .before .before .before .before .before .before .before .before .before .before .before .before .before .before .before .before .before .before .put-varint2 .ensures)) content) tags
 
