@@ -1,22 +1,21 @@
 -- What the second pass writes of texts and tags, turn by turn; and that it is their strict form where the first pass read them.
 -- Along the items as they were taken apart; the byte behind each is there, so that the second pass comes to the same places.
-use Prim.Native.Nat.{ℕ, zero, suc, _+_, _*_, _-_, _≤_, _<_, _^_}
+use Prim.Native.Nat.{ℕ, zero, suc, _+_, _-_, _≤_, _<_}
 use mathlib.Core.Path.{_≡_, refl, sym, ap, _∙_}
 use mathlib.Core.Bool.{Bool, true, false}
 use mathlib.Core.List.{List, [], _∷_, _++_, append-assoc}
 use native.Mathlib.Omega.{arith}
 use native.Mathlib.Numerals.{sub-one}
 use lib.ListN.{length, getD}
-use lib.Dec.{eqb, ltb}
+use lib.Dec.{eqb}
 use borrow.Author.Tests.{eq-eqb, ne-eqb, eqb-true, eqb-false, lt-ltb}
-use Rattle.scan.specs.Choice.{pick, Answer, shown, refused, Read, read, andThen}
+use Rattle.scan.specs.Choice.{pick, Answer, shown, refused, Read, read}
 use Rattle.scan.proofs.Many.{then-shown}
 use Rattle.scan.proofs.Reading.{read-same}
 use Rattle.varint.specs.Uleb.{uleb}
-use Rattle.event.specs.Event.{Text, Tag}
-use Rattle.notepack.specs.Strict.{packElement, packElements, packTag, packTags}
+use Rattle.event.specs.Event.{Tag}
+use Rattle.notepack.specs.Strict.{packElement, packElements, packTags}
 use Rattle.notepack.proofs.Lengths.{tag-form}
-use Rattle.strict.specs.Copy.{orElse}
 use Rattle.jsontext.specs.declared.Spelled.{Spelled}
 use Rattle.jsontext.specs.Token.{spaceAt}
 use Rattle.jsontext.specs.Text.{stringAt}

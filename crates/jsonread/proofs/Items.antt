@@ -1,15 +1,14 @@
 -- Arrays of items, for texts in a tag and for tags alike: what was read taken apart, how much it takes in the strict form, and the turns of the loop that measures.
 -- The invariant puts what is counted so far in front of the items that are still to be read.
-use Prim.Native.Nat.{ℕ, zero, suc, _+_, _*_, _-_, _≤_, _<_, _^_}
+use Prim.Native.Nat.{ℕ, zero, suc, _+_, _*_, _-_, _≤_, _<_}
 use mathlib.Core.Path.{_≡_, refl, sym, ap, _∙_, subst}
 use mathlib.Core.Bool.{Bool, true, false}
-use mathlib.Core.List.{List, [], _∷_, _++_}
+use mathlib.Core.List.{List, [], _∷_}
 use native.Mathlib.Omega.{arith}
 use native.Mathlib.Nat.{zero-add, add-zero}
-use mir.Syntax.{w64}
 use lib.ListN.{length, getD}
 use lib.Dec.{eqb}
-use borrow.Author.Tests.{eq-eqb, ne-eqb, eqb-true, eqb-false}
+use borrow.Author.Tests.{eq-eqb, ne-eqb, eqb-true}
 use Rattle.scan.specs.Choice.{pick, Answer, shown, refused, Read, read, andThen}
 use Rattle.scan.proofs.Many.{then-shown}
 use Rattle.scan.proofs.Reading.{read-same}
@@ -17,7 +16,7 @@ use Rattle.event.specs.declared.Refusal.{Refusal}
 use Rattle.event.specs.Answers.{told}
 use Rattle.jsontext.specs.Token.{spaceAt}
 use Rattle.jsontext.proofs.Fits.{byte-positive}
-use Rattle.jsontext.proofs.Walk.{space-onward, space-inside}
+use Rattle.jsontext.proofs.Walk.{space-onward}
 use Rattle.json.specs.Field.{under, afterItem, itemsAt, insideAt}
 use Rattle.jsonread.specs.declared.Cursor.{Cursor}
 use Rattle.jsonread.specs.declared.Sized.{Sized}

@@ -1,24 +1,24 @@
 -- The seven fields by number: what is known of one, and of all with one more found. Where all are found, the second pass writes the event's strict form.
 -- Number by number; each step computes.
-use Prim.Native.Nat.{ℕ, zero, suc, _+_, _*_, _≤_, _<_}
+use Prim.Native.Nat.{ℕ, zero, suc, _+_, _≤_, _<_}
 use mathlib.Core.Path.{_≡_, refl, sym, ap, _∙_}
 use mathlib.Core.Bool.{Bool, true, false}
-use mathlib.Core.List.{List, [], _∷_, _++_, append-assoc}
+use mathlib.Core.List.{List, _++_, append-assoc}
 use native.Mathlib.Omega.{arith}
-use lib.ListN.{length, getD, set, length-append}
+use lib.ListN.{length, set, length-append}
 use lib.Dec.{eqb}
-use borrow.Author.Tests.{eq-eqb, ne-eqb, eqb-true, eqb-false}
+use borrow.Author.Tests.{ne-eqb, eqb-false}
 use Rattle.scan.specs.Choice.{pick}
 use Rattle.scan.proofs.Step.{false-true}
 use Rattle.varint.specs.Uleb.{uleb}
 use Rattle.notepack.specs.Strict.{pack, packTags}
-use Rattle.json.specs.Field.{Value, missing, bytes, number, tags, text}
+use Rattle.json.specs.Field.{missing, tags}
 use Rattle.json.specs.Object.{noFields, isMissing, field, noneMissing, bytesIn, numberIn, tagsIn, textIn, eventOf}
 use Rattle.jsonread.specs.declared.Spot.{Spot}
 use Rattle.jsonread.specs.declared.Fields.{Fields}
 use Rattle.jsonread.specs.Size.{packValue}
-use Rattle.jsonread.specs.Copy.{partOf, spotText, fieldsText, measured}
-use Rattle.jsonread.specs.Found.{saysAs, says, fieldsOf, noSpot, spotOf, fieldsBy, withSpot, noneFound, allFound, Weighs, Known, not-yet, known, Good, Packs}
+use Rattle.jsonread.specs.Copy.{fieldsText, measured}
+use Rattle.jsonread.specs.Found.{saysAs, says, fieldsOf, spotOf, withSpot, noneFound, allFound, Weighs, Known, not-yet, known, Good, Packs}
 
 -- what holds of 0 to 7 holds of every number up to 7
 by-eight : (P : ℕ → Type 0) → P 0 → P 1 → P 2 → P 3 → P 4 → P 5 → P 6 → P 7 → (k : ℕ) → k ≤ 7 → P k

@@ -1,14 +1,14 @@
 -- The members of an object, one after the other: a colon and a value, a name that is new, and the turns of the loop over them.
 -- The invariant: the members from the first on are those from here on, with what is found so far; a member takes a byte or more, so that the fuel is enough.
-use Prim.Native.Nat.{ℕ, zero, suc, _+_, _*_, _-_, _≤_, _<_}
-use mathlib.Core.Path.{_≡_, refl, sym, ap, _∙_}
+use Prim.Native.Nat.{ℕ, zero, suc, _+_, _-_, _≤_, _<_}
+use mathlib.Core.Path.{_≡_, sym, ap, _∙_}
 use mathlib.Core.Bool.{Bool, true, false}
-use mathlib.Core.List.{List, [], _∷_}
+use mathlib.Core.List.{List}
 use native.Mathlib.Omega.{arith}
 use lib.ListN.{length, getD, set}
 use lib.Dec.{eqb}
-use borrow.Author.Tests.{eq-eqb, ne-eqb, eqb-true, eqb-false}
-use Rattle.scan.specs.Choice.{pick, Answer, shown, refused, Read, read, andThen}
+use borrow.Author.Tests.{eq-eqb, ne-eqb}
+use Rattle.scan.specs.Choice.{pick, Answer, refused, Read, read, andThen}
 use Rattle.scan.proofs.SpanLaws.{span-length}
 use Rattle.scan.proofs.Reading.{Reads, reads, read-same}
 use Rattle.scan.proofs.Many.{then-shown}
@@ -19,7 +19,7 @@ use Rattle.jsontext.specs.Token.{spaceAt}
 use Rattle.jsontext.proofs.Fits.{byte-positive}
 use Rattle.jsontext.proofs.Walk.{space-onward, space-inside}
 use Rattle.json.specs.Field.{Value, under, textAt, fieldOf, fieldAt}
-use Rattle.json.specs.Object.{noFields, isMissing, field, noneMissing, eventOf, colonAt, memberAt, closeAt, afterMember, membersAt, insideAt, objectAt}
+use Rattle.json.specs.Object.{noFields, isMissing, field, eventOf, colonAt, memberAt, closeAt, afterMember, membersAt, insideAt, objectAt}
 use Rattle.json.proofs.FieldSound.{field-says}
 use Rattle.jsonread.specs.declared.Cursor.{Cursor}
 use Rattle.jsonread.specs.declared.Spot.{Spot}
@@ -30,8 +30,8 @@ use Rattle.jsonread.specs.declared.SpotRead.{SpotRead}
 use Rattle.jsonread.specs.declared.SpotRead.the-variants as spot-by
 use Rattle.jsonread.specs.declared.FieldsRead.{FieldsRead}
 use Rattle.jsonread.specs.declared.FieldsRead.the-variants as fields-by
-use Rattle.jsonread.specs.Found.{saysAs, fieldsOf, spotOf, withSpot, noneFound, allFound, Weighs, SpotGood, found, Good, FieldsGood, good, Packs, ObjectGood, packs}
-use Rattle.jsonread.specs.Answers.{lenRead, spotRead, fieldsRead, objectRead}
+use Rattle.jsonread.specs.Found.{fieldsOf, spotOf, withSpot, noneFound, allFound, Weighs, SpotGood, found, Good, FieldsGood, good, Packs}
+use Rattle.jsonread.specs.Answers.{lenRead, spotRead, fieldsRead}
 use Rattle.jsonread.proofs.Strings.{string-ends, text-string}
 use Rattle.jsonread.proofs.Items.{never-shown, under-read, under-refused}
 use Rattle.jsonread.proofs.Naming.{number-most}

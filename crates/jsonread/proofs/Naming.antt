@@ -1,14 +1,13 @@
 -- The number of the field that has a name, when its length leaves one or two names to compare.
 -- A name that was compared and is the same has its number; one that is none of the seven has 7.
-use Prim.Native.Nat.{ℕ, zero, suc, _+_, _<_, _≤_}
-use mathlib.Core.Path.{_≡_, refl, sym, ap, _∙_}
+use Prim.Native.Nat.{ℕ, suc, _+_, _<_, _≤_}
+use mathlib.Core.Path.{_≡_, sym, ap, _∙_}
 use mathlib.Core.Bool.{Bool, true, false}
 use mathlib.Core.List.{List, [], _∷_}
 use native.Mathlib.Omega.{arith}
 use native.Mathlib.Decide.{decLt}
 use mathlib.Core.Logic.{dite}
 use lib.ListN.{length}
-use Rattle.scan.specs.Choice.{pick}
 use Rattle.scan.specs.Place.{standsAt}
 use Rattle.scan.proofs.Step.{pick-by, false-true}
 use Rattle.scan.proofs.SpanLaws.{whole-span, input-span}

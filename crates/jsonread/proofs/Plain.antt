@@ -1,17 +1,17 @@
 -- Strings of plain ASCII: read at once, and their own text.
 -- By the turns of the string's definition over plain bytes; a plain byte is no backslash.
-use Prim.Native.Nat.{ℕ, zero, suc, _+_, _*_, _-_, _/_, _≤_, _<_, _^_}
-use mathlib.Core.Path.{_≡_, refl, sym, ap, _∙_, subst}
+use Prim.Native.Nat.{ℕ, zero, suc, _+_, _*_, _-_, _/_, _≤_, _<_}
+use mathlib.Core.Path.{_≡_, sym, ap, _∙_, subst}
 use mathlib.Core.Bool.{Bool, true, false}
-use mathlib.Core.List.{List, [], _∷_, _++_}
+use mathlib.Core.List.{List}
 use mathlib.Core.Logic.{dite}
 use native.Mathlib.Omega.{arith}
-use native.Mathlib.Decide.{decLt, decLe}
+use native.Mathlib.Decide.{decLt}
 use lib.ListN.{length, take, drop, getD, length-take, length-drop}
 use lib.Seq.{getD-drop, getD-take}
 use lib.Dec.{eqb, ltb}
 use borrow.Author.Tests.{eq-eqb, ne-eqb, eqb-true, lt-ltb, le-ltb}
-use Rattle.scan.specs.Choice.{pick, Answer, refused, Read, read}
+use Rattle.scan.specs.Choice.{refused, read}
 use Rattle.store.specs.Store.{Wrote}
 use Rattle.notepack.specs.Strict.{packElement}
 use Rattle.scan.specs.Span.{All, none, also}
@@ -19,12 +19,12 @@ use Rattle.scan.proofs.Step.{rest-more, false-true}
 use Rattle.scan.proofs.AllLaws.{all-at}
 use Rattle.hex.specs.Hex.{Digit, number, letter, allDigits, goesAsBytes}
 use Rattle.hex.proofs.Texts.{digits-pass, pass-digits, go-digits}
-use Rattle.event.specs.Event.{Text, sameText}
+use Rattle.event.specs.Event.{Text}
 use Rattle.jsontext.specs.declared.Spelled.{Spelled}
 use Rattle.jsontext.specs.Block.{isOne, isControl, isSlash, specialOf, PlainTo}
 use Rattle.jsontext.specs.Escape.{unescape}
 use Rattle.jsontext.specs.Text.{stringAt}
-use Rattle.jsontext.proofs.BlockLaws.{plain-none, text-plain}
+use Rattle.jsontext.proofs.BlockLaws.{text-plain}
 use Rattle.jsontext.proofs.Meaning.{unescape-itself}
 use Rattle.jsontext.proofs.Turn.{text-start, text-quote}
 use Rattle.jsontext.proofs.Fits.{byte-positive}

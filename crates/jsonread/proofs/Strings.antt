@@ -7,10 +7,9 @@ use mathlib.Core.List.{List, [], _∷_, _++_}
 use mathlib.Core.Logic.{dite}
 use native.Mathlib.Omega.{arith}
 use native.Mathlib.Decide.{decLt}
-use lib.ListN.{length, take, drop, getD, length-take, length-drop, length-append}
-use Rattle.scan.specs.Choice.{pick, Answer, shown, Read, read, andThen}
+use lib.ListN.{length, take, drop, length-take, length-drop, length-append}
+use Rattle.scan.specs.Choice.{read}
 use Rattle.scan.specs.Span.{Span}
-use Rattle.scan.proofs.Step.{pick-by}
 use Rattle.scan.proofs.SpanLaws.{span-length, span-fits}
 use Rattle.scan.proofs.Many.{then-shown}
 use Rattle.scan.proofs.Reading.{read-same}

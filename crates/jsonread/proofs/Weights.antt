@@ -1,27 +1,25 @@
 -- What a field's value weighs: where it is read, the second pass writes its strict form, and its length is the one measured.
 -- One law for each kind of value.
-use Prim.Native.Nat.{ℕ, zero, suc, _+_, _*_, _-_, _/_, _%_, _≤_, _<_, _^_}
+use Prim.Native.Nat.{ℕ, zero, suc, _+_, _*_, _-_, _%_, _≤_, _<_, _^_}
 use mathlib.Core.Path.{_≡_, refl, sym, ap, _∙_, subst}
 use mathlib.Core.Bool.{Bool, true, false}
 use mathlib.Core.List.{List, [], _∷_, _++_}
 use native.Mathlib.Omega.{arith}
 use lib.ListN.{length, take, drop, getD, length-append, length-take, length-drop}
-use lib.Dec.{eqb, leb, ltb}
-use borrow.Author.Tests.{eq-eqb, ne-eqb, eqb-true, eqb-false, lt-ltb, le-leb, lt-leb}
-use Rattle.scan.specs.Choice.{pick, Answer, shown, refused, Read, read, andThen}
-use Rattle.scan.specs.Place.{within, runAt, run}
+use lib.Dec.{eqb, leb}
+use borrow.Author.Tests.{eq-eqb, ne-eqb, eqb-true, le-leb, lt-leb}
+use Rattle.scan.specs.Choice.{pick, refused, read, andThen}
 use Rattle.scan.specs.Span.{Span, All, none, also}
 use Rattle.scan.proofs.Step.{pick-true, pick-by}
-use Rattle.scan.proofs.SpanLaws.{span-length, span-fits, whole-span, from-span, none-span}
-use Rattle.scan.proofs.Many.{then-shown}
-use Rattle.scan.proofs.Reading.{read-same, Reads, reads, fails}
+use Rattle.scan.proofs.SpanLaws.{span-length, span-fits, whole-span}
+use Rattle.scan.proofs.Reading.{Reads, reads}
 use Rattle.varint.specs.Uleb.{uleb}
 use Rattle.varint.proofs.UlebLaws.{length-ten}
 use Rattle.hex.specs.Hex.{unhex, allDigits, goesAsBytes}
 use Rattle.hex.proofs.Texts.{length-unhex}
 use Rattle.decimal.specs.Decimal.{Digits, number, over, numberOf, isDigit, digitsAt}
 use Rattle.decimal.specs.Decimal as decimal
-use Rattle.decimal.proofs.Reading.{consumes-number, consumes-over, consumes-none, digit-passes, passes-digit}
+use Rattle.decimal.proofs.Reading.{consumes-number, consumes-over, consumes-none, digit-passes}
 use Rattle.event.specs.Event.{Text, Tag}
 use Rattle.notepack.specs.Strict.{packElement, packElements, packTag, packTags}
 use Rattle.notepack.proofs.Lengths.{tag-form}
@@ -41,8 +39,7 @@ use Rattle.jsontext.specs.Grammar as json
 use Rattle.jsontext.proofs.TokenLaws.{number-consumes}
 use Rattle.jsontext.proofs.FirstByte.{begins-value, some-bytes}
 use Rattle.jsontext.proofs.Walk.{space-onward}
-use Rattle.jsontext.specs.Escape.{unescape}
-use Rattle.json.specs.Field.{textOf, textAt, hexAt, isHexOf, digitsOnly, wholeOf, wholeAt, insideAt, arrayAt, oneOrMore, itemsAt, tagAt, tagsAt, Value, missing, bytes, tags, text, under}
+use Rattle.json.specs.Field.{textOf, textAt, hexAt, isHexOf, digitsOnly, wholeOf, wholeAt, insideAt, arrayAt, oneOrMore, tagAt, tagsAt, missing, bytes, tags, text, under}
 use Rattle.json.specs.Field as field
 use Rattle.jsonread.specs.declared.Spot.{Spot}
 use Rattle.jsonread.specs.declared.Sized.{Sized}
@@ -51,12 +48,12 @@ use Rattle.jsonread.specs.declared.SizedRead.{SizedRead}
 use Rattle.jsonread.specs.declared.SizedRead.the-variants as sized-by
 use Rattle.jsonread.specs.declared.SpotRead.{SpotRead}
 use Rattle.jsonread.specs.declared.SpotRead.the-variants as spot-by
-use Rattle.jsonread.specs.Size.{elementSize, tagSize, total, sized, packValue}
+use Rattle.jsonread.specs.Size.{elementSize, tagSize, total, sized}
 use Rattle.jsonread.specs.Copy.{partOf, contentText, spotText, tagsText}
 use Rattle.jsonread.specs.Found.{tagsFrom, saysAs, Weighs, SpotGood, found, refused}
 use Rattle.jsonread.specs.Answers.{sizedRead, spotRead}
 use Rattle.jsonread.proofs.Strings.{part-most, text-bound, string-ends, string-same}
-use Rattle.jsonread.proofs.Items.{never-shown, Took, items-took, Bound, took-bound, under-read, under-refused, inside-by}
+use Rattle.jsonread.proofs.Items.{Bound, took-bound, under-read, under-refused, inside-by}
 use Rattle.jsonread.proofs.Copying.{tag-took, tags-left, tags-written}
 
 -- ---- bytes in hex

@@ -1,14 +1,13 @@
 -- The whole text and the entry: what is answered and what is left in the lent buffer, for each outcome of the first pass.
 -- By the definitions' steps; the room was measured, so that what is written is the strict form and the rest is unchanged.
-use Prim.Native.Nat.{ℕ, _+_, _*_, _≤_, _<_, _^_}
-use mathlib.Core.Path.{_≡_, refl, sym, ap, _∙_, subst}
-use mathlib.Core.Bool.{Bool, true, false}
+use Prim.Native.Nat.{ℕ, _≤_, _<_, _^_}
+use mathlib.Core.Path.{_≡_, sym, ap, _∙_, subst}
 use mathlib.Core.List.{List}
 use native.Mathlib.Omega.{arith}
 use lib.ListN.{length}
-use lib.Dec.{leb, eqb}
+use lib.Dec.{eqb}
 use borrow.Author.Tests.{eq-eqb, ne-eqb, le-leb, lt-leb}
-use Rattle.scan.specs.Choice.{pick, Answer, shown, refused, Read, read, andThen}
+use Rattle.scan.specs.Choice.{pick, Answer, shown, refused, Read, andThen}
 use Rattle.store.specs.Store.{Wrote}
 use Rattle.store.specs.Entry.{writes, leaves}
 use Rattle.store.proofs.EntryLaws.{short, fitted}

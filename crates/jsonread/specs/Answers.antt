@@ -6,7 +6,6 @@ use Rattle.event.specs.Answers.{told}
 use Rattle.event.specs.Event.{Event}
 use Rattle.json.specs.Field.{Value}
 use Rattle.json.specs.Object.{eventOf}
-use Rattle.jsonread.specs.declared.Spot.{Spot}
 use Rattle.jsonread.specs.declared.Sized.{Sized}
 use Rattle.jsontext.specs.declared.Spelled.{Spelled}
 use Rattle.jsonread.specs.declared.TextRead.{TextRead}

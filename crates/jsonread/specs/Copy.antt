@@ -1,13 +1,12 @@
 -- What the second pass writes from the places that the first pass found. Total: a refusal ends it. Assumes nothing.
 use Prim.Native.Nat.{ℕ, zero, suc, _+_}
-use mathlib.Core.List.{List, [], _∷_, _++_}
+use mathlib.Core.List.{List, [], _++_}
 use lib.ListN.{length, take, drop}
 use lib.Dec.{ltb, eqb}
-use Rattle.scan.specs.Choice.{pick, Read}
+use Rattle.scan.specs.Choice.{pick}
 use Rattle.scan.specs.Place.{byteAt}
 use Rattle.varint.specs.Uleb.{uleb}
 use Rattle.hex.specs.Hex.{unhex}
-use Rattle.event.specs.Event.{Text}
 use Rattle.notepack.specs.Strict.{packElement}
 use Rattle.strict.specs.Copy.{orElse}
 use Rattle.jsontext.specs.declared.Spelled.{Spelled}

@@ -5,7 +5,7 @@ use mathlib.Core.Bool.{Bool, true, false}
 use mathlib.Core.List.{List, [], _∷_}
 use lib.ListN.{length, take, drop}
 use lib.Dec.{eqb}
-use Rattle.scan.specs.Choice.{pick, Read}
+use Rattle.scan.specs.Choice.{pick}
 use Rattle.hex.specs.Hex.{unhex}
 use Rattle.event.specs.Event.{Tag}
 use Rattle.notepack.specs.Strict.{pack}

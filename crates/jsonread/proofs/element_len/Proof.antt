@@ -1,10 +1,7 @@
 -- `element_len` is the length of the strict element that has the text.
 -- By the length of `packElement` for each form; a text is no longer than the input, so that no sum wraps.
-use mathlib.Core.Path.{_≡_, refl, sym, ap, _∙_}
 use native.Mathlib.Omega.{arith}
 use borrow.Author.Needs.{needs}
-use Rattle.notepack.proofs.Lengths.{length-as-bytes, length-as-text}
-use Rattle.jsonread.specs.Size.{elementSize}
 use Rattle.jsonread.proofs.Strings.{part-most, element-as-bytes, element-as-text}
 use Rattle.jsonread.proofs.element_len.Statement.{statement}
 use Rattle.jsonread.proofs.element_len.Tie as tie

@@ -2,7 +2,7 @@
 -- A name that is the same has its number; the others differ in length or were compared.
 use native.Mathlib.Omega.{arith}
 use borrow.Author.Needs.{needs}
-use mathlib.Core.Path.{_≡_, refl}
+use mathlib.Core.Path.{refl}
 use Rattle.json.specs.Field.{textOf}
 use Rattle.jsonread.proofs.Naming.{is-name, not-name, other-length, no-name}
 use Rattle.jsonread.proofs.field_of.Statement.{statement}

@@ -2,7 +2,7 @@
 -- A name that stands there whole has its number; the others differ in length or were compared.
 use native.Mathlib.Omega.{arith}
 use borrow.Author.Needs.{needs}
-use mathlib.Core.Path.{_≡_, refl}
+use mathlib.Core.Path.{refl}
 use Rattle.jsonread.proofs.Naming.{stands-name, stands-not, other-length, no-name}
 use Rattle.jsonread.proofs.field_spelled.Statement.{statement}
 use Rattle.jsonread.proofs.field_spelled.Tie as tie

@@ -1,7 +1,5 @@
 -- `is_hex_of` asks whether the string is spelled as digits; else for the length of its text, and then for digits.
 -- Digits are their own text; a text of that length, which is not 0, goes as bytes exactly where it is all digits.
-use mathlib.Core.Path.{_≡_, sym, ap, _∙_}
-use lib.ListN.{length}
 use borrow.Author.Needs.{needs}
 use Rattle.jsonread.proofs.Weights.{hex-so, hex-not}
 use Rattle.jsonread.proofs.Plain.{hex-spelled}

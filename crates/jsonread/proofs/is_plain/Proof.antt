@@ -1,7 +1,6 @@
 -- `is_plain` asks the four questions of a plain byte.
 -- By the law for each answer.
-use mathlib.Core.Path.{_≡_, sym, _∙_}
-use mathlib.Core.Logic.{dite}
+use mathlib.Core.Path.{sym}
 use Rattle.jsonread.proofs.Plain.{control-byte, quote-byte, slash-byte, plain-or-high}
 use Rattle.jsonread.proofs.is_plain.Statement.{statement}
 use Rattle.jsonread.proofs.is_plain.Tie as tie

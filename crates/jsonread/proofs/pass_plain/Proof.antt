@@ -1,6 +1,6 @@
 -- `pass_plain` passes plain bytes. The invariant: all from the start to here are plain.
 -- Each turn is one law.
-use Prim.Native.Nat.{_≤_, _-_}
+use Prim.Native.Nat.{_-_}
 use native.Mathlib.Omega.{arith}
 use borrow.Author.Needs.{needs}
 use Rattle.jsontext.specs.Block.{PlainTo}

@@ -2,7 +2,7 @@
 -- Digits are plain.
 use native.Mathlib.Omega.{arith}
 use borrow.Author.Needs.{needs}
-use mathlib.Core.Path.{_≡_, ap, _∙_}
+use mathlib.Core.Path.{ap, _∙_}
 use Rattle.hex.specs.Hex.{allDigits}
 use Rattle.jsontext.proofs.Fits.{byte-positive}
 use Rattle.jsonread.proofs.Plain.{plain-digits}

@@ -1,6 +1,5 @@
 -- `put_element` writes the strict element that has the text of a spelled string.
 -- By the law of `packElement` for each form; two writers in a row are one.
-use mathlib.Core.Path.{_≡_}
 use native.Mathlib.Omega.{arith}
 use borrow.Author.Needs.{needs}
 use Rattle.store.proofs.Laws.{then}

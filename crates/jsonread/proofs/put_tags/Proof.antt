@@ -1,8 +1,5 @@
 -- `put_tags` writes the strict tags as it reads them again. The invariant: what is left to write is the text of the tags left.
 -- Each turn is one law: the count, the texts, and the tags behind where they end.
-use Prim.Native.Nat.{_-_}
-use mathlib.Core.Path.{_≡_, refl, sym, ap, _∙_}
-use native.Mathlib.Omega.{arith}
 use borrow.Author.Needs.{needs}
 use Rattle.store.proofs.Laws.{Left, start, part, done, also, same}
 use Rattle.jsonread.specs.Copy.{tagsText}

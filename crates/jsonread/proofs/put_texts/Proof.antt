@@ -2,10 +2,9 @@
 -- Each turn is one law, for a plain string and for any other; a refusal ends both alike.
 use Prim.Native.Nat.{_-_}
 use mathlib.Core.Path.{_≡_, refl, sym, ap, _∙_}
-use native.Mathlib.Omega.{arith}
 use borrow.Author.Needs.{needs}
 use Rattle.store.proofs.Laws.{Left, start, part, done, also, same}
-use Rattle.jsonread.specs.Copy.{nextAt, textsText, textsEnd}
+use Rattle.jsonread.specs.Copy.{textsText, textsEnd}
 use Rattle.jsonread.specs.Answers.{textRead}
 use Rattle.jsonread.proofs.Plain.{plain-own, same-wrote}
 use Rattle.jsonread.proofs.Copying.{texts-turn, texts-stop, texts-left, next-place}

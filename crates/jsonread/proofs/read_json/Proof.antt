@@ -1,6 +1,5 @@
 -- `read_json` answers as document 01 says: 1, the reader's refusal, 11 with the length needed, or the length written; and leaves the buffer so.
 -- By the laws of the entry for each outcome of the first pass.
-use native.Mathlib.Omega.{arith}
 use borrow.Author.Needs.{needs}
 use Rattle.store.proofs.Laws.{kept}
 use Rattle.jsonread.proofs.Whole.{json-long, json-refused, json-small, json-short, json-fitted}

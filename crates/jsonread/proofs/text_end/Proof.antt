@@ -1,6 +1,6 @@
 -- `text_end` tells where the text at a place ends, or 0.
 -- By what was read.
-use mathlib.Core.Path.{_≡_, sym, ap, _∙_}
+use mathlib.Core.Path.{sym, ap, _∙_}
 use borrow.Author.Needs.{needs}
 use Rattle.jsonread.specs.Copy.{textEnd}
 use Rattle.jsonread.specs.Answers.{textRead}

@@ -1,6 +1,6 @@
 -- `whole_of` reads digits alone, up to the maximum; above it the refusal is the one given, and anything else is 14.
 -- By the law of the number for each outcome of the run of digits.
-use mathlib.Core.Path.{_≡_, sym, ap, _∙_}
+use mathlib.Core.Path.{sym, ap, _∙_}
 use borrow.Author.Needs.{needs}
 use Rattle.decimal.specs.Decimal.{decimalRead}
 use Rattle.json.specs.Field as field

@@ -1,6 +1,5 @@
 -- `colon` reads a colon and the value of field number k, and tells the fields with it found.
 -- By the laws of the colon for each outcome.
-use native.Mathlib.Omega.{arith}
 use borrow.Author.Needs.{needs}
 use Rattle.jsontext.proofs.Fits.{next-fits}
 use Rattle.jsonread.specs.Found.{fieldsOf, good, refused}

@@ -1,7 +1,7 @@
 -- `field` reads the value of field number k by its kind.
 -- By the promise of each kind's read, at the number that was asked for.
 use Prim.Native.Nat.{_≤_}
-use mathlib.Core.Path.{_≡_, sym, _∙_}
+use mathlib.Core.Path.{_≡_, _∙_}
 use native.Mathlib.Omega.{arith}
 use borrow.Author.Needs.{needs}
 use Rattle.json.specs.Field.{fieldAt}

@@ -1,8 +1,7 @@
 -- `hex` reads n bytes in lowercase hex: the string's refusal first, then 12, else a spot that weighs n bytes.
 -- By the laws of the reading for each outcome of the string.
-use mathlib.Core.Path.{_≡_, sym}
 use borrow.Author.Needs.{needs}
-use Rattle.jsonread.specs.Found.{saysAs, SpotGood, found, refused}
+use Rattle.jsonread.specs.Found.{saysAs, found, refused}
 use Rattle.jsonread.proofs.Weights.{hex-refused, hex-taken, hex-found, hex-other}
 use Rattle.jsonread.proofs.Cursor.hex.Statement.{statement}
 use Rattle.jsonread.proofs.Cursor.hex.Tie as tie

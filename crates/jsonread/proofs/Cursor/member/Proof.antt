@@ -1,6 +1,6 @@
 -- `member` reads a name, asks whether its field is new, and then a colon and a value.
 -- By the laws of the member for each outcome.
-use mathlib.Core.Path.{_≡_, sym, _∙_}
+use mathlib.Core.Path.{_∙_}
 use borrow.Author.Needs.{needs}
 use Rattle.jsonread.specs.Found.{refused}
 use Rattle.jsonread.proofs.Members.{member-refused, number-small, member-twice, member-on}

@@ -1,6 +1,6 @@
 -- `object` reads an event's object: its brace, 15 where it is empty, else its members.
 -- By the laws of the object for each outcome.
-use mathlib.Core.Path.{_≡_, _∙_}
+use mathlib.Core.Path.{_∙_}
 use borrow.Author.Needs.{needs}
 use Rattle.jsontext.proofs.Fits.{next-fits}
 use Rattle.jsonread.specs.Found.{refused}

@@ -1,6 +1,6 @@
 -- `spelled` reads a string, and tells whether it is plain.
 -- Plain bytes up to a quote are a string and its own text; else by the promise of `string`.
-use mathlib.Core.Path.{_≡_, refl, sym, ap, _∙_}
+use mathlib.Core.Path.{refl, sym, ap, _∙_}
 use native.Mathlib.Omega.{arith}
 use borrow.Author.Needs.{needs}
 use Rattle.jsontext.specs.Answers.{stringRead}

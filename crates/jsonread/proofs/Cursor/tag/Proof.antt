@@ -1,6 +1,5 @@
 -- `tag` reads a tag and measures it: its bracket, its texts, and 9 where there are none.
 -- By the laws of a tag for each outcome.
-use mathlib.Core.Path.{_≡_, sym, ap, _∙_}
 use native.Mathlib.Omega.{arith}
 use borrow.Author.Needs.{needs}
 use Rattle.jsontext.proofs.Fits.{next-fits}

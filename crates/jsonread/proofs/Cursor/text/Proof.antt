@@ -1,10 +1,9 @@
 -- `text` reads a string, with the length of its text and of its strict form.
 -- By the laws of the reading for each outcome of the string.
-use mathlib.Core.Path.{_≡_, sym}
 use native.Mathlib.Omega.{arith}
 use borrow.Author.Needs.{needs}
 use Rattle.json.specs.Field as field
-use Rattle.jsonread.specs.Found.{saysAs, SpotGood, found, refused}
+use Rattle.jsonread.specs.Found.{saysAs, found, refused}
 use Rattle.jsonread.proofs.Strings.{part-most}
 use Rattle.jsonread.proofs.Weights.{text-refused, text-taken, text-found}
 use Rattle.jsonread.proofs.Cursor.text.Statement.{statement}

@@ -1,10 +1,10 @@
 -- `texts` measures the texts of a tag. The invariant puts what is counted in front of the texts that are still to be read.
 -- Each turn is one law, the same as for tags.
 use Prim.Native.Nat.{_-_}
-use mathlib.Core.Path.{_≡_, refl, sym, ap, _∙_}
+use mathlib.Core.Path.{refl}
 use native.Mathlib.Omega.{arith}
 use borrow.Author.Needs.{needs}
-use Rattle.jsontext.proofs.Fits.{byte-positive, next-fits}
+use Rattle.jsontext.proofs.Fits.{next-fits}
 use Rattle.json.specs.Field.{textAt}
 use Rattle.jsonread.specs.Size.{elementSize}
 use Rattle.jsonread.proofs.Items.{InItems, items-none, items-start, items-refused, items-closed, items-other, items-full, items-room, items-again}

@@ -1,6 +1,6 @@
 -- `strict_len` is the sum of the seven lengths, which its caller knows to fit.
 -- No sum on the way is above the whole.
-use mathlib.Core.Path.{_≡_, refl}
+use mathlib.Core.Path.{refl}
 use native.Mathlib.Omega.{arith}
 use Rattle.jsonread.specs.Copy.{measured}
 use Rattle.jsonread.proofs.Fields.strict_len.Statement.{statement}
