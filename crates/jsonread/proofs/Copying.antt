@@ -1,0 +1,193 @@
+-- What the second pass writes of texts and tags, turn by turn; and that it is their strict form where the first pass read them.
+-- Along the items as they were taken apart; the byte behind each is there, so that the second pass comes to the same places.
+use Prim.Native.Nat.{ℕ, zero, suc, _+_, _-_, _≤_, _<_}
+use mathlib.Core.Path.{_≡_, refl, sym, ap, _∙_}
+use mathlib.Core.Bool.{Bool, true, false}
+use mathlib.Core.List.{List, [], _∷_, _++_, append-assoc}
+use native.Mathlib.Omega.{arith}
+use native.Mathlib.Numerals.{sub-one}
+use lib.ListN.{length, getD}
+use lib.Dec.{eqb}
+use borrow.Author.Tests.{eq-eqb, ne-eqb, eqb-true, eqb-false, lt-ltb}
+use Rattle.scan.specs.Choice.{pick, Answer, shown, refused, Read, read}
+use Rattle.scan.proofs.Many.{then-shown}
+use Rattle.scan.proofs.Reading.{read-same}
+use Rattle.varint.specs.Uleb.{uleb}
+use Rattle.event.specs.Event.{Tag}
+use Rattle.notepack.specs.Strict.{packElement, packElements, packTags}
+use Rattle.notepack.proofs.Lengths.{tag-form}
+use Rattle.jsontext.specs.declared.Spelled.{Spelled}
+use Rattle.jsontext.specs.Token.{spaceAt}
+use Rattle.jsontext.specs.Text.{stringAt}
+use Rattle.jsontext.proofs.Fits.{byte-positive}
+use Rattle.json.specs.Field.{textOf, textAt, itemsAt, insideAt, arrayAt, oneOrMore, tagAt}
+use Rattle.jsonread.specs.Copy.{behindAt, nextAt, textEnd, countTexts, textsText, textsEnd, tagText, tagsText}
+use Rattle.jsonread.proofs.Strings.{string-ends, text-string}
+use Rattle.jsonread.proofs.Items.{never-shown, Took, last, more, items-took}
+
+-- ---- the turns of the loops
+
+module _ (s : List ℕ) where
+  pub texts-turn : (left at : ℕ) {p : Spelled} {e : ℕ} → 0 < left → stringAt s at ≡ read p e
+      → (textsText left s at ≡ packElement (textOf s p) ++ textsText (left - 1) s (nextAt s e)) × (textsEnd left s at ≡ textsEnd (left - 1) s (nextAt s e))
+  unfolding textsText textsEnd
+  texts-turn zero at h r = absurd (omega arith)
+  texts-turn (suc left) at h r = (rw (r, sub-one), rw (r, sub-one))
+
+  pub texts-stop : (left at : ℕ) {n q : ℕ} → 0 < left → stringAt s at ≡ refused n q → (textsText left s at ≡ []) × (textsEnd left s at ≡ at)
+  unfolding textsText textsEnd
+  texts-stop zero at h r = absurd (omega arith)
+  texts-stop (suc left) at h r = (rw r, rw r)
+
+  pub texts-left : (left at : ℕ) → left ≤ 0 → (textsText left s at ≡ []) × (textsEnd left s at ≡ at)
+  unfolding textsText textsEnd
+  texts-left zero at h = (refl, refl)
+  texts-left (suc left) at h = absurd (omega arith)
+
+  pub tags-turn : (left at : ℕ) → 0 < left
+      → tagsText left s at ≡ tagText s (behindAt s at) ++ tagsText (left - 1) s (behindAt s (textsEnd (countTexts 255 s (behindAt s at)) s (behindAt s at)))
+  unfolding tagsText
+  tags-turn zero at h = absurd (omega arith)
+  tags-turn (suc left) at h = rw sub-one
+
+  -- a tag more: its count and its texts are written, and the others are left
+  pub tags-again : (left at : ℕ) → 0 < left → {first n end next : ℕ} → first ≡ behindAt s at → n ≡ countTexts 255 s first → end ≡ textsEnd n s first → next ≡ behindAt s end
+      → tagsText left s at ≡ uleb n ++ (textsText n s first ++ tagsText (left - 1) s next)
+  unfolding tagText
+  tags-again left at h {first} {n} {end} {next} e f g k =
+      tags-turn left at h ∙ rw (← e, ← f, ← g, ← k) (append-assoc (uleb n) (textsText n s first) (tagsText (left - 1) s next))
+
+  -- behind a text
+  pub next-place : (e : ℕ) {p j : ℕ} → p ≡ spaceAt s e → j ≡ behindAt s p → nextAt s e ≡ j
+  unfolding nextAt
+  next-place e f g = sym (g ∙ ap (behindAt s) f)
+
+  pub tags-left : (left at : ℕ) → left ≤ 0 → tagsText left s at ≡ []
+  unfolding tagsText
+  tags-left zero at h = refl
+  tags-left (suc left) at h = absurd (omega arith)
+
+  -- ---- the count: n texts are counted, and those from here on are still to be
+
+  pub record Counting (at i n : ℕ) : Type 0 where
+    pub same : countTexts 255 s at ≡ n + countTexts (255 - n) s i
+    pub few : n ≤ 255
+
+  pub counting-start : (at : ℕ) → Counting at at 0
+  counting-start at = record { same = omega arith; few = omega arith }
+
+  -- the place behind a text, and 0 where none is read
+  end-shown : (i : ℕ) {end : ℕ} → end ≡ textEnd s i → (end ≡ 0 → ⊥) → (x : Spelled) × (stringAt s i ≡ read x end)
+  unfolding textEnd
+  end-shown i {end} e h = go (stringAt s i) refl
+    where
+      go : (r : Answer (Read Spelled)) → stringAt s i ≡ r → (x : Spelled) × (stringAt s i ≡ read x end)
+      go (shown v) f = let z : end ≡ v .next = e ∙ rw f in (v .value, f ∙ ap (λ (n : ℕ). read (v .value) n) (sym z))
+      go (refused n p) f = let z : end ≡ 0 = e ∙ rw f in absurd (h z)
+
+  end-none : (i : ℕ) {end : ℕ} → end ≡ textEnd s i → end ≡ 0 → (n : ℕ) × (q : ℕ) × (stringAt s i ≡ refused n q)
+  unfolding textEnd
+  end-none i {end} e h = go (stringAt s i) refl
+    where
+      go : (r : Answer (Read Spelled)) → stringAt s i ≡ r → (n : ℕ) × (q : ℕ) × (stringAt s i ≡ refused n q)
+      go (shown v) f = let z : end ≡ v .next = e ∙ rw f in absurd (omega (arith, z, h, string-ends s i f))
+      go (refused n p) f = (n, p, f)
+
+  module _ {at i n end : ℕ} (v : Counting at i n) (e : end ≡ textEnd s i) (h : n < 255) where
+    pub counting-stop : end ≡ 0 → n ≡ countTexts 255 s at
+    unfolding countTexts
+    counting-stop z = sym (v .same ∙ go (255 - n) (omega arith))
+      where
+        go : (k : ℕ) → 0 < k → n + countTexts k s i ≡ n
+        go zero l = absurd (omega arith)
+        go (suc k) l = let r = end-none i e z .2 in rw r (omega arith)
+
+    module _ (f : end ≡ 0 → ⊥) {q b : ℕ} (w : q ≡ spaceAt s end) (y : b ≡ getD s q 0) where
+      counted : (k : ℕ) → 255 - n ≡ suc k → countTexts 255 s at ≡ n + suc (pick (eqb (getD s (spaceAt s end) 0) 0x2C) (countTexts k s (nextAt s end)) 0)
+      unfolding countTexts
+      counted k d = let r = end-shown i e f .1 in v .same ∙ rw (d, r)
+
+      pub counting-last : (b ≡ 0x2C → ⊥) → n + 1 ≡ countTexts 255 s at
+      counting-last z =
+          let d : 255 - n ≡ suc (255 - n - 1) = omega arith in
+          sym (counted (255 - n - 1) d ∙ rw (← w, ne-eqb (getD s q 0) 0x2C (λ u. z (y ∙ u))))
+
+      pub counting-again : {j : ℕ} → b ≡ 0x2C → j ≡ behindAt s q → Counting at j (n + 1)
+      unfolding nextAt
+      counting-again {j} z t =
+          let d : 255 - n ≡ suc (255 - (n + 1)) = omega arith in
+          let k : countTexts 255 s at ≡ n + suc (countTexts (255 - (n + 1)) s j) = counted (255 - (n + 1)) d ∙ rw (← w, eq-eqb (getD s q 0) 0x2C (sym y ∙ z), ← t) in
+          record { same = k ∙ omega arith; few = omega arith }
+
+  pub counting-all : {at i n : ℕ} → Counting at i n → 255 ≤ n → n ≡ countTexts 255 s at
+  unfolding countTexts
+  counting-all {at} {i} {n} v h = let d : 255 - n ≡ 0 = omega arith in sym (v .same ∙ rw d (omega arith))
+
+  -- ---- what they write
+
+  behind-there : (p b : ℕ) → getD s p 0 ≡ b → 0 < b → behindAt s p ≡ spaceAt s (p + 1)
+  unfolding behindAt
+  behind-there p b e h = rw (lt-ltb p (length s) (byte-positive s p b b (sym e) refl h))
+
+  -- texts that were read are counted right, written in strict form, and end where they were read to
+  pub record TextsWritten (left at : ℕ) (l : Tag) (c : ℕ) : Type 0 where
+    pub count : countTexts (suc left) s at ≡ length l
+    pub text : textsText (length l) s at ≡ packElements l
+    pub end : textsEnd (length l) s at ≡ spaceAt s c
+
+  pub texts-written : {left at : ℕ} {l : Tag} {c : ℕ} → Took (textAt s) s left at l c → TextsWritten left at l c
+  unfolding countTexts textsText textsEnd nextAt
+  texts-written (last {i = i} {e = e} {x = x} f b) =
+      let g = text-string s i f in
+      let n = behind-there (spaceAt s e) 0x5D b (omega arith) in
+      record {
+        count = rw (g .1, b);
+        text = rw (g .1, g .2);
+        end = rw (g .1, n);
+      }
+  texts-written (more {i = i} {e = e} {x = x} f b r) =
+      let g = text-string s i f in
+      let n = behind-there (spaceAt s e) 0x2C b (omega arith) in
+      let u = texts-written r in
+      record {
+        count = rw (g .1, b, n) (ap suc (u .count));
+        text = rw (g .1, g .2, n) (ap (λ (l : List ℕ). packElement x ++ l) (u .text));
+        end = rw (g .1, n) (u .end);
+      }
+
+  -- a tag that was read, taken apart
+  pub tag-took : (i : ℕ) {t : Tag} {e : ℕ} → tagAt s i ≡ read t e → (getD s i 0 ≡ 0x5B) × Took (textAt s) s 254 (spaceAt s (i + 1)) t e
+  unfolding tagAt arrayAt insideAt oneOrMore
+  tag-took i {t} {e} h = let g = then-shown (arrayAt (textAt s) 254 s i) _ _ h in go (g .0) (eqb (getD s i 0) 0x5B) refl (g .1) (eqb (length (g .0 .value)) 0) refl (g .2)
+    where
+      inside : (v : Read Tag) (c : Bool) → eqb (getD s (spaceAt s (i + 1)) 0) 0x5D ≡ c
+          → pick c (read [] (spaceAt s (i + 1) + 1)) (itemsAt (textAt s) 254 s (spaceAt s (i + 1))) ≡ shown v → eqb (length (v .value)) 0 ≡ false
+          → Took (textAt s) s 254 (spaceAt s (i + 1)) (v .value) (v .next)
+      inside v true b k z = let y = read-same k in absurd (eqb-false (length (v .value)) 0 z (ap length (sym (y .0))))
+      inside v false b k z = items-took (textAt s) s 254 (spaceAt s (i + 1)) v k
+
+      go : (v : Read Tag) (b : Bool) → eqb (getD s i 0) 0x5B ≡ b
+          → pick b (insideAt (textAt s) 254 s (spaceAt s (i + 1))) (refused 14 i) ≡ shown v → (z : Bool) → eqb (length (v .value)) 0 ≡ z
+          → pick z (refused 9 i) (shown v) ≡ read t e → (getD s i 0 ≡ 0x5B) × Took (textAt s) s 254 (spaceAt s (i + 1)) t e
+      go v b q k true y m = never-shown m
+      go v false q k false y m = never-shown k
+      go v true q k false y m =
+          let w = read-same m in
+          (eqb-true (getD s i 0) 0x5B q, rw (← w .0, ← w .1) (inside v (eqb (getD s (spaceAt s (i + 1)) 0) 0x5D) refl k y))
+
+  -- a tag and those behind it
+  one-tag : (at n : ℕ) {x : Tag} {e : ℕ} (ts : List Tag) → tagAt s at ≡ read x e → tagsText n s (behindAt s (spaceAt s e)) ≡ packTags ts
+      → tagsText (suc n) s at ≡ packTags (x ∷ ts)
+  unfolding tagsText tagText
+  one-tag at n {x} {e} ts f h =
+      let g = tag-took at f in
+      let first = spaceAt s (at + 1) in
+      let u = texts-written (g .1) in
+      let b : behindAt s at ≡ first = behind-there at 0x5B (g .0) (omega arith) in
+      rw (b, u .count, u .text, u .end, h) (ap (λ (l : List ℕ). l ++ packTags ts) (sym (tag-form x)))
+
+  -- tags that were read are written in strict form
+  pub tags-written : {left at : ℕ} {l : List Tag} {c : ℕ} → Took (tagAt s) s left at l c → tagsText (length l) s at ≡ packTags l
+  tags-written (last {i = i} {e = e} f b) = one-tag i 0 [] f (tags-left 0 (behindAt s (spaceAt s e)) (omega arith))
+  tags-written (more {i = i} {e = e} {l = l} f b r) =
+      one-tag i (length l) l f (rw (behind-there (spaceAt s e) 0x2C b (omega arith)) (tags-written r))

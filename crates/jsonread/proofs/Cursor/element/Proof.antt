@@ -1,0 +1,32 @@
+-- `element` measures a text as a strict element, or hands on the string's refusal.
+-- By the reading of a text under a measure; a plain string is its own text.
+use mathlib.Core.Path.{sym, ap, _∙_}
+use borrow.Author.Needs.{needs}
+use Rattle.jsonread.specs.Size.{elementSize}
+use Rattle.jsonread.specs.Answers.{textRead}
+use Rattle.jsonread.proofs.Plain.{plain-own, text-of, no-text, same-size}
+use Rattle.jsonread.proofs.Cursor.element.Statement.{statement}
+use Rattle.jsonread.proofs.Cursor.element.Tie as tie
+
+own-text : tie.Need-returns
+own-text c =
+    let a = c .before .before .before .before .before .before .before .args in
+    let own = plain-own (c .before .before .before .before .before .spelled .ensures .1) (c .before .before .before .found .given .1) in
+    rw (same-size (c .text-len .ensures .0) (c .before .part .ensures) own) (text-of (a .s .now) (a .self .at) elementSize (sym (c .before .before .before .before .before .spelled .ensures .0) ∙ ap textRead (c .before .before .before .found .given .1)))
+
+pub element-spec : {M : Type 1} → statement M
+element-spec =
+    tie.close
+    (tie.spec
+    (λ c κs. search needs)
+    (λ c. search needs)
+    (λ c κs. search needs)
+    (λ c κs. search needs)
+    (λ c. search needs)
+    (λ c κs. search needs)
+    (λ c. search needs)
+    own-text
+    (λ c.
+    let a = c .before .before .before .before .before .before .args in
+    rw (c .element-len .ensures) (text-of (a .s .now) (a .self .at) elementSize (sym (c .before .before .before .before .spelled .ensures .0) ∙ ap textRead (c .before .before .found2 .given .1))))
+    (λ c. let a = c .before .before .before .before .before .args in no-text (a .s .now) (a .self .at) elementSize (sym (c .before .before .before .spelled .ensures .0) ∙ ap textRead (c .before .found3 .given .1))))

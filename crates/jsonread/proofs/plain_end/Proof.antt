@@ -1,0 +1,25 @@
+-- `plain_end` passes 64 digits at once, or plain bytes one by one.
+-- Digits are plain.
+use native.Mathlib.Omega.{arith}
+use borrow.Author.Needs.{needs}
+use mathlib.Core.Path.{ap, _∙_}
+use Rattle.hex.specs.Hex.{allDigits}
+use Rattle.jsontext.proofs.Fits.{byte-positive}
+use Rattle.jsonread.proofs.Plain.{plain-digits}
+use Rattle.jsonread.proofs.plain_end.Statement.{statement}
+use Rattle.jsonread.proofs.plain_end.Tie as tie
+
+pub plain-end-spec : {M : Type 1} → statement M
+plain-end-spec =
+    tie.close
+    (tie.spec
+    (λ c. omega arith)
+    (λ c κs. search needs)
+    (λ c κs. search needs)
+    (λ c κs. search needs)
+    (λ c.
+    let a = c .before .before .before .before .before .before .args in
+    plain-digits (a .s .now) (a .at) (byte-positive (a .s .now) _ _ 0x22 (c .before .before .before .before .byte-at .ensures) (c .before .before .before .if1 .taken) (omega arith))
+    (c .before .all-digits .ensures ∙ ap allDigits (c .before .before .part .ensures)) (c .if2 .taken))
+    (λ c κs. search needs)
+    (λ c. c .pass-plain .ensures))

@@ -1,0 +1,88 @@
+-- What the second pass writes from the places that the first pass found. Total: a refusal ends it. Assumes nothing.
+use Prim.Native.Nat.{ℕ, zero, suc, _+_}
+use mathlib.Core.List.{List, [], _++_}
+use lib.ListN.{length, take, drop}
+use lib.Dec.{ltb, eqb}
+use Rattle.scan.specs.Choice.{pick}
+use Rattle.scan.specs.Place.{byteAt}
+use Rattle.varint.specs.Uleb.{uleb}
+use Rattle.hex.specs.Hex.{unhex}
+use Rattle.notepack.specs.Strict.{packElement}
+use Rattle.strict.specs.Copy.{orElse}
+use Rattle.jsontext.specs.declared.Spelled.{Spelled}
+use Rattle.jsontext.specs.Token.{spaceAt}
+use Rattle.jsontext.specs.Text.{stringAt}
+use Rattle.json.specs.Field.{textOf}
+use Rattle.jsonread.specs.declared.Spot.{Spot}
+use Rattle.jsonread.specs.declared.Fields.{Fields}
+
+-- behind the byte at a place and white space; the end stays
+unfoldable pub behindAt : List ℕ → ℕ → ℕ
+behindAt s at = pick (ltb at (length s)) (spaceAt s (at + 1)) at
+
+-- behind a string that ends at a place: white space, a comma or a bracket, and white space
+unfoldable pub nextAt : List ℕ → ℕ → ℕ
+nextAt s at = behindAt s (spaceAt s at)
+
+-- behind the text at a place; 0 where none is read
+unfoldable pub textEnd : List ℕ → ℕ → ℕ
+textEnd s at = orElse 0 (stringAt s at) λ r. r .next
+
+-- how many texts stand from a place on, up to a limit: each but the last has a comma behind it
+unfoldable pub countTexts : ℕ → List ℕ → ℕ → ℕ
+countTexts zero s at = 0
+countTexts (suc left) s at =
+    orElse 0 (stringAt s at) λ r.
+    suc (pick (eqb (byteAt s (spaceAt s (r .next))) 0x2C) (countTexts left s (nextAt s (r .next))) 0)
+
+-- n texts as strict elements, and the place behind what closes them
+unfoldable pub textsText : ℕ → List ℕ → ℕ → List ℕ
+textsText zero s at = []
+textsText (suc n) s at = orElse [] (stringAt s at) λ r. packElement (textOf s (r .value)) ++ textsText n s (nextAt s (r .next))
+
+unfoldable pub textsEnd : ℕ → List ℕ → ℕ → ℕ
+textsEnd zero s at = at
+textsEnd (suc n) s at = orElse at (stringAt s at) λ r. textsEnd n s (nextAt s (r .next))
+
+-- n tags: the first text of each stands behind its bracket
+unfoldable pub tagText : List ℕ → ℕ → List ℕ
+tagText s first = uleb (countTexts 255 s first) ++ textsText (countTexts 255 s first) s first
+
+unfoldable pub tagsText : ℕ → List ℕ → ℕ → List ℕ
+tagsText zero s at = []
+tagsText (suc n) s at =
+    tagText s (behindAt s at) ++ tagsText n s (behindAt s (textsEnd (countTexts 255 s (behindAt s at)) s (behindAt s at)))
+
+-- the bytes of a string between its quotes
+abbrev pub partOf : Spot → Spelled
+partOf p = record { from = p .from; count = p .count }
+
+-- the content: where it is as long as it is spelled, its bytes as they are
+unfoldable pub contentText : List ℕ → Spot → List ℕ
+contentText s p = pick (eqb (p .number) (p .count)) (take (p .count) (drop (p .from) s)) (textOf s (partOf p))
+
+-- a field by its number
+unfoldable pub spotText : ℕ → List ℕ → Spot → List ℕ
+spotText k s p =
+    pick (eqb k 0) (unhex (textOf s (partOf p)))
+    (pick (eqb k 1) (unhex (textOf s (partOf p)))
+    (pick (eqb k 2) (unhex (textOf s (partOf p)))
+    (pick (eqb k 3) (uleb (p .number))
+    (pick (eqb k 4) (uleb (p .number))
+    (pick (eqb k 5) (uleb (p .number) ++ tagsText (p .number) s (p .from))
+    (pick (eqb k 6) (uleb (p .number) ++ contentText s p) []))))))
+
+-- the seven fields, in the order of the strict form
+unfoldable pub fieldsText : List ℕ → Fields → List ℕ
+fieldsText s f =
+    spotText 0 s (f .id)
+    ++ spotText 1 s (f .pubkey)
+    ++ spotText 2 s (f .sig)
+    ++ spotText 3 s (f .«created_at»)
+    ++ spotText 4 s (f .kind)
+    ++ spotText 6 s (f .content)
+    ++ spotText 5 s (f .tags)
+
+-- their length as it was measured
+unfoldable pub measured : Fields → ℕ
+measured f = f .id .len + f .pubkey .len + f .sig .len + f .«created_at» .len + f .kind .len + f .content .len + f .tags .len

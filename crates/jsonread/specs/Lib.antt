@@ -1,0 +1,4 @@
+pub mod Size
+pub mod Copy
+pub mod Found
+pub mod Answers
