@@ -1,0 +1,5 @@
+pub mod Texts
+pub mod Spelled
+pub mod Tree
+pub mod Written
+pub mod Means
