@@ -3,3 +3,5 @@ pub mod Spelled
 pub mod Tree
 pub mod Written
 pub mod Means
+pub mod Entries
+pub mod Agree
