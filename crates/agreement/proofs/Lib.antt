@@ -5,3 +5,5 @@ pub mod Written
 pub mod Means
 pub mod Entries
 pub mod Agree
+pub mod Numbers
+pub mod Room
