@@ -7,3 +7,4 @@ pub mod Entries
 pub mod Agree
 pub mod Numbers
 pub mod Room
+pub mod Writer
