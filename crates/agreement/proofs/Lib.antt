@@ -8,3 +8,6 @@ pub mod Agree
 pub mod Numbers
 pub mod Room
 pub mod Writer
+pub mod OneField
+pub mod Counts
+pub mod Demand
