@@ -2,6 +2,7 @@
 -- Each sentence by its own law.
 use Rattle.agreement.specs.Demand.{Demand3}
 use Rattle.agreement.proofs.Agree.{never-two, both-accept}
+use Rattle.agreement.proofs.Ignored.{field-ignored}
 use Rattle.agreement.proofs.Room.{given-room, same-need, need-enough}
 use Rattle.agreement.proofs.Counts.{no-lie, counts-followed}
 use Rattle.agreement.proofs.Writer.{writer-writes, or-nothing, writer-refusals, read-back}
@@ -12,6 +13,7 @@ demand-3 =
     record {
       never-two = never-two;
       both-accept = both-accept;
+      field-ignored = field-ignored;
       given-room = given-room;
       same-need = same-need;
       need-enough = need-enough;

@@ -5,7 +5,9 @@ pub mod Written
 pub mod Means
 pub mod Entries
 pub mod Agree
+pub mod Ignored
 pub mod Numbers
+pub mod NumbersWhole
 pub mod Room
 pub mod Writer
 pub mod OneField

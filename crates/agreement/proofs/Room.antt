@@ -7,13 +7,14 @@ use native.Mathlib.Omega.{arith}
 use lib.ListN.{length}
 use Rattle.scan.specs.Choice.{shown, refused}
 use Rattle.store.specs.Entry.{writes}
+use Rattle.event.specs.Event.{Event}
 use Rattle.notepack.specs.Strict.{pack}
 use Rattle.json.specs.Object.{readJson}
 use Rattle.nson.specs.Read.{readNson}
-use Rattle.agreement.specs.Demand.{SameShown, GivenRoom, SameNeed, NeedEnough}
+use Rattle.agreement.specs.Demand.{GivenRoom, OnlyRoom, had, SameNeed, NeedEnough}
 use Rattle.agreement.proofs.Entries.{wrote, lacked, fits, lacks, left}
 use Rattle.agreement.proofs.Agree.{both-accept}
-use Rattle.agreement.proofs.Numbers.{nson-not-11}
+use Rattle.agreement.proofs.NumbersWhole.{nson-not-11}
 
 pub given-room : GivenRoom
 given-room s d₁ d₂ n r h =
@@ -32,18 +33,21 @@ given-room s d₁ d₂ n r h =
       bytes-event = bytes;
     }
 
+-- the event, where the NSON reader lacks nothing but room
+needed : {s : List ℕ} {n : ℕ} → OnlyRoom s n → (e : Event) × (readNson s ≡ shown e) × (length (pack e) ≡ n)
+needed {s} {n} (had d r) = let f = wrote pack (readNson s) d n r in (f .value, f .reads, f .long)
+needed {s} {n} (OnlyRoom.lacked d r) = let f = lacked pack d n (nson-not-11 s) r in (f .value, f .reads, f .long)
+
 pub same-need : SameNeed
-same-need s d₁ d₂ n r h =
-    let f = lacked pack d₁ n (nson-not-11 s) r in
-    let e = f .value in
-    let long : length (pack e) ≡ n = f .long in
-    let k : length d₂ < length (pack e) = omega arith in
-    (rw long at (lacks pack d₂ (f .reads) k .0), rw long at (lacks pack d₂ (both-accept s e (f .reads)) k .0))
+same-need s n o d h =
+    let f = needed o in
+    let long : length (pack (f .0)) ≡ n = f .2 in
+    let k : length d < length (pack (f .0)) = omega arith in
+    (rw long at (lacks pack d (f .1) k .0), rw long at (lacks pack d (both-accept s (f .0) (f .1)) k .0))
 
 pub need-enough : NeedEnough
-need-enough s d₁ d₂ n r h =
-    let f = lacked pack d₁ n (nson-not-11 s) r in
-    let e = f .value in
-    let long : length (pack e) ≡ n = f .long in
-    let k : length (pack e) ≤ length d₂ = omega arith in
-    (rw long at (fits pack d₂ (f .reads) k .0), rw long at (fits pack d₂ (both-accept s e (f .reads)) k .0))
+need-enough s n o d h =
+    let f = needed o in
+    let long : length (pack (f .0)) ≡ n = f .2 in
+    let k : length (pack (f .0)) ≤ length d = omega arith in
+    (rw long at (fits pack d (f .1) k .0), rw long at (fits pack d (both-accept s (f .0) (f .1)) k .0))

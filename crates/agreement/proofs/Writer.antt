@@ -23,7 +23,8 @@ use Rattle.nson.specs.Read.{readNson}
 use Rattle.nson.proofs.Pieces.{pick-shown, after, shown-same}
 use Rattle.nson.proofs.Complete as complete
 use Rattle.nson.proofs.Decision.{carries-exactly}
-use Rattle.agreement.specs.Demand.{carried, nsonWrites, writerLeaves, Writable, Writes, WriterWrites, Refused, is-refused, OrNothing, WriterRefusals, ShowsAgain, ReadBack}
+use Rattle.agreement.specs.Entries.{carried, nsonWrites, writerLeaves}
+use Rattle.agreement.specs.Demand.{Writable, Writes, WriterWrites, Refused, is-refused, OrNothing, WriterRefusals, ShowsAgain, ReadBack}
 use Rattle.agreement.proofs.Entries.{wrote, fits, lacks, left}
 use Rattle.agreement.proofs.Agree.{json-back}
 
@@ -95,4 +96,12 @@ read-back s d d₂ e n bytes u r =
     let t : take n (writerLeaves s d) ≡ nson e = left nson d n (f .reads) (f .long) (f .room) ∙ ap nson same in
     let p = complete.read-back k v in
     let q = json-back k v in
-    rw t record { nson-shows = p; json-shows = q; nson-accepts = λ h. fits pack d₂ p h .0; json-accepts = λ h. fits pack d₂ q h .0 }
+    rw t
+    record {
+      nson-shows = p;
+      json-shows = q;
+      nson-accepts = λ h. fits pack d₂ p h .0;
+      json-accepts = λ h. fits pack d₂ q h .0;
+      nson-bytes = λ h. left pack d₂ (length (pack e)) p refl h;
+      json-bytes = λ h. left pack d₂ (length (pack e)) q refl h;
+    }

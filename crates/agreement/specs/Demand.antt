@@ -3,44 +3,18 @@ use Prim.Native.Nat.{ℕ, _<_, _≤_}
 use mathlib.Core.Path.{_≡_}
 use mathlib.Core.List.{List, _++_}
 use lib.ListN.{length, take, drop}
-use Rattle.scan.specs.Choice.{pick, Answer, shown, refused, read, andThen}
+use Rattle.scan.specs.Choice.{Answer, shown, refused, read}
 use Rattle.scan.specs.Span.{IsBytes}
-use Rattle.store.specs.Entry.{writes, leaves}
 use Rattle.event.specs.Event.{Event}
 use Rattle.jsontext.specs.Grammar as json
 use Rattle.notepack.specs.Unpack.{unpack}
 use Rattle.notepack.specs.Strict.{pack}
 use Rattle.json.specs.Object.{readJson}
 use Rattle.nson.specs.Nson.{Counts, nson}
-use Rattle.nson.specs.Carries.{Carries, carries}
+use Rattle.nson.specs.Carries.{Carries}
 use Rattle.nson.specs.Read.{byteHere, countsAt, readNson}
-use Rattle.agreement.specs.Counted.{TrueCounts, FieldHolds}
-
--- ---- the three entries, as their contracts have them: s is the input, d the lent buffer. An answer is the length written, or a refusal.
-
--- the NSON reader: its answer, and what it leaves in d
-abbrev pub nsonReads : List ℕ → List ℕ → Answer ℕ
-nsonReads s d = writes pack (readNson s) d
-
-abbrev pub nsonLeaves : List ℕ → List ℕ → List ℕ
-nsonLeaves s d = leaves pack (readNson s) d
-
--- the plain JSON reader
-abbrev pub jsonReads : List ℕ → List ℕ → Answer ℕ
-jsonReads s d = writes pack (readJson s) d
-
-abbrev pub jsonLeaves : List ℕ → List ℕ → List ℕ
-jsonLeaves s d = leaves pack (readJson s) d
-
--- the NSON writer: the event that was unpacked, if NSON can carry it, and else refusal 17
-abbrev pub carried : Answer Event → Answer Event
-carried a = andThen a λ e. pick (carries e) (shown e) (refused 17 0)
-
-abbrev pub nsonWrites : List ℕ → List ℕ → Answer ℕ
-nsonWrites s d = writes nson (carried (unpack s)) d
-
-abbrev pub writerLeaves : List ℕ → List ℕ → List ℕ
-writerLeaves s d = leaves nson (carried (unpack s)) d
+use Rattle.agreement.specs.Entries.{nsonReads, nsonLeaves, jsonReads, jsonLeaves, nsonWrites, writerLeaves}
+use Rattle.agreement.specs.Counted.{OtherField, TrueCounts, FieldHolds}
 
 -- ---- the readers
 
@@ -52,6 +26,12 @@ NeverTwo = (s : List ℕ) (a b : Event) → readNson s ≡ shown a → readJson 
 -- what either is lent does not matter here
 abbrev pub BothAccept : Type 0
 BothAccept = (s : List ℕ) (e : Event) → readNson s ≡ shown e → readJson s ≡ shown e
+
+-- "the plain JSON reader, which ignores that field": another value in the nson field, and it shows the same event
+abbrev pub FieldIgnored : Type 0
+FieldIgnored =
+    (s t : List ℕ) (m k : json.Members) (e : Event) → json.Text (json.object m) s → json.Text (json.object k) t → OtherField m k → length t ≤ 65_536
+    → readJson s ≡ shown e → readJson t ≡ shown e
 
 -- "given room. Both then show the same event: the same length written and the same bytes."
 -- "[they] show the event whose strict form they leave" (document 01)
@@ -68,16 +48,18 @@ pub record SameShown (s d₁ d₂ : List ℕ) (n : ℕ) : Type 0 where
 abbrev pub GivenRoom : Type 0
 GivenRoom = (s d₁ d₂ : List ℕ) (n : ℕ) → nsonReads s d₁ ≡ shown n → n ≤ length d₂ → SameShown s d₁ d₂ n
 
--- "Where the NSON reader lacks nothing but room, either reader, lent too little, names the same length needed":
--- it was lent d₁ and answered 11; d₂ is anything shorter than the length that it named
-abbrev pub SameNeed : Type 0
-SameNeed =
-    (s d₁ d₂ : List ℕ) (n : ℕ) → nsonReads s d₁ ≡ refused 11 n → length d₂ < n → (nsonReads s d₂ ≡ refused 11 n) × (jsonReads s d₂ ≡ refused 11 n)
+-- "Where the NSON reader lacks nothing but room": lent d it wrote n bytes, or refused with 11 and named n
+pub data OnlyRoom (s : List ℕ) (n : ℕ) : Type 0 where
+  had : (d : List ℕ) → nsonReads s d ≡ shown n → OnlyRoom s n
+  lacked : (d : List ℕ) → nsonReads s d ≡ refused 11 n → OnlyRoom s n
 
--- and that length is enough for both
+-- "either reader, lent too little, names the same length needed", whatever it was lent
+abbrev pub SameNeed : Type 0
+SameNeed = (s : List ℕ) (n : ℕ) → OnlyRoom s n → (d : List ℕ) → length d < n → (nsonReads s d ≡ refused 11 n) × (jsonReads s d ≡ refused 11 n)
+
+-- and that length is enough for either
 abbrev pub NeedEnough : Type 0
-NeedEnough =
-    (s d₁ d₂ : List ℕ) (n : ℕ) → nsonReads s d₁ ≡ refused 11 n → n ≤ length d₂ → (nsonReads s d₂ ≡ shown n) × (jsonReads s d₂ ≡ shown n)
+NeedEnough = (s : List ℕ) (n : ℕ) → OnlyRoom s n → (d : List ℕ) → n ≤ length d → (nsonReads s d ≡ shown n) × (jsonReads s d ≡ shown n)
 
 -- ---- the counts
 
@@ -142,6 +124,8 @@ pub record ShowsAgain (t d₂ : List ℕ) (e : Event) : Type 0 where
   pub json-shows : readJson t ≡ shown e
   pub nson-accepts : length (pack e) ≤ length d₂ → nsonReads t d₂ ≡ shown (length (pack e))
   pub json-accepts : length (pack e) ≤ length d₂ → jsonReads t d₂ ≡ shown (length (pack e))
+  pub nson-bytes : length (pack e) ≤ length d₂ → take (length (pack e)) (nsonLeaves t d₂) ≡ pack e
+  pub json-bytes : length (pack e) ≤ length d₂ → take (length (pack e)) (jsonLeaves t d₂) ≡ pack e
 
 abbrev pub ReadBack : Type 0
 ReadBack =
@@ -152,6 +136,7 @@ ReadBack =
 pub record Demand3 : Type 0 where
   pub never-two : NeverTwo
   pub both-accept : BothAccept
+  pub field-ignored : FieldIgnored
   pub given-room : GivenRoom
   pub same-need : SameNeed
   pub need-enough : NeedEnough

@@ -1,2 +1,3 @@
+pub mod Entries
 pub mod Counted
 pub mod Demand
