@@ -1,0 +1,15 @@
+pub mod Texts
+pub mod Spelled
+pub mod Tree
+pub mod Written
+pub mod Means
+pub mod Entries
+pub mod Agree
+pub mod Ignored
+pub mod Numbers
+pub mod NumbersWhole
+pub mod Room
+pub mod Writer
+pub mod OneField
+pub mod Counts
+pub mod Demand

@@ -1,0 +1,77 @@
+-- The tree of NSON's text is the event.
+-- Each of the seven names stands once, which is found by computation; each value says what was spelled.
+use Prim.Native.Nat.{ℕ}
+use mathlib.Core.Path.{_≡_, refl, subst}
+use mathlib.Core.List.{List, [], _∷_, map}
+use native.Mathlib.Omega.{arith}
+use Rattle.scan.specs.Span.{All, none, also, IsBytes}
+use Rattle.utf8.specs.Utf8.{Utf8}
+use Rattle.hex.specs.Hex.{hexes}
+use Rattle.decimal.specs.Decimal.{decimal, numberOf}
+use Rattle.decimal.proofs.Spelling.{number-decimal}
+use Rattle.escape.specs.Escape.{nsonByte, escaped}
+use Rattle.event.specs.Event.{Text, Tag, Event, ValidTag, Valid, sameText}
+use Rattle.jsontext.specs.Grammar as json
+use Rattle.jsontext.specs.Escape.{unescaped, unescape}
+use Rattle.jsontext.proofs.Meaning.{unescape-chars}
+use Rattle.json.specs.Meaning.{valuesOf, names, IsText, is-text, IsHex, is-hex, IsNumber, is-number, Each, IsArray, is-array, IsTag, Once, once, Says, OneOf, first, later, Shallow, no-member, known, ignored, IsEvent, is-event}
+use Rattle.nson.specs.Nson.{counts, field}
+use Rattle.nson.specs.Carries.{Fits, Carries}
+use Rattle.agreement.proofs.Texts.{hexes-chars, nson-chars, decimal-json}
+use Rattle.agreement.proofs.Spelled.{items}
+use Rattle.agreement.proofs.Tree.{textTree, tagTree, tagsTree, members, tree}
+
+-- ---- values
+
+hex-is : {b : List ℕ} → IsBytes b → IsHex (json.string (hexes b)) b
+hex-is h = is-hex (unescape-chars (hexes-chars h))
+
+number-is : (n : ℕ) → IsNumber (json.number (decimal n)) n
+number-is n = subst (IsNumber (json.number (decimal n))) (number-decimal n) (is-number (decimal-json n))
+
+text-is : {t : Text} → Fits t → Utf8 t → IsText (textTree t) t
+text-is {t} f u = subst (IsText (textTree t)) (unescape-chars (nson-chars u (f .plain))) is-text
+
+-- a spelled array, item by item
+module _ {A : Type 0} (Is : json.Json → A → Type 0) (f : A → json.Json) where
+  each-is : {l : List A} → All (λ (x : A). Is (f x) x) l → Each Is (items (map f l)) l
+  each-is none = Each.none
+  each-is (also g r) = Each.also g (each-is r)
+
+texts-are : {t : Tag} → All Fits t → All Utf8 t → All (λ (x : Text). IsText (textTree x) x) t
+texts-are none none = none
+texts-are (also f p) (also u q) = also (text-is f u) (texts-are p q)
+
+tags-are : {l : List Tag} → All (All Fits) l → All ValidTag l → All (λ (t : Tag). IsTag (tagTree t) t) l
+tags-are none none = none
+tags-are (also f p) (also v q) = also (is-array (each-is IsText textTree (texts-are f (v .texts)))) (tags-are p q)
+
+-- ---- members
+
+says : {e : Event} → Carries e → Valid e → Says (members e) e
+unfolding valuesOf sameText unescape unescaped
+says {e} c v =
+    record {
+      id = once refl (hex-is (v .id32 .each));
+      pubkey = once refl (hex-is (v .pubkey32 .each));
+      sig = once refl (hex-is (v .sig64 .each));
+      createdAt = once refl (number-is (e .createdAt));
+      kind = once refl (number-is (e .kind));
+      tags = once refl (is-array (each-is IsTag tagTree (tags-are (c .texts) (v .each))));
+      content = once refl (text-is (c .content) (v .text));
+    }
+
+-- the one name that is ignored has a string
+shallow : (e : Event) → Shallow (members e)
+unfolding unescape unescaped
+shallow e =
+    known first
+    (known (later first)
+    (known (later (later first))
+    (known (later (later (later first)))
+    (ignored {v = json.string (field (counts e))} (omega arith)
+    (known (later (later (later (later first)))) (known (later (later (later (later (later (later first)))))) (known (later (later (later (later (later first))))) no-member)))))))
+
+-- THE meaning: the tree of an event's text is the event
+pub tree-event : {e : Event} → Carries e → Valid e → IsEvent (tree e) e
+tree-event {e} c v = is-event (says c v) v (shallow e)

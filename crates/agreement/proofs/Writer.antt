@@ -1,0 +1,107 @@
+-- Demand 3's sentences on the NSON writer: it writes the event's text exactly if NSON can carry it and there is room, and both readers show the event again.
+-- By the cases of the reading, of what can be carried, and of room.
+use Prim.Native.Nat.{ℕ, _<_, _≤_}
+use mathlib.Core.Path.{_≡_, refl, sym, ap, _∙_}
+use mathlib.Core.Bool.{Bool, true, false}
+use mathlib.Core.List.{List, _++_}
+use mathlib.Core.Logic.{dite}
+use native.Mathlib.Omega.{arith}
+use native.Mathlib.Decide.{decLe}
+use lib.ListN.{length, take, drop}
+use Rattle.scan.specs.Choice.{pick, Answer, shown, refused}
+use Rattle.scan.specs.Span.{IsBytes}
+use Rattle.scan.proofs.Step.{false-true}
+use Rattle.store.specs.Entry.{writes, leaves}
+use Rattle.event.specs.Event.{Event}
+use Rattle.notepack.specs.Unpack.{unpack}
+use Rattle.notepack.specs.Strict.{pack}
+use Rattle.notepack.proofs.Sound as packed
+use Rattle.json.specs.Object.{readJson}
+use Rattle.nson.specs.Nson.{nson}
+use Rattle.nson.specs.Carries.{Carries, carries}
+use Rattle.nson.specs.Read.{readNson}
+use Rattle.nson.proofs.Pieces.{pick-shown, after, shown-same}
+use Rattle.nson.proofs.Complete as complete
+use Rattle.nson.proofs.Decision.{carries-exactly}
+use Rattle.agreement.specs.Entries.{carried, nsonWrites, writerLeaves}
+use Rattle.agreement.specs.Demand.{Writable, Writes, WriterWrites, Refused, is-refused, OrNothing, WriterRefusals, ShowsAgain, ReadBack}
+use Rattle.agreement.proofs.Entries.{wrote, fits, lacks, left}
+use Rattle.agreement.proofs.Agree.{json-back}
+
+-- ---- what the writer has to write
+
+can-carry : {a : Answer Event} {e : Event} → a ≡ shown e → Carries e → carried a ≡ shown e
+can-carry {e = e} u c = rw (u, carries-exactly e .1 c)
+
+carries-no : {e : Event} → (Carries e → ⊥) → carries e ≡ false
+carries-no {e} n = go (carries e) refl
+  where
+    go : (b : Bool) → carries e ≡ b → b ≡ false
+    go true t = absurd (n (carries-exactly e .0 t))
+    go false t = refl
+
+cannot-carry : {a : Answer Event} {e : Event} → a ≡ shown e → (Carries e → ⊥) → carried a ≡ refused 17 0
+cannot-carry u n = rw (u, carries-no n)
+
+not-read : {a : Answer Event} {n p : ℕ} → a ≡ refused n p → carried a ≡ refused n p
+not-read u = rw u
+
+-- what it writes was shown by the notepack reader, and is carried
+was-carried : (a : Answer Event) {e : Event} → carried a ≡ shown e → (a ≡ shown e) × Carries e
+was-carried a {e} h =
+    after a _ e h
+    (λ x p q.
+    let t = pick-shown (carries x) (shown x) 17 0 e q in
+    let f : x ≡ e = shown-same (t .1) in
+    rw (sym f) (p, carries-exactly x .0 (t .0)))
+
+-- ---- the sentences
+
+pub writer-writes : WriterWrites
+writer-writes s d w = let f = fits nson d (can-carry (w .accepted) (w .carries)) (w .room) in record { written = f .0; left = f .1 }
+
+pub writer-refusals : WriterRefusals
+writer-refusals s d = (
+  λ n p u. ap (λ (a : Answer Event). writes nson a d) (not-read u),
+  λ e u n. ap (λ (a : Answer Event). writes nson a d) (cannot-carry u n),
+  λ e u c h. lacks nson d (can-carry u c) h .0,
+)
+
+nothing : {a : Answer Event} {n p : ℕ} (d : List ℕ) → a ≡ refused n p → Refused (writes nson a d) × (leaves nson a d ≡ d)
+nothing d e = rw e (is-refused, refl)
+
+pub or-nothing : OrNothing
+or-nothing s d otherwise = go (unpack s) refl
+  where
+    room : (e : Event) → unpack s ≡ shown e → (b : Bool) → carries e ≡ b → Refused (nsonWrites s d) × (writerLeaves s d ≡ d)
+    room e u true t =
+        let c = carries-exactly e .0 t in
+        dite (decLe (length (nson e)) (length d)) (λ h. absurd (otherwise record { event = e; accepted = u; carries = c; room = h }))
+        (λ h. let l = lacks nson d (can-carry u c) (omega (arith, h)) in (rw (l .0) is-refused, l .1))
+    room e u false t = nothing d (cannot-carry {e = e} u (λ c. false-true (sym t ∙ carries-exactly e .1 c)))
+
+    go : (a : Answer Event) → unpack s ≡ a → Refused (nsonWrites s d) × (writerLeaves s d ≡ d)
+    go (shown e) u = room e u (carries e) refl
+    go (refused n p) u = nothing d (not-read u)
+
+-- both readers show the event that was packed
+pub read-back : ReadBack
+read-back s d d₂ e n bytes u r =
+    let f = wrote nson (carried (unpack s)) d n r in
+    let x = f .value in
+    let c = was-carried (unpack s) (f .reads) in
+    let same : x ≡ e = shown-same (sym (c .0) ∙ u) in
+    let k : Carries e = rw same at (c .1) in
+    let v = packed.sound s bytes e u .valid in
+    let t : take n (writerLeaves s d) ≡ nson e = left nson d n (f .reads) (f .long) (f .room) ∙ ap nson same in
+    let p = complete.read-back k v in
+    let q = json-back k v in
+    rw t
+    record {
+      nson-shows = p;
+      json-shows = q;
+      nson-accepts = λ h. fits pack d₂ p h .0;
+      json-accepts = λ h. fits pack d₂ q h .0;
+      nson-bytes = λ h. left pack d₂ (length (pack e)) p refl h;
+      json-bytes = λ h. left pack d₂ (length (pack e)) q refl h;
+    }

@@ -1,0 +1,42 @@
+-- The true counts of a JSON text (document 01, "NSON", last paragraph): read off RFC 8259's tree alone, with no reader in it. Assumes nothing.
+use Prim.Native.Nat.{ℕ, _+_, _≤_}
+use mathlib.Core.Path.{_≡_}
+use mathlib.Core.List.{List, [], _∷_}
+use lib.ListN.{length}
+use Rattle.event.specs.Event.{Text}
+use Rattle.jsontext.specs.Grammar as json
+use Rattle.jsontext.specs.Escape.{unescape}
+use Rattle.json.specs.Meaning.{kindName, contentName, tagsName, IsHex, IsArray, Once}
+use Rattle.nson.specs.Nson.{Counts, descriptors}
+
+-- nson
+abbrev pub nsonName : Text
+nsonName = 0x6E ∷ 0x73 ∷ 0x6F ∷ 0x6E ∷ []
+
+-- members that differ in the value of the nson field alone; the new one nests at most 16 deep
+pub data OtherField : json.Members → json.Members → Type 0 where
+  ended : OtherField json.no-member json.no-member
+  kept : {n : List ℕ} {v : json.Json} {m k : json.Members} → OtherField m k → OtherField (json.member n v m) (json.member n v k)
+  other : {n : List ℕ} {v w : json.Json} {m k : json.Members} → unescape n ≡ nsonName → json.nesting w ≤ 16 → OtherField m k
+      → OtherField (json.member n v m) (json.member n w k)
+
+-- "strings counted between their quotes as spelled"
+pub data StringOf : json.Json → ℕ → Type 0 where
+  string-of : {l : List ℕ} → StringOf (json.string l) (length l)
+
+-- the characters of a number, as spelled
+pub data NumberOf : json.Json → ℕ → Type 0 where
+  number-of : {l : List ℕ} → NumberOf (json.number l) (length l)
+
+-- "The true counts are those of the input: the hex characters after the size, and the kind, content, tags and items as RFC 8259 finds them in the same bytes"
+pub record TrueCounts (m : json.Members) (size : ℕ) (c : Counts) : Type 0 where
+  -- the hex characters after the two of the size
+  pub behind : Once m nsonName StringOf (2 + size)
+  pub kind : Once m kindName NumberOf (c .kind)
+  pub content : Once m contentName StringOf (c .content)
+  -- so many tags, so many items in each, so many bytes in each item
+  pub tags : Once m tagsName (IsArray (IsArray StringOf)) (c .tags)
+
+-- the nson field holds these: it stands once, and is the hex of the size and of the counts as document 01 lays them out
+abbrev pub FieldHolds : json.Members → ℕ → Counts → Type 0
+FieldHolds m size c = Once m nsonName IsHex (size ∷ descriptors c)

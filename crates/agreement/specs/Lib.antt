@@ -1,0 +1,3 @@
+pub mod Entries
+pub mod Counted
+pub mod Demand
