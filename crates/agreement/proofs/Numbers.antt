@@ -8,14 +8,12 @@ use native.Mathlib.Omega.{arith}
 use lib.ListN.{length}
 use lib.Dec.{ltb, leb, eqb}
 use borrow.Author.Tests.{eqb-false}
-use Rattle.scan.specs.Choice.{pick, Answer, shown, refused, Read, read, andThen, many}
+use Rattle.scan.specs.Choice.{pick, Answer, refused, Read, andThen, many}
 use Rattle.scan.specs.Place.{byteAt, standsAt, within}
 use Rattle.scan.proofs.Step.{pick-by}
 use Rattle.utf8.specs.Width.{widthOf}
 use Rattle.hex.specs.Hex.{allDigits}
-use Rattle.event.specs.Event.{Text, Tag}
 use Rattle.counted.specs.Counted.{isLetter, faultFrom, faultIn}
-use Rattle.nson.specs.Nson.{Counts}
 use Rattle.nson.specs.Read as reading
 use Rattle.agreement.proofs.Entries.{Not11, is-shown, is-other}
 

@@ -1,7 +1,7 @@
 -- The nson field says one size and one set of counts: two that are laid out in the same hex characters are the same.
 -- Each hex digit tells its four bits, each two bytes their number, each number of items where a tag ends.
-use Prim.Native.Nat.{ℕ, _+_, _/_, _%_, _<_}
-use mathlib.Core.Path.{_≡_, refl, ap}
+use Prim.Native.Nat.{ℕ, _/_, _%_}
+use mathlib.Core.Path.{_≡_, refl}
 use mathlib.Core.List.{List, [], _∷_, _++_}
 use mathlib.Core.Logic.{dite}
 use native.Mathlib.Omega.{arith}

@@ -1,9 +1,9 @@
 -- How the pieces of NSON's text are spelled in RFC 8259's grammar: hex digits, names, escaped texts and numbers.
 -- Each byte is a character that stands for itself, or an escape that the grammar has; a number is its digits.
 use Prim.Native.Nat.{ℕ, _<_, _≤_}
-use mathlib.Core.Path.{_≡_, refl, sym, subst}
+use mathlib.Core.Path.{_≡_, subst}
 use mathlib.Core.Bool.{Bool, true, false}
-use mathlib.Core.List.{List, [], _∷_, _++_, append-nil}
+use mathlib.Core.List.{List, [], _∷_, append-nil}
 use mathlib.Core.Logic.{dite}
 use native.Mathlib.Omega.{arith}
 use native.Mathlib.Decide.{decLt, ℕ-discrete}
