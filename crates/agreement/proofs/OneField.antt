@@ -22,7 +22,7 @@ tails e = cc
 none-some : {A : Type 0} {R : Type 0} {a : A} {l : List A} → [] ≡ a ∷ l → R
 none-some e = let z : _≡_ {A = ℕ} 0 1 = cc in absurd (omega arith)
 
--- ---- general: these two belong to crate hex
+-- ---- hex digits. General: these two belong to crate hex
 
 digit-one : (v w : ℕ) → digitOf v ≡ digitOf w → v ≡ w
 digit-one v w =
@@ -45,7 +45,7 @@ hexes-one (a ∷ l) (b ∷ m) e =
     let n : a ≡ b = omega arith in
     cc
 
--- ---- the descriptors
+-- ---- the descriptors. General: belongs to crate nson
 
 words-one : (t u x y : List ℕ) → length t ≡ length u → words t ++ x ≡ words u ++ y → (t ≡ u) × (x ≡ y)
 words-one [] [] x y h e = (refl, e)

@@ -24,7 +24,7 @@ comma a b = a ++ (0x2C ∷ b)
 abbrev pub braces : List ℕ → List ℕ
 braces l = 0x7B ∷ (l ++ (0x7D ∷ []))
 
--- ---- objects
+-- ---- objects. General: these and the arrays belong to crate jsontext
 
 bare : (b : ℕ) → json.Separator b (b ∷ [])
 bare b = json.separator {w = []} {x = []} none none

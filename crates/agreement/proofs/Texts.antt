@@ -26,7 +26,7 @@ use Rattle.escape.proofs.TextLaws.{escaped-none, escaped-more}
 use Rattle.jsontext.specs.Grammar as json
 use Rattle.jsontext.proofs.Meaning.{Written, high, ascii, lettered, escaped-chars}
 
--- ---- characters that stand for themselves
+-- ---- characters that stand for themselves. General: belongs to crate jsontext
 
 one-char : {b : ℕ} {l : List ℕ} → json.Unescaped (b ∷ []) → json.Chars l l → json.Chars (b ∷ l) (b ∷ l)
 one-char {b} g r = json.char {c = b ∷ []} {t = b ∷ []} (json.unescaped g) r

@@ -23,7 +23,7 @@ use Rattle.agreement.proofs.Texts.{hexes-chars, name-chars, nson-chars,
 use Rattle.agreement.proofs.Spelled.{string-spells, member-spells, more-members, object-text, Spelt, array-spells}
 use Rattle.agreement.proofs.Tree.{textTree, tagTree, tagsTree, members, tree, front, back, nson-members}
 
--- ---- the bytes of the nson field
+-- ---- the bytes of the nson field. General: belongs to crate nson
 
 word-bytes : (n : ℕ) → n ≤ 65_535 → IsBytes (word n)
 word-bytes n h = also {b = n / 256} (omega arith) (also {b = n % 256} (omega arith) none)
