@@ -1,15 +1,12 @@
 -- What the NSON reader accepts, the plain JSON reader accepts as the same event.
 -- An accepted string is the writer's own text, whose tree is the event; the JSON reader shows what the tree is.
-use mathlib.Core.Path.{_≡_, sym, ap, _∙_}
-use mathlib.Core.List.{List}
-use Prim.Native.Nat.{ℕ}
+use mathlib.Core.Path.{_≡_, sym, _∙_}
 use Rattle.scan.specs.Choice.{shown}
 use Rattle.event.specs.Event.{Event, Valid}
 use Rattle.json.specs.Object.{readJson}
 use Rattle.json.proofs.Whole.{complete}
 use Rattle.nson.specs.Nson.{nson}
 use Rattle.nson.specs.Carries.{Carries}
-use Rattle.nson.specs.Read.{readNson}
 use Rattle.nson.proofs.Pieces.{shown-same}
 use Rattle.nson.proofs.Sound.{accepted}
 use Rattle.agreement.specs.Demand.{NeverTwo, BothAccept}

@@ -1,26 +1,25 @@
 -- The NSON reader accepts no string whose nson field holds a count that lies.
 -- An accepted string is the writer's own text, so its tree is the event's; the field says one size and one set of counts, the event's.
 use Prim.Native.Nat.{ℕ, _+_, _*_}
-use mathlib.Core.Path.{_≡_, refl, sym, ap, _∙_, subst}
+use mathlib.Core.Path.{_≡_, refl, sym, _∙_, subst}
 use mathlib.Core.List.{List, [], _∷_, map}
 use native.Mathlib.Omega.{arith}
 use lib.ListN.{length}
 use Rattle.scan.specs.Choice.{shown}
 use Rattle.hex.specs.Hex.{hexes}
 use Rattle.hex.proofs.Texts.{length-hexes}
-use Rattle.escape.specs.Escape.{nsonByte, escaped}
 use Rattle.event.specs.Event.{Text, Tag, Event, Valid, sameText}
 use Rattle.jsontext.specs.Grammar as json
 use Rattle.jsontext.specs.Escape.{unescaped, unescape}
 use Rattle.jsontext.proofs.Meaning.{unescape-chars}
-use Rattle.json.specs.Meaning.{valuesOf, IsHex, is-hex, Each, IsArray, is-array, Once, once}
+use Rattle.json.specs.Meaning.{valuesOf, IsHex, is-hex, Each, IsArray, is-array, once}
 use Rattle.json.proofs.OneEvent.{one-value}
 use Rattle.nson.specs.Nson.{Counts, bytesIn, counts, descriptors, field}
 use Rattle.nson.specs.Carries.{Carries}
 use Rattle.nson.specs.Read.{readNson}
 use Rattle.nson.proofs.Sound.{accepted, field-true, size-true}
-use Rattle.agreement.specs.Counted.{nsonName, StringOf, string-of, NumberOf, number-of, TrueCounts, FieldHolds}
-use Rattle.agreement.specs.Demand.{NoLie, Followed, CountsFollowed}
+use Rattle.agreement.specs.Counted.{nsonName, StringOf, string-of, number-of, TrueCounts, FieldHolds}
+use Rattle.agreement.specs.Demand.{NoLie, CountsFollowed}
 use Rattle.agreement.proofs.Spelled.{items}
 use Rattle.agreement.proofs.Tree.{textTree, tagTree, members, tree}
 use Rattle.agreement.proofs.Written.{field-chars, tree-text}

@@ -12,7 +12,7 @@ use borrow.Author.Tests.{leb-true, leb-false, le-leb, lt-leb}
 use Rattle.scan.specs.Choice.{pick, Answer, shown, refused}
 use Rattle.store.specs.Entry.{written, filled, writes, leaves}
 
--- general: these belong to crate store
+-- ---- general: all of these belong to crate store
 
 -- a value was read, and its text fitted
 pub record Fitted {A : Type 0} (text : A → List ℕ) (a : Answer A) (d : List ℕ) (n : ℕ) : Type 0 where

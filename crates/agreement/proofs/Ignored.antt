@@ -1,12 +1,9 @@
 -- The plain JSON reader ignores the nson field: with another value there it shows the same event.
 -- No name of the seven is `nson`, so each name has the same values in both texts.
-use Prim.Native.Nat.{ℕ}
 use mathlib.Core.Path.{_≡_, refl, sym, _∙_}
-use mathlib.Core.Bool.{Bool, false}
-use mathlib.Core.List.{List, [], _∷_}
+use mathlib.Core.Bool.{false}
 use Rattle.event.specs.Event.{Text, Event, sameText}
 use Rattle.jsontext.specs.Grammar as json
-use Rattle.jsontext.specs.Escape.{unescape}
 use Rattle.json.specs.Meaning.{valuesOf, Once, once, Says, Shallow, no-member, known, ignored, IsEvent, is-event}
 use Rattle.json.proofs.Whole.{sound, complete}
 use Rattle.json.proofs.OneEvent.{one-value}

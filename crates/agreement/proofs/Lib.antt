@@ -13,3 +13,4 @@ pub mod Writer
 pub mod OneField
 pub mod Counts
 pub mod Demand
+pub mod Example

@@ -1,25 +1,24 @@
 -- The tree of NSON's text is the event.
 -- Each of the seven names stands once, which is found by computation; each value says what was spelled.
 use Prim.Native.Nat.{ℕ}
-use mathlib.Core.Path.{_≡_, refl, subst}
-use mathlib.Core.List.{List, [], _∷_, map}
+use mathlib.Core.Path.{refl, subst}
+use mathlib.Core.List.{List, map}
 use native.Mathlib.Omega.{arith}
 use Rattle.scan.specs.Span.{All, none, also, IsBytes}
 use Rattle.utf8.specs.Utf8.{Utf8}
 use Rattle.hex.specs.Hex.{hexes}
-use Rattle.decimal.specs.Decimal.{decimal, numberOf}
+use Rattle.decimal.specs.Decimal.{decimal}
 use Rattle.decimal.proofs.Spelling.{number-decimal}
-use Rattle.escape.specs.Escape.{nsonByte, escaped}
 use Rattle.event.specs.Event.{Text, Tag, Event, ValidTag, Valid, sameText}
 use Rattle.jsontext.specs.Grammar as json
 use Rattle.jsontext.specs.Escape.{unescaped, unescape}
 use Rattle.jsontext.proofs.Meaning.{unescape-chars}
-use Rattle.json.specs.Meaning.{valuesOf, names, IsText, is-text, IsHex, is-hex, IsNumber, is-number, Each, IsArray, is-array, IsTag, Once, once, Says, OneOf, first, later, Shallow, no-member, known, ignored, IsEvent, is-event}
+use Rattle.json.specs.Meaning.{valuesOf, IsText, is-text, IsHex, is-hex, IsNumber, is-number, Each, is-array, IsTag, once, Says, first, later, Shallow, no-member, known, ignored, IsEvent, is-event}
 use Rattle.nson.specs.Nson.{counts, field}
 use Rattle.nson.specs.Carries.{Fits, Carries}
 use Rattle.agreement.proofs.Texts.{hexes-chars, nson-chars, decimal-json}
 use Rattle.agreement.proofs.Spelled.{items}
-use Rattle.agreement.proofs.Tree.{textTree, tagTree, tagsTree, members, tree}
+use Rattle.agreement.proofs.Tree.{textTree, tagTree, members, tree}
 
 -- ---- values
 

@@ -8,18 +8,16 @@ use native.Mathlib.Omega.{arith}
 use lib.ListN.{length}
 use lib.Dec.{ltb, leb, eqb}
 use borrow.Author.Tests.{eqb-false}
-use Rattle.scan.specs.Choice.{pick, Answer, shown, refused, Read, read, andThen, many}
+use Rattle.scan.specs.Choice.{pick, Answer, refused, Read, andThen, many}
 use Rattle.scan.specs.Place.{byteAt, standsAt, within}
 use Rattle.scan.proofs.Step.{pick-by}
 use Rattle.utf8.specs.Width.{widthOf}
 use Rattle.hex.specs.Hex.{allDigits}
-use Rattle.event.specs.Event.{Text, Tag}
 use Rattle.counted.specs.Counted.{isLetter, faultFrom, faultIn}
-use Rattle.nson.specs.Nson.{Counts}
 use Rattle.nson.specs.Read as reading
 use Rattle.agreement.proofs.Entries.{Not11, is-shown, is-other}
 
--- ---- the forms of a definition
+-- ---- the forms of a definition. General: these belong to crate scan
 
 pub by-pick : {A : Type 0} (t : Bool) {x y : Answer A} → Not11 x → Not11 y → Not11 (pick t x y)
 by-pick true g h = g
@@ -37,7 +35,7 @@ unfolding many
 by-many item g zero at = is-shown
 by-many item g (suc n) at = by-then _ (g at) (λ x. by-then _ (by-many item g n (x .next)) (λ xs. is-shown))
 
--- ---- faults in a string
+-- ---- faults in a string. General: belongs to crate counted
 
 abbrev Other : ℕ → Type 0
 Other n = n ≡ 11 → ⊥
@@ -56,7 +54,7 @@ fault-from zero (b ∷ l) =
     pick-by Other (eqb b 0x5C) (λ t. pick-by Other (isLetter (byteAt l 0)) (λ t. fault-from 1 l) (λ f e. omega arith))
     (λ f. pick-by Other (eqb w 0) (λ t e. omega arith) (λ f. fault-from (w - 1) l))))
 
--- ---- the pieces
+-- ---- the pieces. General: from here on it belongs to crate nson
 
 pub piece : (n : ℕ) → eqb n 11 ≡ false → (w s : List ℕ) (at : ℕ) → Not11 (reading.pieceAt n w s at)
 unfolding reading.pieceAt

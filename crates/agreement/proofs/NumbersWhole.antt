@@ -12,7 +12,7 @@ use Rattle.nson.specs.Read as reading
 use Rattle.agreement.proofs.Entries.{Not11, is-shown}
 use Rattle.agreement.proofs.Numbers.{by-pick, by-then, number, piece, decimal, text, head, counts}
 
--- ---- the text that is counted
+-- ---- the text that is counted. General: all of it belongs to crate nson
 
 comma : (later : Bool) (s : List ℕ) (at : ℕ) → Not11 (reading.commaAt later s at)
 comma false s at = is-shown

@@ -1,7 +1,7 @@
 -- The nson field says one size and one set of counts: two that are laid out in the same hex characters are the same.
 -- Each hex digit tells its four bits, each two bytes their number, each number of items where a tag ends.
-use Prim.Native.Nat.{ℕ, _+_, _/_, _%_, _<_}
-use mathlib.Core.Path.{_≡_, refl, ap}
+use Prim.Native.Nat.{ℕ, _/_, _%_}
+use mathlib.Core.Path.{_≡_, refl}
 use mathlib.Core.List.{List, [], _∷_, _++_}
 use mathlib.Core.Logic.{dite}
 use native.Mathlib.Omega.{arith}
@@ -22,7 +22,7 @@ tails e = cc
 none-some : {A : Type 0} {R : Type 0} {a : A} {l : List A} → [] ≡ a ∷ l → R
 none-some e = let z : _≡_ {A = ℕ} 0 1 = cc in absurd (omega arith)
 
--- ---- general: these two belong to crate hex
+-- ---- hex digits. General: these two belong to crate hex
 
 digit-one : (v w : ℕ) → digitOf v ≡ digitOf w → v ≡ w
 digit-one v w =
@@ -45,7 +45,7 @@ hexes-one (a ∷ l) (b ∷ m) e =
     let n : a ≡ b = omega arith in
     cc
 
--- ---- the descriptors
+-- ---- the descriptors. General: belongs to crate nson
 
 words-one : (t u x y : List ℕ) → length t ≡ length u → words t ++ x ≡ words u ++ y → (t ≡ u) × (x ≡ y)
 words-one [] [] x y h e = (refl, e)

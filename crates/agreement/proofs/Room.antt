@@ -5,11 +5,9 @@ use mathlib.Core.Path.{_≡_, sym, _∙_}
 use mathlib.Core.List.{List}
 use native.Mathlib.Omega.{arith}
 use lib.ListN.{length}
-use Rattle.scan.specs.Choice.{shown, refused}
-use Rattle.store.specs.Entry.{writes}
+use Rattle.scan.specs.Choice.{shown}
 use Rattle.event.specs.Event.{Event}
 use Rattle.notepack.specs.Strict.{pack}
-use Rattle.json.specs.Object.{readJson}
 use Rattle.nson.specs.Read.{readNson}
 use Rattle.agreement.specs.Demand.{GivenRoom, OnlyRoom, had, SameNeed, NeedEnough}
 use Rattle.agreement.proofs.Entries.{wrote, lacked, fits, lacks, left}

@@ -1,6 +1,6 @@
 -- Objects and arrays without white space, as NSON writes them, are spelled as RFC 8259's grammar has it.
 -- Each production with empty white space; arrays by induction on their items.
-use Prim.Native.Nat.{ℕ, _≤_}
+use Prim.Native.Nat.{ℕ}
 use mathlib.Core.List.{List, [], _∷_, _++_, map}
 use Rattle.scan.specs.Span.{All, none, also}
 use Rattle.tagtext.specs.TagText.{commaed, array}
@@ -24,7 +24,7 @@ comma a b = a ++ (0x2C ∷ b)
 abbrev pub braces : List ℕ → List ℕ
 braces l = 0x7B ∷ (l ++ (0x7D ∷ []))
 
--- ---- objects
+-- ---- objects. General: these and the arrays belong to crate jsontext
 
 bare : (b : ℕ) → json.Separator b (b ∷ [])
 bare b = json.separator {w = []} {x = []} none none

@@ -1,9 +1,9 @@
 -- How the pieces of NSON's text are spelled in RFC 8259's grammar: hex digits, names, escaped texts and numbers.
 -- Each byte is a character that stands for itself, or an escape that the grammar has; a number is its digits.
 use Prim.Native.Nat.{ℕ, _<_, _≤_}
-use mathlib.Core.Path.{_≡_, refl, sym, subst}
+use mathlib.Core.Path.{_≡_, subst}
 use mathlib.Core.Bool.{Bool, true, false}
-use mathlib.Core.List.{List, [], _∷_, _++_, append-nil}
+use mathlib.Core.List.{List, [], _∷_, append-nil}
 use mathlib.Core.Logic.{dite}
 use native.Mathlib.Omega.{arith}
 use native.Mathlib.Decide.{decLt, ℕ-discrete}
@@ -26,7 +26,7 @@ use Rattle.escape.proofs.TextLaws.{escaped-none, escaped-more}
 use Rattle.jsontext.specs.Grammar as json
 use Rattle.jsontext.proofs.Meaning.{Written, high, ascii, lettered, escaped-chars}
 
--- ---- characters that stand for themselves
+-- ---- characters that stand for themselves. General: belongs to crate jsontext
 
 one-char : {b : ℕ} {l : List ℕ} → json.Unescaped (b ∷ []) → json.Chars l l → json.Chars (b ∷ l) (b ∷ l)
 one-char {b} g r = json.char {c = b ∷ []} {t = b ∷ []} (json.unescaped g) r

@@ -53,10 +53,12 @@ back e =
     (comma (member kindName (decimal (e .kind)))
     (comma (member contentName (string (escaped nsonByte (e .content)))) (member tagsName (tagsText nsonByte (e .tags)))))
 
--- eight members in a row, with all brackets to the right: o { c , z } q " a :" b : and the names
+-- eight members in a row, with all brackets to the right. o is {  c is ,  z is }  q is "  a is :"  b is :  the n are names and the x values
 members-right : (o c z q a b n₁ n₂ n₃ n₄ n₅ n₆ n₇ n₈ x₁ x₂ x₃ x₄ x₅ x₆ x₇ x₈ : List ℕ)
-    → o ++ (((n₁ ++ (a ++ (x₁ ++ q))) ++ (c ++ ((n₂ ++ (a ++ (x₂ ++ q))) ++ (c ++ ((n₃ ++ (a ++ (x₃ ++ q))) ++ (c ++ ((n₄ ++ (b ++ x₄)) ++ (c ++ ((n₅ ++ (a ++ (x₅ ++ q))) ++ (c ++ ((n₆ ++ (b ++ x₆)) ++ (c ++ ((n₇ ++ (a ++ (x₇ ++ q))) ++ (c ++ (n₈ ++ (b ++ x₈)))))))))))))))) ++ z)
-    ≡ o ++ (n₁ ++ (a ++ (x₁ ++ (q ++ (c ++ (n₂ ++ (a ++ (x₂ ++ (q ++ (c ++ (n₃ ++ (a ++ (x₃ ++ (q ++ (c ++ (n₄ ++ (b ++ (x₄ ++ (c ++ (n₅ ++ (a ++ (x₅ ++ (q ++ (c ++ (n₆ ++ (b ++ (x₆ ++ (c ++ (n₇ ++ (a ++ (x₇ ++ (q ++ (c ++ (n₈ ++ (b ++ (x₈ ++ z))))))))))))))))))))))))))))))))))))
+    → o ++ (((n₁ ++ (a ++ (x₁ ++ q))) ++ (c ++ ((n₂ ++ (a ++ (x₂ ++ q))) ++ (c ++ ((n₃ ++ (a ++ (x₃ ++ q))) ++ (c ++ ((n₄ ++ (b ++ x₄)) ++ (c
+    ++ ((n₅ ++ (a ++ (x₅ ++ q))) ++ (c ++ ((n₆ ++ (b ++ x₆)) ++ (c ++ ((n₇ ++ (a ++ (x₇ ++ q))) ++ (c ++ (n₈ ++ (b ++ x₈)))))))))))))))) ++ z)
+    ≡ o ++ (n₁ ++ (a ++ (x₁ ++ (q ++ (c ++ (n₂ ++ (a ++ (x₂ ++ (q ++ (c ++ (n₃ ++ (a ++ (x₃ ++ (q ++ (c ++ (n₄ ++ (b ++ (x₄
+    ++ (c ++ (n₅ ++ (a ++ (x₅ ++ (q ++ (c ++ (n₆ ++ (b ++ (x₆ ++ (c ++ (n₇ ++ (a ++ (x₇ ++ (q ++ (c ++ (n₈ ++ (b ++ (x₈ ++ z))))))))))))))))))))))))))))))))))))
 members-right o c z q a b n₁ n₂ n₃ n₄ n₅ n₆ n₇ n₈ x₁ x₂ x₃ x₄ x₅ x₆ x₇ x₈ = simp append-assoc
 
 -- the same of the nine labels with the eight texts between them
@@ -77,5 +79,6 @@ nson-members e =
     let k = decimal (e .kind) in
     let c = escaped nsonByte (e .content) in
     let a = tagsText nsonByte (e .tags) in
-    members-right (0x7B ∷ []) (0x2C ∷ []) (0x7D ∷ []) (0x22 ∷ []) (0x3A ∷ 0x22 ∷ []) (0x3A ∷ []) (string idName) (string pubkeyName) (string sigName) (string createdAtName) (string nsonName) (string kindName) (string contentName) (string tagsName) i p g t f k c a
+    members-right (0x7B ∷ []) (0x2C ∷ []) (0x7D ∷ []) (0x22 ∷ []) (0x3A ∷ 0x22 ∷ []) (0x3A ∷ []) (string idName) (string pubkeyName) (string sigName)
+    (string createdAtName) (string nsonName) (string kindName) (string contentName) (string tagsName) i p g t f k c a
     ∙ sym (labels-right idLabel pubkeyLabel sigLabel timeLabel nsonLabel kindLabel contentLabel tagsLabel endLabel i p g t f k c a)

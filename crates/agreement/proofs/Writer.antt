@@ -1,30 +1,27 @@
 -- Demand 3's sentences on the NSON writer: it writes the event's text exactly if NSON can carry it and there is room, and both readers show the event again.
 -- By the cases of the reading, of what can be carried, and of room.
-use Prim.Native.Nat.{ℕ, _<_, _≤_}
+use Prim.Native.Nat.{ℕ}
 use mathlib.Core.Path.{_≡_, refl, sym, ap, _∙_}
 use mathlib.Core.Bool.{Bool, true, false}
-use mathlib.Core.List.{List, _++_}
+use mathlib.Core.List.{List}
 use mathlib.Core.Logic.{dite}
 use native.Mathlib.Omega.{arith}
 use native.Mathlib.Decide.{decLe}
-use lib.ListN.{length, take, drop}
-use Rattle.scan.specs.Choice.{pick, Answer, shown, refused}
-use Rattle.scan.specs.Span.{IsBytes}
+use lib.ListN.{length, take}
+use Rattle.scan.specs.Choice.{Answer, shown, refused}
 use Rattle.scan.proofs.Step.{false-true}
 use Rattle.store.specs.Entry.{writes, leaves}
 use Rattle.event.specs.Event.{Event}
 use Rattle.notepack.specs.Unpack.{unpack}
 use Rattle.notepack.specs.Strict.{pack}
 use Rattle.notepack.proofs.Sound as packed
-use Rattle.json.specs.Object.{readJson}
 use Rattle.nson.specs.Nson.{nson}
 use Rattle.nson.specs.Carries.{Carries, carries}
-use Rattle.nson.specs.Read.{readNson}
 use Rattle.nson.proofs.Pieces.{pick-shown, after, shown-same}
 use Rattle.nson.proofs.Complete as complete
 use Rattle.nson.proofs.Decision.{carries-exactly}
 use Rattle.agreement.specs.Entries.{carried, nsonWrites, writerLeaves}
-use Rattle.agreement.specs.Demand.{Writable, Writes, WriterWrites, Refused, is-refused, OrNothing, WriterRefusals, ShowsAgain, ReadBack}
+use Rattle.agreement.specs.Demand.{WriterWrites, Refused, is-refused, OrNothing, WriterRefusals, ReadBack}
 use Rattle.agreement.proofs.Entries.{wrote, fits, lacks, left}
 use Rattle.agreement.proofs.Agree.{json-back}
 

@@ -1,7 +1,7 @@
 -- NSON's text of an event that is carried and valid is a JSON text (RFC 8259), and its tree is `tree`.
 -- Member by member; the nson field is the hex of bytes, since its counts are such as a field can hold.
-use Prim.Native.Nat.{ℕ, _*_, _/_, _%_, _<_, _≤_}
-use mathlib.Core.Path.{_≡_, refl, subst}
+use Prim.Native.Nat.{ℕ, _*_, _/_, _%_, _≤_}
+use mathlib.Core.Path.{refl, subst}
 use mathlib.Core.List.{List, [], _∷_, append-nil}
 use native.Mathlib.Omega.{arith}
 use lib.ListN.{length}
@@ -9,7 +9,7 @@ use Rattle.scan.specs.Place.{within}
 use Rattle.scan.specs.Span.{All, none, also, IsBytes}
 use Rattle.scan.proofs.AllLaws.{all-append}
 use Rattle.utf8.specs.Utf8.{Utf8}
-use Rattle.escape.specs.Escape.{nsonByte, escaped}
+use Rattle.escape.specs.Escape.{nsonByte}
 use Rattle.event.specs.Event.{Text, Tag, Event, ValidTag, Valid}
 use Rattle.tagtext.specs.TagText.{quoted, tagText, tagsText}
 use Rattle.jsontext.specs.Grammar as json
@@ -23,7 +23,7 @@ use Rattle.agreement.proofs.Texts.{hexes-chars, name-chars, nson-chars,
 use Rattle.agreement.proofs.Spelled.{string-spells, member-spells, more-members, object-text, Spelt, array-spells}
 use Rattle.agreement.proofs.Tree.{textTree, tagTree, tagsTree, members, tree, front, back, nson-members}
 
--- ---- the bytes of the nson field
+-- ---- the bytes of the nson field. General: belongs to crate nson
 
 word-bytes : (n : ℕ) → n ≤ 65_535 → IsBytes (word n)
 word-bytes n h = also {b = n / 256} (omega arith) (also {b = n % 256} (omega arith) none)

@@ -34,7 +34,7 @@ FieldIgnored =
     → readJson s ≡ shown e → readJson t ≡ shown e
 
 -- "given room. Both then show the same event: the same length written and the same bytes."
--- "[they] show the event whose strict form they leave" (document 01)
+-- "the NSON and JSON readers show the event whose strict form they leave" (document 01). d₁ and d₂ are what the two were lent.
 pub record SameShown (s d₁ d₂ : List ℕ) (n : ℕ) : Type 0 where
   pub event : Event
   pub nson-shows : readNson s ≡ shown event
@@ -118,7 +118,7 @@ WriterRefusals =
     × ((e : Event) → unpack s ≡ shown e → Carries e → length d < length (nson e) → nsonWrites s d ≡ refused 11 (length (nson e)))
 
 -- "The NSON reader and the plain JSON reader, given room, both accept what was written and show the event as it was":
--- t is what was written, d₂ the buffer that a reader is lent
+-- t is what was written, d₂ the buffer that a reader is lent. (`IsBytes s`: the packed input is bytes.)
 pub record ShowsAgain (t d₂ : List ℕ) (e : Event) : Type 0 where
   pub nson-shows : readNson t ≡ shown e
   pub json-shows : readJson t ≡ shown e
