@@ -6,6 +6,7 @@ use Rattle.varint.specs.Uleb.{ulebIn, uleb}
 use Rattle.varint.specs.Varint.{spelled, varintAt, shortestAt}
 use Rattle.hex.specs.Hex.{valueOf, unhex, allDigits, goesAsBytes}
 use Rattle.notepack.specs.Strict.{packElement}
+use Rattle.nson.proofs.Example.{example-field, example-length, example-read, example-refused}
 use Rattle.checked.specs.Table.{CheckedExamples}
 
 pub checked-examples : CheckedExamples
@@ -23,4 +24,8 @@ checked-examples =
       example-9 = refl;
       example-10 = refl;
       example-11 = refl;
+      example-12 = (example-field, example-length, example-read);
+      example-13 = example-refused .0;
+      example-14 = example-refused .1;
+      example-15 = example-refused .2;
     }

@@ -2,11 +2,33 @@
 use Prim.Native.Nat.{ℕ}
 use mathlib.Core.Path.{_≡_}
 use mathlib.Core.Bool.{false}
-use mathlib.Core.List.{List, [], _∷_}
-use Rattle.scan.specs.Choice.{read, refused}
+use mathlib.Core.List.{List, [], _∷_, _++_}
+use lib.ListN.{length, replicate}
+use Rattle.scan.specs.Choice.{shown, read, refused}
 use Rattle.varint.specs.Uleb.{uleb}
 use Rattle.varint.specs.Varint.{varintAt, shortestAt}
+use Rattle.hex.specs.Hex.{hexes}
+use Rattle.event.specs.Event.{Event}
 use Rattle.notepack.specs.Strict.{packElement}
+use Rattle.nson.specs.Nson.{counts, field, headText, bodyText, nson}
+use Rattle.nson.specs.Read.{readNson}
+
+-- the event of the examples of NSON
+abbrev pub event : Event
+event =
+    record {
+      id = replicate 32 0;
+      pubkey = replicate 32 0;
+      sig = replicate 64 0;
+      createdAt = 1_000_000_000;
+      kind = 1;
+      tags = [];
+      content = 0x61 ∷ 0x22 ∷ 0x62 ∷ [];
+    }
+
+-- its text, with n in the place of the count of the content's bytes
+abbrev pub with : ℕ → List ℕ
+with n = headText event ++ hexes (0x08 ∷ 0x01 ∷ 0x00 ∷ n ∷ 0x00 ∷ []) ++ bodyText event
 
 pub record CheckedExamples : Type 0 where
   -- varints
@@ -22,3 +44,9 @@ pub record CheckedExamples : Type 0 where
   pub example-9 : packElement (0x41 ∷ 0x42 ∷ []) ≡ 0x04 ∷ 0x41 ∷ 0x42 ∷ []
   pub example-10 : packElement (0x61 ∷ 0x62 ∷ 0x63 ∷ []) ≡ 0x06 ∷ 0x61 ∷ 0x62 ∷ 0x63 ∷ []
   pub example-11 : packElement [] ≡ 0x00 ∷ []
+  -- NSON with zero id, pubkey and sig, created_at 1,000,000,000, kind 1, no tags and content a"b: the nson field, the length, and that it is read
+  pub example-12 : (field (counts event) ≡ hexes (0x08 ∷ 0x01 ∷ 0x00 ∷ 0x04 ∷ 0x00 ∷ [])) × (length (nson event) ≡ 366) × (readNson (nson event) ≡ shown event)
+  -- the same text with another count of the content's bytes, in the place of 4
+  pub example-13 : readNson (with 3) ≡ refused 13 353
+  pub example-14 : readNson (with 2) ≡ refused 14 350
+  pub example-15 : readNson (with 5) ≡ refused 13 350

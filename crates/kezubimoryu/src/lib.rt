@@ -1,9 +1,12 @@
 // The C entries: thin and total over the crates below. Each takes numbers and byte buffers and answers two numbers.
 use canonical::CanonicalWrite;
 use event::Refusal;
+use jsonread::JsonRead;
 use notepack::CountRead;
 use notepack::ElementRead;
 use notepack::HeadRead;
+use nsonread::NsonRead;
+use nsonwrite::NsonWrite;
 use rivals::Kept;
 use rivals::RivalsRead;
 use strict::PackWrite;
@@ -17,6 +20,10 @@ ghost use Rattle.notepack.specs.Unpack.{unpack};
 ghost use Rattle.notepack.specs.Views.{numbersOf, textsIn, elementOf};
 ghost use Rattle.strict.specs.Strict.{strict};
 ghost use Rattle.canonical.specs.Canonical.{canonical};
+ghost use Rattle.nson.specs.Nson.{nson};
+ghost use Rattle.nson.specs.Read.{readNson};
+ghost use Rattle.nsonwrite.specs.Carried.{carried};
+ghost use Rattle.json.specs.Object.{readJson};
 ghost use Rattle.rivals.specs.Rivals.{rivals};
 ghost use Rattle.kezubimoryu.specs.Entries.{ok, yesNo, told, keptNumber};
 
@@ -149,6 +156,42 @@ pub extern "C" fn kez_canonical_write(packed: &[u8], out: &mut [u8]) -> KezAnswe
     match done {
         CanonicalWrite::Written(n) => shown(n as u64),
         CanonicalWrite::Refused(r) => refused(r),
+    }
+}
+
+#[no_mangle]
+pub extern "C" fn kez_nson_write(packed: &[u8], out: &mut [u8]) -> KezAnswer
+    ensures { λ a. ⌜ (a .refusal, a .value) ≡ twoNumbers (writes nson (carried (unpack (now (packed .entry)))) (now (out .entry))) ⌝ }
+    ensures { λ _. ⌜ now (out .exit) ≡ leaves nson (carried (unpack (now (packed .entry)))) (now (out .entry)) ⌝ }
+{
+    let done = nsonwrite::write_nson(packed, out);
+    match done {
+        NsonWrite::Written(n) => shown(n as u64),
+        NsonWrite::Refused(r) => refused(r),
+    }
+}
+
+#[no_mangle]
+pub extern "C" fn kez_nson_read(text: &[u8], out: &mut [u8]) -> KezAnswer
+    ensures { λ a. ⌜ (a .refusal, a .value) ≡ twoNumbers (writes pack (readNson (now (text .entry))) (now (out .entry))) ⌝ }
+    ensures { λ _. ⌜ now (out .exit) ≡ leaves pack (readNson (now (text .entry))) (now (out .entry)) ⌝ }
+{
+    let done = nsonread::read_nson(text, out);
+    match done {
+        NsonRead::Written(n) => shown(n as u64),
+        NsonRead::Refused(r) => refused(r),
+    }
+}
+
+#[no_mangle]
+pub extern "C" fn kez_json_read(text: &[u8], out: &mut [u8]) -> KezAnswer
+    ensures { λ a. ⌜ (a .refusal, a .value) ≡ twoNumbers (writes pack (readJson (now (text .entry))) (now (out .entry))) ⌝ }
+    ensures { λ _. ⌜ now (out .exit) ≡ leaves pack (readJson (now (text .entry))) (now (out .entry)) ⌝ }
+{
+    let done = jsonread::read_json(text, out);
+    match done {
+        JsonRead::Written(n) => shown(n as u64),
+        JsonRead::Refused(r) => refused(r),
     }
 }
 
