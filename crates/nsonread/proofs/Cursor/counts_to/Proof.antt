@@ -7,117 +7,85 @@ use Rattle.nsonread.proofs.Counting.{kind-stops, content-stops, number-
 use borrow.Author.Needs.{needs}
 use Rattle.nsonread.proofs.Cursor.counts_to.Statement.{statement}
 use Rattle.nsonread.proofs.Cursor.counts_to.Tie as tie
-use Rattle.nsonread.proofs.Cursor.counts_to.Reads as reads
-use Rattle.nsonread.proofs.Cursor.counts_to.Lts as lts
-use Rattle.nsonread.proofs.Cursor.all_tag_counts.Reads as all-tag-counts-reads
-use Rattle.nsonread.proofs.Cursor.descriptor.Reads as descriptor-reads
-use Rattle.nsonread.proofs.Cursor.kind_count.Reads as kind-count-reads
-use Rattle.nsonread.proofs.byte_here.Reads as byte-here-reads
-use Rattle.nsonread.proofs.word_here.Reads as word-here-reads
 
--- src/lib.rt:381:13
-kind-count-requires : tie.Need-kind-count-requires
-kind-count-requires c κs = search needs
-
--- src/lib.rt:383:32
-enum-known-found : tie.Need-enum-known-found
-enum-known-found c = search needs
-
--- src/lib.rt:384:33
-enum-known-found-2 : tie.Need-enum-known-found-2
-enum-known-found-2 c = search needs
-
--- src/lib.rt:384:39
 returns : tie.Need-returns
-returns c = (sym (kind-stops (c .before .before .before .before .before .args .end) (c .before .before .before .before .before .args .s .now) (c .before .before .before .before .before .args .self .at) (sym (c .before .before .before .kind-count .ensures .0) ∙ ap numberRead (c .before .found2 .given .1))), (omega arith, (omega arith, (omega arith, omega arith))))
+returns c =
+    let at-kind-count = c .before .before .before in
+    let entry = at-kind-count .before .before in
+    (sym (kind-stops (entry .args .end) (entry .args .s .now) (entry .args .self .at) (sym (at-kind-count .kind-count .ensures .0) ∙ ap numberRead (c .before .found2 .given .1))), (omega arith, (omega arith, (omega arith, omega arith))))
 
--- src/lib.rt:387:13
-descriptor-requires : tie.Need-descriptor-requires
-descriptor-requires c κs = search needs
-
--- src/lib.rt:389:24
-enum-known-content : tie.Need-enum-known-content
-enum-known-content c = search needs
-
--- src/lib.rt:390:27
-enum-known-content-2 : tie.Need-enum-known-content-2
-enum-known-content-2 c = search needs
-
--- src/lib.rt:390:33
 returns-2 : tie.Need-returns-2
-returns-2 c = (sym (content-stops (c .before .before .before .before .before .before .before .before .before .before .args .end) (c .before .before .before .before .before .before .before .before .before .before .args .s .now) (c .before .before .before .before .before .before .before .before .before .before .args .self .at) (sym (c .before .before .before .before .before .before .before .before .kind-count .ensures .0) ∙ ap numberRead (c .before .before .before .before .before .before .found .given .1)) (sym (c .before .before .before .descriptor .ensures) ∙ ap skip (c .before .content2 .given .1))), (omega arith, (omega arith, (omega arith, omega arith))))
+returns-2 c =
+    let at-descriptor = c .before .before .before in
+    let at-found = at-descriptor .before .before .before in
+    let at-kind-count = at-found .before .before in
+    let entry = at-kind-count .before .before in
+    (sym (content-stops (entry .args .end) (entry .args .s .now) (entry .args .self .at) (sym (at-kind-count .kind-count .ensures .0) ∙ ap numberRead (at-found .found .given .1)) (sym (at-descriptor .descriptor .ensures) ∙ ap skip (c .before .content2 .given .1))), (omega arith, (omega arith, (omega arith, omega arith))))
 
--- src/lib.rt:392:13
-descriptor-requires-2 : tie.Need-descriptor-requires-2
-descriptor-requires-2 c κs = search needs
-
--- src/lib.rt:394:24
-enum-known-tags : tie.Need-enum-known-tags
-enum-known-tags c = search needs
-
--- src/lib.rt:395:27
-enum-known-tags-2 : tie.Need-enum-known-tags-2
-enum-known-tags-2 c = search needs
-
--- src/lib.rt:395:33
 returns-3 : tie.Need-returns-3
-returns-3 c = (sym (number-stops (c .before .before .before .before .before .before .before .before .before .before .before .before .before .before .args .end) (c .before .before .before .before .before .before .before .before .before .before .before .before .before .before .args .s .now) (c .before .before .before .before .before .before .before .before .before .before .before .before .before .before .args .self .at) (sym (c .before .before .before .before .before .before .before .before .before .before .before .before .kind-count .ensures .0) ∙ ap numberRead (c .before .before .before .before .before .before .before .before .before .before .found .given .1)) (sym (c .before .before .before .before .before .before .before .descriptor .ensures) ∙ ap skip (c .before .before .before .before .before .content .given .1)) (sym (c .before .before .before .descriptor2 .ensures) ∙ ap skip (c .before .tags2 .given .1))), (omega arith, (omega arith, (omega arith, omega arith))))
+returns-3 c =
+    let at-descriptor2 = c .before .before .before in
+    let at-content = at-descriptor2 .before .before in
+    let at-descriptor = at-content .before .before in
+    let at-found = at-descriptor .before .before .before in
+    let at-kind-count = at-found .before .before in
+    let entry = at-kind-count .before .before in
+    (sym (number-stops (entry .args .end) (entry .args .s .now) (entry .args .self .at) (sym (at-kind-count .kind-count .ensures .0) ∙ ap numberRead (at-found .found .given .1)) (sym (at-descriptor .descriptor .ensures) ∙ ap skip (at-content .content .given .1)) (sym (at-descriptor2 .descriptor2 .ensures) ∙ ap skip (c .before .tags2 .given .1))), (omega arith, (omega arith, (omega arith, omega arith))))
 
--- src/lib.rt:397:13
-byte-here-requires : tie.Need-byte-here-requires
-byte-here-requires c κs = search needs
-
--- src/lib.rt:398:13
-all-tag-counts-requires : tie.Need-all-tag-counts-requires
-all-tag-counts-requires c κs = search needs
-
--- src/lib.rt:400:24
-enum-known-all : tie.Need-enum-known-all
-enum-known-all c = search needs
-
--- src/lib.rt:405:38
-word-here-requires : tie.Need-word-here-requires
-word-here-requires c κs = search needs
-
--- src/lib.rt:402:21
 returns-4 : tie.Need-returns-4
-returns-4 c =
-    (sym (counts-found (c .before .before .before .before .before .before .before .before .before .before .before .before .before .before .before .before .before .before .before .before .before .before .args .end) (c .before .before .before .before .before .before .before .before .before .before .before .before .before .before .before .before .before .before .before .before .before .before .args .s .now) (c .before .before .before .before .before .before .before .before .before .before .before .before .before .before .before .before .before .before .before .before .before .before .args .self .at) (sym (c .before .before .before .before .before .before .before .before .before .before .before .before .before .before .before .before .before .before .before .before .kind-count .ensures .0) ∙ ap numberRead (c .before .before .before .before .before .before .before .before .before .before .before .before .before .before .before .before .before .before .found .given .1)) (sym (c .before .before .before .before .before .before .before .before .before .before .before .before .before .before .before .descriptor .ensures) ∙ ap skip (c .before .before .before .before .before .before .before .before .before .before .before .before .before .content .given .1)) (sym (c .before .before .before .before .before .before .before .before .before .before .before .descriptor2 .ensures) ∙ ap skip (c .before .before .before .before .before .before .before .before .before .tags .given .1)) (c .before .before .before .before .before .before .before .byte-here .ensures .0) (sym (c .before .before .before .before .before .before .all-tag-counts .ensures) ∙ ap skip (c .before .before .before .before .all .given .1)) (c .word-here .ensures .0) (c .before .if1 .taken)),
-    (rw (c .before .before .before .before .before .before .before .before .before .before .before .before .before .before .before .before .before .before .found .given .1) at (c .before .before .before .before .before .before .before .before .before .before .before .before .before .before .before .before .before .before .before .before .kind-count .ensures .1), (c .word-here .ensures .1, (c .before .before .before .before .before .before .before .byte-here .ensures .1, omega (arith, c .before .if1 .taken)))))
+returns-4 c = (
+  sym (counts-found (c .before .before .before .before .before .before .before .before .before .before .before .before .before .before .before .before .before .before .before .before .before .before .args .end) (c .before .before .before .before .before .before .before .before .before .before .before .before .before .before .before .before .before .before .before .before .before .before .args .s .now) (c .before .before .before .before .before .before .before .before .before .before .before .before .before .before .before .before .before .before .before .before .before .before .args .self .at) (sym (c .before .before .before .before .before .before .before .before .before .before .before .before .before .before .before .before .before .before .before .before .kind-count .ensures .0) ∙ ap numberRead (c .before .before .before .before .before .before .before .before .before .before .before .before .before .before .before .before .before .before .found .given .1)) (sym (c .before .before .before .before .before .before .before .before .before .before .before .before .before .before .before .descriptor .ensures) ∙ ap skip (c .before .before .before .before .before .before .before .before .before .before .before .before .before .content .given .1)) (sym (c .before .before .before .before .before .before .before .before .before .before .before .descriptor2 .ensures) ∙ ap skip (c .before .before .before .before .before .before .before .before .before .tags .given .1)) (c .before .before .before .before .before .before .before .byte-here .ensures .0) (sym (c .before .before .before .before .before .before .all-tag-counts .ensures) ∙ ap skip (c .before .before .before .before .all .given .1)) (c .word-here .ensures .0) (c .before .if1 .taken)),
+  (rw (c .before .before .before .before .before .before .before .before .before .before .before .before .before .before .before .before .before .before .found .given .1) at (c .before .before .before .before .before .before .before .before .before .before .before .before .before .before .before .before .before .before .before .before .kind-count .ensures .1), (c .word-here .ensures .1, (c .before .before .before .before .before .before .before .byte-here .ensures .1, omega (arith, c .before .if1 .taken)))),
+)
 
--- src/lib.rt:416:27
-enum-known-all-2 : tie.Need-enum-known-all-2
-enum-known-all-2 c = search needs
-
--- src/lib.rt:374:5
 returns-5 : tie.Need-returns-5
-returns-5 c = (sym (size-stops (c .before .before .before .before .before .before .before .before .before .before .before .before .before .before .before .before .before .before .before .before .before .args .end) (c .before .before .before .before .before .before .before .before .before .before .before .before .before .before .before .before .before .before .before .before .before .args .s .now) (c .before .before .before .before .before .before .before .before .before .before .before .before .before .before .before .before .before .before .before .before .before .args .self .at) (sym (c .before .before .before .before .before .before .before .before .before .before .before .before .before .before .before .before .before .before .before .kind-count .ensures .0) ∙ ap numberRead (c .before .before .before .before .before .before .before .before .before .before .before .before .before .before .before .before .before .found .given .1)) (sym (c .before .before .before .before .before .before .before .before .before .before .before .before .before .before .descriptor .ensures) ∙ ap skip (c .before .before .before .before .before .before .before .before .before .before .before .before .content .given .1)) (sym (c .before .before .before .before .before .before .before .before .before .before .descriptor2 .ensures) ∙ ap skip (c .before .before .before .before .before .before .before .before .tags .given .1)) (c .before .before .before .before .before .before .byte-here .ensures .0) (sym (c .before .before .before .before .before .all-tag-counts .ensures) ∙ ap skip (c .before .before .before .all .given .1)) (c .if1 .left)), (omega arith, (omega arith, (omega arith, omega arith))))
+returns-5 c =
+    let at-all = c .before .before .before in
+    let at-all-tag-counts = at-all .before .before in
+    let at-byte-here = at-all-tag-counts .before in
+    let at-tags = at-byte-here .before .before in
+    let at-descriptor2 = at-tags .before .before in
+    let at-content = at-descriptor2 .before .before in
+    let at-descriptor = at-content .before .before in
+    let at-found = at-descriptor .before .before .before in
+    let at-kind-count = at-found .before .before in
+    let entry = at-kind-count .before .before in
+    (sym (size-stops (entry .args .end) (entry .args .s .now) (entry .args .self .at) (sym (at-kind-count .kind-count .ensures .0) ∙ ap numberRead (at-found .found .given .1)) (sym (at-descriptor .descriptor .ensures) ∙ ap skip (at-content .content .given .1)) (sym (at-descriptor2 .descriptor2 .ensures) ∙ ap skip (at-tags .tags .given .1)) (at-byte-here .byte-here .ensures .0) (sym (at-all-tag-counts .all-tag-counts .ensures) ∙ ap skip (at-all .all .given .1)) (c .if1 .left)), (omega arith, (omega arith, (omega arith, omega arith))))
 
--- src/lib.rt:374:5
 returns-6 : tie.Need-returns-6
-returns-6 c = (sym (tags-stop (c .before .before .before .before .before .before .before .before .before .before .before .before .before .before .before .before .before .before .before .args .end) (c .before .before .before .before .before .before .before .before .before .before .before .before .before .before .before .before .before .before .before .args .s .now) (c .before .before .before .before .before .before .before .before .before .before .before .before .before .before .before .before .before .before .before .args .self .at) (sym (c .before .before .before .before .before .before .before .before .before .before .before .before .before .before .before .before .before .kind-count .ensures .0) ∙ ap numberRead (c .before .before .before .before .before .before .before .before .before .before .before .before .before .before .before .found .given .1)) (sym (c .before .before .before .before .before .before .before .before .before .before .before .before .descriptor .ensures) ∙ ap skip (c .before .before .before .before .before .before .before .before .before .before .content .given .1)) (sym (c .before .before .before .before .before .before .before .before .descriptor2 .ensures) ∙ ap skip (c .before .before .before .before .before .before .tags .given .1)) (c .before .before .before .before .byte-here .ensures .0) (sym (c .before .before .before .all-tag-counts .ensures) ∙ ap skip (c .before .all2 .given .1))), (omega arith, (omega arith, (omega arith, omega arith))))
+returns-6 c =
+    let at-all-tag-counts = c .before .before .before in
+    let at-byte-here = at-all-tag-counts .before in
+    let at-tags = at-byte-here .before .before in
+    let at-descriptor2 = at-tags .before .before in
+    let at-content = at-descriptor2 .before .before in
+    let at-descriptor = at-content .before .before in
+    let at-found = at-descriptor .before .before .before in
+    let at-kind-count = at-found .before .before in
+    let entry = at-kind-count .before .before in
+    (sym (tags-stop (entry .args .end) (entry .args .s .now) (entry .args .self .at) (sym (at-kind-count .kind-count .ensures .0) ∙ ap numberRead (at-found .found .given .1)) (sym (at-descriptor .descriptor .ensures) ∙ ap skip (at-content .content .given .1)) (sym (at-descriptor2 .descriptor2 .ensures) ∙ ap skip (at-tags .tags .given .1)) (at-byte-here .byte-here .ensures .0) (sym (at-all-tag-counts .all-tag-counts .ensures) ∙ ap skip (c .before .all2 .given .1))), (omega arith, (omega arith, (omega arith, omega arith))))
 
 pub counts-to-spec : {M : Type 1} → statement M
 counts-to-spec =
     tie.close
     (tie.spec
-    kind-count-requires
-    enum-known-found
-    enum-known-found-2
+    (λ c κs. search needs)
+    (λ c. search needs)
+    (λ c. search needs)
     returns
-    descriptor-requires
-    enum-known-content
-    enum-known-content-2
+    (λ c κs. search needs)
+    (λ c. search needs)
+    (λ c. search needs)
     returns-2
-    descriptor-requires-2
-    enum-known-tags
-    enum-known-tags-2
+    (λ c κs. search needs)
+    (λ c. search needs)
+    (λ c. search needs)
     returns-3
-    byte-here-requires
-    all-tag-counts-requires
-    enum-known-all
-    word-here-requires
+    (λ c κs. search needs)
+    (λ c κs. search needs)
+    (λ c. search needs)
+    (λ c κs. search needs)
     returns-4
-    enum-known-all-2
+    (λ c. search needs)
     returns-5
     returns-6)

@@ -10,103 +10,70 @@ use Rattle.nsonread.proofs.Sizing.{open-stops, inside-stops, close-stop
 use borrow.Author.Needs.{needs}
 use Rattle.nsonread.proofs.Cursor.tag.Statement.{statement}
 use Rattle.nsonread.proofs.Cursor.tag.Tie as tie
-use Rattle.nsonread.proofs.Cursor.tag.Reads as reads
-use Rattle.nsonread.proofs.Cursor.tag.Lts as lts
-use Rattle.nsonread.proofs.Cursor.items.Reads as items-reads
-use Rattle.nsonread.proofs.Cursor.piece.Reads as piece-reads
-use Rattle.varint.proofs.varint_len.Reads as varint-len-reads
 
--- src/lib.rt:533:37
-slice-aggregate-piece : tie.Need-slice-aggregate-piece
-slice-aggregate-piece c = search needs
-
--- src/lib.rt:533:13
-piece-requires : tie.Need-piece-requires
-piece-requires c κs = search needs
-
--- src/lib.rt:535:24
-enum-known-bracket : tie.Need-enum-known-bracket
-enum-known-bracket c = search needs
-
--- src/lib.rt:536:27
-enum-known-bracket-2 : tie.Need-enum-known-bracket-2
-enum-known-bracket-2 c = search needs
-
--- src/lib.rt:536:33
 returns : tie.Need-returns
 unfolding tagAt
-returns c = (sym (open-stops (itemAt (c .before .before .before .before .before .before .args .s .now)) packElements packTag (itemSizes (c .before .before .before .before .before .before .args .n) (c .before .before .before .before .before .before .args .s .now) (c .before .before .before .before .before .before .args .d)) (c .before .before .before .before .before .before .args .s .now) _ 0 (sym (c .before .before .before .piece .ensures) ∙ ap skip (c .before .bracket2 .given .1))), omega arith)
+returns c =
+    let at-piece = c .before .before .before in
+    let entry = at-piece .before .before .before in
+    (sym (open-stops (itemAt (entry .args .s .now)) packElements packTag (itemSizes (entry .args .n) (entry .args .s .now) (entry .args .d)) (entry .args .s .now) _ 0 (sym (at-piece .piece .ensures) ∙ ap skip (c .before .bracket2 .given .1))), omega arith)
 
--- src/lib.rt:538:13
-items-requires : tie.Need-items-requires
-items-requires c κs = search needs
-
--- src/lib.rt:540:32
-enum-known-items : tie.Need-enum-known-items
-enum-known-items c = search needs
-
--- src/lib.rt:541:47
-slice-aggregate-piece-2 : tie.Need-slice-aggregate-piece-2
-slice-aggregate-piece-2 c = search needs
-
--- src/lib.rt:541:21
-piece-requires-2 : tie.Need-piece-requires-2
-piece-requires-2 c κs = search needs
-
--- src/lib.rt:543:32
-enum-known-closing : tie.Need-enum-known-closing
-enum-known-closing c = search needs
-
--- src/lib.rt:543:57
-varint-len-requires : tie.Need-varint-len-requires
-varint-len-requires c κs = search needs
-
--- src/lib.rt:543:57
 add-t27 : tie.Need-add-t27
-add-t27 c = omega (arith, rw (c .before .before .before .before .before .before .before .items2 .given .1) at (c .before .before .before .before .before .before .before .before .before .items .ensures .1), c .varint-len .ensures, c .before .before .before .before .before .before .before .before .before .before .before .before .before .before .before .before .pre)
+add-t27 c =
+    let at-items2 = c .before .before .before .before .before .before .before in
+    let at-items = at-items2 .before .before in
+    let entry = at-items .before .before .before .before .before .before .before in
+    omega (arith, rw (at-items2 .items2 .given .1) at (at-items .items .ensures .1), c .varint-len .ensures, entry .pre)
 
--- src/lib.rt:544:35
-enum-known-closing-2 : tie.Need-enum-known-closing-2
-enum-known-closing-2 c = search needs
-
--- src/lib.rt:547:33
-enum-known-items-2 : tie.Need-enum-known-items-2
-enum-known-items-2 c = search needs
-
--- src/lib.rt:527:5
 returns-2 : tie.Need-returns-2
 returns-2 c =
-    let m = rw (c .before .before .before .before .before .before .before .items2 .given .1) at (c .before .before .before .before .before .before .before .before .before .items .ensures .1) in
-    (sym (tag-sized (c .before .before .before .before .before .before .before .before .before .before .before .before .before .before .before .before .args .s .now) (c .before .before .before .before .before .before .before .before .before .before .before .before .before .before .before .before .args .n) (c .before .before .before .before .before .before .before .before .before .before .before .before .before .before .before .before .args .d) _ (sym (c .before .before .before .before .before .before .before .before .before .before .before .before .before .piece .ensures) ∙ ap skip (c .before .before .before .before .before .before .before .before .before .before .before .bracket .given .1)) (sym (c .before .before .before .before .before .before .before .before .before .items .ensures .0) ∙ ap numberRead (c .before .before .before .before .before .before .before .items2 .given .1)) (sym (c .before .before .before .before .piece2 .ensures) ∙ ap skip (c .before .before .closing .given .1)) (c .varint-len .ensures .0)), omega (arith, m, c .varint-len .ensures, c .before .before .before .before .before .before .before .before .before .before .before .before .before .before .before .before .pre))
+    let at-piece2 = c .before .before .before .before in
+    let at-items2 = at-piece2 .before .before .before in
+    let at-items = at-items2 .before .before in
+    let at-bracket = at-items .before .before in
+    let at-piece = at-bracket .before .before in
+    let entry = at-piece .before .before .before in
+    let m = rw (at-items2 .items2 .given .1) at (at-items .items .ensures .1) in
+    (sym (tag-sized (entry .args .s .now) (entry .args .n) (entry .args .d) _ (sym (at-piece .piece .ensures) ∙ ap skip (at-bracket .bracket .given .1)) (sym (at-items .items .ensures .0) ∙ ap numberRead (at-items2 .items2 .given .1)) (sym (at-piece2 .piece2 .ensures) ∙ ap skip (c .before .before .closing .given .1)) (c .varint-len .ensures .0)), omega (arith, m, c .varint-len .ensures, entry .pre))
 
--- src/lib.rt:527:5
 returns-3 : tie.Need-returns-3
 unfolding tagAt
-returns-3 c = (sym (close-stops (itemAt (c .before .before .before .before .before .before .before .before .before .before .before .before .before .before .before .args .s .now)) packElements packTag (itemSizes (c .before .before .before .before .before .before .before .before .before .before .before .before .before .before .before .args .n) (c .before .before .before .before .before .before .before .before .before .before .before .before .before .before .before .args .s .now) (c .before .before .before .before .before .before .before .before .before .before .before .before .before .before .before .args .d)) (c .before .before .before .before .before .before .before .before .before .before .before .before .before .before .before .args .s .now) _ 0 (sym (c .before .before .before .before .before .before .before .before .before .before .before .before .piece .ensures) ∙ ap skip (c .before .before .before .before .before .before .before .before .before .before .bracket .given .1)) (sym (c .before .before .before .before .before .before .before .before .items .ensures .0) ∙ ap numberRead (c .before .before .before .before .before .before .items2 .given .1)) (sym (c .before .before .before .piece2 .ensures) ∙ ap skip (c .before .closing2 .given .1))), omega arith)
+returns-3 c =
+    let at-piece2 = c .before .before .before in
+    let at-items2 = at-piece2 .before .before .before in
+    let at-items = at-items2 .before .before in
+    let at-bracket = at-items .before .before in
+    let at-piece = at-bracket .before .before in
+    let entry = at-piece .before .before .before in
+    (sym (close-stops (itemAt (entry .args .s .now)) packElements packTag (itemSizes (entry .args .n) (entry .args .s .now) (entry .args .d)) (entry .args .s .now) _ 0 (sym (at-piece .piece .ensures) ∙ ap skip (at-bracket .bracket .given .1)) (sym (at-items .items .ensures .0) ∙ ap numberRead (at-items2 .items2 .given .1)) (sym (at-piece2 .piece2 .ensures) ∙ ap skip (c .before .closing2 .given .1))), omega arith)
 
--- src/lib.rt:527:5
 returns-4 : tie.Need-returns-4
 unfolding tagAt
-returns-4 c = (sym (inside-stops (itemAt (c .before .before .before .before .before .before .before .before .before .before .args .s .now)) packElements packTag (itemSizes (c .before .before .before .before .before .before .before .before .before .before .args .n) (c .before .before .before .before .before .before .before .before .before .before .args .s .now) (c .before .before .before .before .before .before .before .before .before .before .args .d)) (c .before .before .before .before .before .before .before .before .before .before .args .s .now) _ 0 (sym (c .before .before .before .before .before .before .before .piece .ensures) ∙ ap skip (c .before .before .before .before .before .bracket .given .1)) (sym (c .before .before .before .items .ensures .0) ∙ ap numberRead (c .before .items3 .given .1))), omega arith)
+returns-4 c =
+    let at-items = c .before .before .before in
+    let at-bracket = at-items .before .before in
+    let at-piece = at-bracket .before .before in
+    let entry = at-piece .before .before .before in
+    (sym (inside-stops (itemAt (entry .args .s .now)) packElements packTag (itemSizes (entry .args .n) (entry .args .s .now) (entry .args .d)) (entry .args .s .now) _ 0 (sym (at-piece .piece .ensures) ∙ ap skip (at-bracket .bracket .given .1)) (sym (at-items .items .ensures .0) ∙ ap numberRead (c .before .items3 .given .1))), omega arith)
 
 pub tag-spec : {M : Type 1} → statement M
 tag-spec =
     tie.close
     (tie.spec
-    slice-aggregate-piece
-    piece-requires
-    enum-known-bracket
-    enum-known-bracket-2
+    (λ c. search needs)
+    (λ c κs. search needs)
+    (λ c. search needs)
+    (λ c. search needs)
     returns
-    items-requires
-    enum-known-items
-    slice-aggregate-piece-2
-    piece-requires-2
-    enum-known-closing
-    varint-len-requires
+    (λ c κs. search needs)
+    (λ c. search needs)
+    (λ c. search needs)
+    (λ c κs. search needs)
+    (λ c. search needs)
+    (λ c κs. search needs)
     add-t27
-    enum-known-closing-2
-    enum-known-items-2
+    (λ c. search needs)
+    (λ c. search needs)
     returns-2
     returns-3
     returns-4)

@@ -4,44 +4,26 @@ use Rattle.nson.specs.Read.{tagCountsAt}
 use borrow.Author.Needs.{needs}
 use Rattle.nsonread.proofs.Cursor.tag_counts.Statement.{statement}
 use Rattle.nsonread.proofs.Cursor.tag_counts.Tie as tie
-use Rattle.nsonread.proofs.Cursor.tag_counts.Reads as reads
-use Rattle.nsonread.proofs.Cursor.tag_counts.Lts as lts
-use Rattle.nsonread.proofs.Cursor.item_count.Reads as item-count-reads
-use Rattle.nsonread.proofs.Cursor.item_sizes.Reads as item-sizes-reads
 
--- src/lib.rt:347:13
-item-count-requires : tie.Need-item-count-requires
-item-count-requires c κs = search needs
-
--- src/lib.rt:349:32
-enum-known-found : tie.Need-enum-known-found
-enum-known-found c = search needs
-
--- src/lib.rt:349:44
-item-sizes-requires : tie.Need-item-sizes-requires
-item-sizes-requires c κs = search needs
-
--- src/lib.rt:350:33
-enum-known-found-2 : tie.Need-enum-known-found-2
-enum-known-found-2 c = search needs
-
--- src/lib.rt:344:5
 returns : tie.Need-returns
 unfolding tagCountsAt
-returns c = simp (← c .before .before .before .before .item-count .ensures, c .before .before .found .given .1, ← c .item-sizes .ensures)
+returns c =
+    let at-item-count = c .before .before .before .before in
+    simp (← at-item-count .item-count .ensures, c .before .before .found .given .1, ← c .item-sizes .ensures)
 
--- src/lib.rt:344:5
 returns-2 : tie.Need-returns-2
 unfolding tagCountsAt
-returns-2 c = simp (← c .before .before .before .item-count .ensures, c .before .found2 .given .1)
+returns-2 c =
+    let at-item-count = c .before .before .before in
+    simp (← at-item-count .item-count .ensures, c .before .found2 .given .1)
 
 pub tag-counts-spec : {M : Type 1} → statement M
 tag-counts-spec =
     tie.close
     (tie.spec
-    item-count-requires
-    enum-known-found
-    item-sizes-requires
-    enum-known-found-2
+    (λ c κs. search needs)
+    (λ c. search needs)
+    (λ c κs. search needs)
+    (λ c. search needs)
     returns
     returns-2)

@@ -8,89 +8,58 @@ use Rattle.nsonread.proofs.Parts.{label-stops, list-stops, brace-stops,
 use borrow.Author.Needs.{needs}
 use Rattle.nsonread.proofs.Cursor.tags_part.Statement.{statement}
 use Rattle.nsonread.proofs.Cursor.tags_part.Tie as tie
-use Rattle.nsonread.proofs.Cursor.tags_part.Reads as reads
-use Rattle.nsonread.proofs.Cursor.tags_part.Lts as lts
-use Rattle.nsonread.proofs.Cursor.piece.Reads as piece-reads
-use Rattle.nsonread.proofs.Cursor.tags.Reads as tags-reads
 
--- src/lib.rt:642:35
-slice-aggregate-piece : tie.Need-slice-aggregate-piece
-slice-aggregate-piece c = search needs
-
--- src/lib.rt:642:13
-piece-requires : tie.Need-piece-requires
-piece-requires c κs = search needs
-
--- src/lib.rt:644:24
-enum-known-label : tie.Need-enum-known-label
-enum-known-label c = search needs
-
--- src/lib.rt:645:27
-enum-known-label-2 : tie.Need-enum-known-label-2
-enum-known-label-2 c = search needs
-
--- src/lib.rt:645:33
 returns : tie.Need-returns
-returns c = (sym (label-stops (tagSizes (c .before .before .before .before .before .before .args .n) (c .before .before .before .before .before .before .args .s .now) 328) (c .before .before .before .before .before .before .args .s .now) _ (sym (c .before .before .before .piece .ensures) ∙ ap skip (c .before .label2 .given .1))), omega arith)
+returns c =
+    let at-piece = c .before .before .before in
+    let entry = at-piece .before .before .before in
+    (sym (label-stops (tagSizes (entry .args .n) (entry .args .s .now) 328) (entry .args .s .now) _ (sym (at-piece .piece .ensures) ∙ ap skip (c .before .label2 .given .1))), omega arith)
 
--- src/lib.rt:647:13
-tags-requires : tie.Need-tags-requires
-tags-requires c κs = search needs
-
--- src/lib.rt:649:32
-enum-known-list : tie.Need-enum-known-list
-enum-known-list c = search needs
-
--- src/lib.rt:650:45
-slice-aggregate-piece-2 : tie.Need-slice-aggregate-piece-2
-slice-aggregate-piece-2 c = search needs
-
--- src/lib.rt:650:21
-piece-requires-2 : tie.Need-piece-requires-2
-piece-requires-2 c κs = search needs
-
--- src/lib.rt:652:32
-enum-known-brace : tie.Need-enum-known-brace
-enum-known-brace c = search needs
-
--- src/lib.rt:653:35
-enum-known-brace-2 : tie.Need-enum-known-brace-2
-enum-known-brace-2 c = search needs
-
--- src/lib.rt:656:33
-enum-known-list-2 : tie.Need-enum-known-list-2
-enum-known-list-2 c = search needs
-
--- src/lib.rt:637:5
 returns-2 : tie.Need-returns-2
 returns-2 c =
-    let m = rw (c .before .before .before .before .before .before .list .given .1) at (c .before .before .before .before .before .before .before .before .tags .ensures .1) in
-    (sym (part-sized (tagSizes (c .before .before .before .before .before .before .before .before .before .before .before .before .before .before .before .args .n) (c .before .before .before .before .before .before .before .before .before .before .before .before .before .before .before .args .s .now) 328) (c .before .before .before .before .before .before .before .before .before .before .before .before .before .before .before .args .s .now) _ (sym (c .before .before .before .before .before .before .before .before .before .before .before .before .piece .ensures) ∙ ap skip (c .before .before .before .before .before .before .before .before .before .before .label .given .1)) (sym (c .before .before .before .before .before .before .before .before .tags .ensures .0) ∙ ap numberRead (c .before .before .before .before .before .before .list .given .1)) (sym (c .before .before .before .piece2 .ensures) ∙ ap skip (c .before .brace .given .1))), m)
+    let at-piece2 = c .before .before .before in
+    let at-list = at-piece2 .before .before .before in
+    let at-tags = at-list .before .before in
+    let at-label = at-tags .before .before in
+    let at-piece = at-label .before .before in
+    let entry = at-piece .before .before .before in
+    let m = rw (at-list .list .given .1) at (at-tags .tags .ensures .1) in
+    (sym (part-sized (tagSizes (entry .args .n) (entry .args .s .now) 328) (entry .args .s .now) _ (sym (at-piece .piece .ensures) ∙ ap skip (at-label .label .given .1)) (sym (at-tags .tags .ensures .0) ∙ ap numberRead (at-list .list .given .1)) (sym (at-piece2 .piece2 .ensures) ∙ ap skip (c .before .brace .given .1))), m)
 
--- src/lib.rt:637:5
 returns-3 : tie.Need-returns-3
-returns-3 c = (sym (brace-stops (tagSizes (c .before .before .before .before .before .before .before .before .before .before .before .before .before .before .before .args .n) (c .before .before .before .before .before .before .before .before .before .before .before .before .before .before .before .args .s .now) 328) (c .before .before .before .before .before .before .before .before .before .before .before .before .before .before .before .args .s .now) _ (sym (c .before .before .before .before .before .before .before .before .before .before .before .before .piece .ensures) ∙ ap skip (c .before .before .before .before .before .before .before .before .before .before .label .given .1)) (sym (c .before .before .before .before .before .before .before .before .tags .ensures .0) ∙ ap numberRead (c .before .before .before .before .before .before .list .given .1)) (sym (c .before .before .before .piece2 .ensures) ∙ ap skip (c .before .brace2 .given .1))), omega arith)
+returns-3 c =
+    let at-piece2 = c .before .before .before in
+    let at-list = at-piece2 .before .before .before in
+    let at-tags = at-list .before .before in
+    let at-label = at-tags .before .before in
+    let at-piece = at-label .before .before in
+    let entry = at-piece .before .before .before in
+    (sym (brace-stops (tagSizes (entry .args .n) (entry .args .s .now) 328) (entry .args .s .now) _ (sym (at-piece .piece .ensures) ∙ ap skip (at-label .label .given .1)) (sym (at-tags .tags .ensures .0) ∙ ap numberRead (at-list .list .given .1)) (sym (at-piece2 .piece2 .ensures) ∙ ap skip (c .before .brace2 .given .1))), omega arith)
 
--- src/lib.rt:637:5
 returns-4 : tie.Need-returns-4
-returns-4 c = (sym (list-stops (tagSizes (c .before .before .before .before .before .before .before .before .before .before .args .n) (c .before .before .before .before .before .before .before .before .before .before .args .s .now) 328) (c .before .before .before .before .before .before .before .before .before .before .args .s .now) _ (sym (c .before .before .before .before .before .before .before .piece .ensures) ∙ ap skip (c .before .before .before .before .before .label .given .1)) (sym (c .before .before .before .tags .ensures .0) ∙ ap numberRead (c .before .list2 .given .1))), omega arith)
+returns-4 c =
+    let at-tags = c .before .before .before in
+    let at-label = at-tags .before .before in
+    let at-piece = at-label .before .before in
+    let entry = at-piece .before .before .before in
+    (sym (list-stops (tagSizes (entry .args .n) (entry .args .s .now) 328) (entry .args .s .now) _ (sym (at-piece .piece .ensures) ∙ ap skip (at-label .label .given .1)) (sym (at-tags .tags .ensures .0) ∙ ap numberRead (c .before .list2 .given .1))), omega arith)
 
 pub tags-part-spec : {M : Type 1} → statement M
 tags-part-spec =
     tie.close
     (tie.spec
-    slice-aggregate-piece
-    piece-requires
-    enum-known-label
-    enum-known-label-2
+    (λ c. search needs)
+    (λ c κs. search needs)
+    (λ c. search needs)
+    (λ c. search needs)
     returns
-    tags-requires
-    enum-known-list
-    slice-aggregate-piece-2
-    piece-requires-2
-    enum-known-brace
-    enum-known-brace-2
-    enum-known-list-2
+    (λ c κs. search needs)
+    (λ c. search needs)
+    (λ c. search needs)
+    (λ c κs. search needs)
+    (λ c. search needs)
+    (λ c. search needs)
+    (λ c. search needs)
     returns-2
     returns-3
     returns-4)
