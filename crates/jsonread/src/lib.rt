@@ -31,10 +31,11 @@ pub struct Cursor {
     pub at: usize,
 }
 
-// Where the value of a field stands, and how it goes into the strict form. From 0: the field is not found yet.
+// Where the value of a field stands, and how it goes into the strict form. From 0: the field is not found yet, since no value stands there.
 pub struct Spot {
-    // the bytes of a string between its quotes; for tags the place of the first one
+    // where a string begins behind its quote, the first tag, or the place behind a number
     pub from: usize,
+    // the bytes of a string between its quotes
     pub count: usize,
     // the number that it is, or how many bytes or tags it has
     pub number: u64,
@@ -65,7 +66,8 @@ struct Copied {
     next: usize,
 }
 
-pub enum SpotRead {
+// A field's value with the cursor behind it, or the refusal.
+enum SpotRead {
     Found(Spot, Cursor),
     Refused(Refusal),
 }
@@ -89,15 +91,19 @@ enum LenRead {
     Refused(Refusal),
 }
 
+// Items with the cursor behind their closing bracket, or the refusal.
 enum SizedRead {
     Done(Sized, Cursor),
     Refused(Refusal),
 }
 
+// The length written, or the refusal.
 pub enum JsonRead {
     Written(usize),
     Refused(Refusal),
 }
+
+// A refusal, as each read tells it.
 
 fn no_spot(number: u8, place: usize) -> SpotRead
     ensures { λ r. ⌜ r ≡ SpotRead.Refused (record { number = number; place = place }) ⌝ }
