@@ -3,7 +3,6 @@
  * The table is gone through several times and the best figure of each kept, so that a busy moment of the machine does
  * not count. Built with -DKIND_.. as the driver. */
 #define _GNU_SOURCE
-#define KEZ_ALL
 #include "kezubimoryu.h"
 
 #include <dlfcn.h>

@@ -4,7 +4,6 @@
  * its page ends, so that a read past it is seen. Whatever goes wrong is the answer `broken ..`.
  * Built with -DKIND_.. for each kind of host/kinds; notepack's are always there. */
 #define _GNU_SOURCE
-#define KEZ_ALL
 #include "kezubimoryu.h"
 
 #include <inttypes.h>

@@ -1,6 +1,5 @@
 /* Tests of the C entries over the library's archive; those of host/kinds that are not notepack's, by the paper's examples.
  * The last line is 'N passed, M failed'. Built with -DKIND_.. as the driver. */
-#define KEZ_ALL
 #include "kezubimoryu.h"
 
 #include <stdio.h>
