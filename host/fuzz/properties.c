@@ -262,7 +262,8 @@ static void as_packed(const uint8_t *data, size_t len)
     memcpy(was, numbers, sizeof was);
     int strict = is_strict();
     must((strict < 0) == (read.refusal != 0), "disagrees with the reader");
-    elements(read, was[4]);
+    for (int i = 0; i < 3; i++)
+        elements(read, was[4]);
     write_with(&strict_form, PACK, kez_notepack_write);
 #ifdef KIND_canonical
     write_with(&canonical_text, CANONICAL, kez_canonical_write);
