@@ -193,8 +193,24 @@ static void put_space(input *to, int json)
         put_byte(to, " \t\n\r"[draw(4)]);
 }
 
+/* About as many tags, or texts in a tag, as there may be. */
+static void put_many(input *to)
+{
+    int tags = percent(50), count = (tags ? 999 : 254) + (int)draw(3);
+    put_words(to, tags ? "[" : "[[");
+    for (int i = 0; i < count; i++) {
+        put_words(to, i ? "," : "");
+        put_words(to, tags ? "[\"a\"]" : "\"\"");
+    }
+    put_words(to, tags ? "]" : "]]");
+}
+
 static void put_tags(input *to, const record *r, int json)
 {
+    if (json && draw(300) == 0) {
+        put_many(to);
+        return;
+    }
     put_byte(to, '[');
     for (int i = 0; i < r->tags; i++) {
         put_words(to, i ? ",[" : "[");
