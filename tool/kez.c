@@ -87,8 +87,11 @@ static int read_file(bytes *b, const char *name)
 {
     int standard = !strcmp(name, "-");
     FILE *file = standard ? stdin : fopen(name, "rb");
-    if (standard && isatty(0))
-        fprintf(stderr, "kez: reads standard input; end it with control-D\n");
+    if (standard) {
+        name = "standard input";
+        if (isatty(0))
+            fprintf(stderr, "kez: reads standard input; end it with control-D\n");
+    }
     if (!file) {
         fprintf(stderr, "kez: %s: %s\n", name, strerror(errno));
         return 0;
@@ -96,7 +99,7 @@ static int read_file(bytes *b, const char *name)
     int good = 1;
     b->len = 0;
     if (hex_in)
-        good = read_hex(b, file, standard ? "standard input" : name);
+        good = read_hex(b, file, name);
     else
         b->len = fread(b->at, 1, sizeof b->at, file);
     if (ferror(file)) {
@@ -185,7 +188,7 @@ static void show_place(const bytes *b, uint64_t place, int is_text)
 
 static int refused(const bytes *b, kez_answer a, int input)
 {
-    const char *what = advice(a.refusal, input);
+    const char *what = b->len ? advice(a.refusal, input) : "The input is empty: is it the right file?";
     fprintf(stderr, "refused %" PRIu64 " at %" PRIu64 ": %s\n", a.refusal, a.value, kez_refusal_text(a.refusal));
     if (has_place(a.refusal) && a.value <= b->len)
         show_place(b, a.value, input != PACKED);
