@@ -269,6 +269,11 @@ static void as_packed(const uint8_t *data, size_t len)
     write_with(&canonical_text, CANONICAL, kez_canonical_write);
     must(!read.refusal || same(read, canonical_text.answer), "refuses otherwise than the reader");
 #endif
+#ifdef KIND_nson_write
+    static result text;
+    write_with(&text, NSON_WRITE, kez_nson_write);
+    must(!read.refusal || same(read, text.answer), "refuses otherwise than the reader");
+#endif
     current = PACK;
     if (read.refusal) {
         must(same(read, strict_form.answer), "refuses otherwise than the reader");
@@ -281,10 +286,6 @@ static void as_packed(const uint8_t *data, size_t len)
     must(strict_form.answer.value <= len, "writes a strict form that is longer than what was read");
     current = STRICT;
     must(strict == leaves(&strict_form, data, len), "disagrees with the strict form");
-#ifdef KIND_nson_write
-    static result text;
-    write_with(&text, NSON_WRITE, kez_nson_write);
-#endif
     /* the strict form reads back */
     lend_input(&in_first, strict_form.bytes, strict_form.answer.value, first_copy);
     accepted(read_numbers(), 0, "does not read the strict form back");
