@@ -1,16 +1,10 @@
 # Needs the Rattle toolchain (rt on the PATH) and gcc.
-.PHONY: demo test compare bench clean
+PREFIX ?= /usr/local
+.PHONY: demo test compare bench bench-install fuzz fuzz-install install pictures clean
 
-# a sample record, read and written by what exists so far
+# one record, walked through all forms
 demo:
-	@rt check examples lister > target.log 2>&1 || { cat target.log; rm -f target.log; exit 1; }
-	@rm -f target.log
-	@echo "samples/record.notepack, $$(wc -c < samples/record.notepack) bytes, as the lister reads it:"
-	@target/bin/lister < samples/record.notepack
-	@echo; echo "and with its last byte cut off:"
-	@head -c 236 samples/record.notepack | target/bin/lister
-	@echo; echo "document 01's examples of varints and elements:"
-	@target/bin/examples
+	@host/demo
 
 # exactly what the gate runs
 test:
@@ -20,9 +14,27 @@ test:
 compare:
 	@host/compare $(COUNT)
 
-# nanoseconds for a call, beside plain Rust and a memcpy: make bench [ORACLE=program]
+# every entry under guard pages, sanitizers and libFuzzer: make fuzz [SECONDS=n]; the plain harness where clang has no libFuzzer
+fuzz:
+	@host/fuzz/guided $(SECONDS)
+
+fuzz-install:
+	@host/fuzz/install
+
+# nanoseconds for a call, beside plain Rust, a memcpy and the JSON parsers that are installed: make bench [ORACLE=program]
 bench:
 	@host/bench
+
+bench-install:
+	@host/bench-install
+
+# the library, its header, the tool, its man page and the pkg-config file: make install PREFIX=/usr/local [DESTDIR=]
+install:
+	@host/install "$(PREFIX)"
+
+# the pictures in docs/, drawn anew
+pictures:
+	@host/pictures
 
 clean:
 	rm -rf target

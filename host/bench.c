@@ -1,9 +1,9 @@
 /* Nanoseconds for a call of each entry on its records: the library as linked, host/reference by its shared library
- * (first word), a program that takes `--bench ENTRY FILE N` (second word, may be missing), and a plain memcpy.
+ * (first word), a plain memcpy, the JSON parsers of the shared library of host/peers.cc (second word, `-`: none), and a program that takes
+ * `--bench ENTRY FILE N` (third word, may be missing). The parsers take the text that kez_json_read takes, and only parse it.
  * The table is gone through several times and the best figure of each kept, so that a busy moment of the machine does
- * not count. Built with -DKIND_.. as the driver. */
+ * not count. It goes to standard output, and its figures line by line to target/host/bench.tsv. Built with -DKIND_.. as the driver. */
 #define _GNU_SOURCE
-#define KEZ_ALL
 #include "kezubimoryu.h"
 
 #include <dlfcn.h>
@@ -47,7 +47,7 @@ static void make(record *r, const char *name, size_t size, size_t tags, const ch
     for (size_t i = 0; i < 128; i++)
         r->packed[i] = (uint8_t)(i * 37 + 11);
     put_varint(r, 1720000000);
-    put_varint(r, 30078);
+    put_varint(r, 10002);
     /* the number of tags is one byte, the content's length one to three */
     size_t content = size - r->packed_len - 1 - tags * (1 + 2 + 33 + sizeof relay);
     content -= content < 130 ? 1 : content < 16386 ? 2 : 3;
@@ -72,7 +72,7 @@ static void make_hex(record *r, const char *name, size_t tags)
     make(r, name, 300, 0, ".");
     r->packed_len = 128;
     put_varint(r, 1720000000);
-    put_varint(r, 30078);
+    put_varint(r, 10002);
     put_varint(r, 0);
     put_varint(r, tags);
     for (size_t i = 0; i < tags; i++) {
@@ -83,49 +83,68 @@ static void make_hex(record *r, const char *name, size_t tags)
 
 /* Entries */
 
+typedef enum { READS, ASKS, WRITES, COUNTS, SHOWS, BOTH, RIVALS, PARSES, COPIES } shape;
+
 typedef kez_answer reads(const uint8_t *, size_t, uint64_t *, uint64_t *, uint64_t *, uint64_t *, uint64_t *);
 typedef kez_answer asks(const uint8_t *, size_t);
 typedef kez_answer writes(const uint8_t *, size_t, uint8_t *, size_t);
+typedef kez_answer counts(const uint8_t *, size_t, uint64_t);
+typedef kez_answer shows(const uint8_t *, size_t, uint64_t, uint64_t, uint64_t *, uint64_t *, uint64_t *);
+typedef kez_answer both(const uint8_t *, size_t, uint8_t *, size_t, uint8_t *, size_t);
+typedef kez_answer rivals(const uint8_t *, size_t, const uint8_t *, size_t);
+typedef int parses(const uint8_t *, size_t);
 
 typedef struct {
     const char *name, *symbol;
-    /* one of the three */
-    reads *reads;
-    asks *asks;
-    writes *writes;
+    shape shape;
+    void *function;
     int from_text; /* takes the record as NSON, not packed */
 } entry;
 
 static const entry entries[] = {
-    {.name = "read", .symbol = "kez_notepack_read", .reads = kez_notepack_read},
-    {.name = "strict", .symbol = "kez_notepack_is_strict", .asks = kez_notepack_is_strict},
-    {.name = "pack", .symbol = "kez_notepack_write", .writes = kez_notepack_write},
+    {"read", "kez_notepack_read", READS, kez_notepack_read, 0},
+    {"strict", "kez_notepack_is_strict", ASKS, kez_notepack_is_strict, 0},
+    {"pack", "kez_notepack_write", WRITES, kez_notepack_write, 0},
+    {"tag_len", "kez_notepack_tag_len", COUNTS, kez_notepack_tag_len, 0},
+    {"element", "kez_notepack_element", SHOWS, kez_notepack_element, 0},
 #ifdef KIND_canonical
-    {.name = "canonical", .symbol = "kez_canonical_write", .writes = kez_canonical_write},
+    {"canonical", "kez_canonical_write", WRITES, kez_canonical_write, 0},
 #endif
 #ifdef KIND_nson_write
-    {.name = "nson_write", .symbol = "kez_nson_write", .writes = kez_nson_write},
+    {"nson_write", "kez_nson_write", WRITES, kez_nson_write, 0},
 #endif
 #ifdef KIND_nson_read
-    {.name = "nson_read", .symbol = "kez_nson_read", .writes = kez_nson_read, .from_text = 1},
+    {"nson_read", "kez_nson_read", WRITES, kez_nson_read, 1},
 #endif
 #ifdef KIND_json_read
-    {.name = "json_read", .symbol = "kez_json_read", .writes = kez_json_read, .from_text = 1},
+    {"json_read", "kez_json_read", WRITES, kez_json_read, 1},
+#endif
+#ifdef KIND_read_both
+    {"read_both", "kez_read_both", BOTH, kez_read_both, 1},
+#endif
+#ifdef KIND_rivals
+    {"rivals", "kez_rivals", RIVALS, kez_rivals, 0},
 #endif
 };
 
-/* The same entry of another library. */
-static entry other(const entry *e, void *library)
+/* Who is measured. The parsers stand beside the JSON reader alone. */
+enum { LIBRARY, REFERENCE, RAPIDJSON, SIMDJSON, JANSSON, MEMCPY, PROGRAM, ALL };
+static const char *const names[ALL] = {"library", "reference", "RapidJSON", "simdjson", "Jansson", "memcpy", "program"};
+static const char *const symbols[ALL] = {[RAPIDJSON] = "peer_rapidjson", [SIMDJSON] = "peer_simdjson", [JANSSON] = "peer_jansson"};
+
+/* The entry of someone else; without a function if there is none. */
+static entry by(const entry *e, int who, void *reference, void *peers)
 {
-    void *found = dlsym(library, e->symbol);
     entry o = *e;
-    if (e->reads)
-        memcpy(&o.reads, &found, sizeof found);
-    if (e->asks)
-        memcpy(&o.asks, &found, sizeof found);
-    if (e->writes)
-        memcpy(&o.writes, &found, sizeof found);
-    return found ? o : (entry){0};
+    if (who == MEMCPY) {
+        o.shape = COPIES;
+    } else if (who == REFERENCE) {
+        o.function = dlsym(reference, e->symbol);
+    } else if (symbols[who]) {
+        o.shape = PARSES;
+        o.function = peers && !strcmp(e->name, "json_read") ? dlsym(peers, symbols[who]) : NULL;
+    }
+    return o;
 }
 
 /* Times */
@@ -142,19 +161,29 @@ static double now(void)
     return 1e9 * (double)t.tv_sec + (double)t.tv_nsec;
 }
 
-/* The sum of what `calls` calls answer, so that none is left out. */
+/* One call; 1 if it refuses. */
+static int call(const entry *e, const uint8_t *in, size_t len)
+{
+    uint64_t *n = numbers;
+    switch (e->shape) {
+    case READS: return ((reads *)e->function)(in, len, n, n + 1, n + 2, n + 3, n + 4).refusal != 0;
+    case ASKS: return ((asks *)e->function)(in, len).refusal != 0;
+    case WRITES: return ((writes *)e->function)(in, len, out, (size_t)ROOM).refusal != 0;
+    case COUNTS: return ((counts *)e->function)(in, len, 1).refusal != 0;
+    case SHOWS: return ((shows *)e->function)(in, len, 1, 1, n, n + 1, n + 2).refusal != 0;
+    case BOTH: return ((both *)e->function)(in, len, out, (size_t)ROOM / 2, out + ROOM / 2, (size_t)ROOM / 2).refusal != 0;
+    case RIVALS: return ((rivals *)e->function)(in, len, in, len).refusal != 0;
+    case PARSES: return !((parses *)e->function)(in, len);
+    default: memcpy(out, in, len); return 0;
+    }
+}
+
+/* How many of so many calls refuse, so that none is left out. */
 static uint64_t run(const entry *e, const uint8_t *in, size_t len, uint64_t calls)
 {
     uint64_t sum = 0;
     for (uint64_t i = 0; i < calls; i++) {
-        if (e->reads)
-            sum += e->reads(in, len, numbers, numbers + 1, numbers + 2, numbers + 3, numbers + 4).refusal;
-        else if (e->asks)
-            sum += e->asks(in, len).refusal;
-        else if (e->writes)
-            sum += e->writes(in, len, out, (size_t)ROOM).refusal;
-        else
-            memcpy(out, in, len);
+        sum += (uint64_t)call(e, in, len);
         __asm__ volatile("" : : "r"(out) : "memory");
     }
     return sum;
@@ -200,35 +229,26 @@ static double by_program(const char *program, const char *kind, const uint8_t *i
     return ns;
 }
 
-/* The figures of one entry on one record. */
+/* The figures of one entry on one record; 0 where there is none. */
 typedef struct {
     size_t len;
-    double library, reference, program, copy;
+    double ns[ALL];
 } row;
 
-static void measure(row *best, const entry *e, const record *r, void *reference, const char *program)
+static void measure(row *best, const entry *e, const record *r, void *reference, void *peers, const char *program)
 {
-    entry by_reference = other(e, reference), copy = {.name = "memcpy"};
     const uint8_t *in = e->from_text ? r->text : r->packed;
-    uint64_t calls = 16, reference_calls = 16, copy_calls = 16;
+    uint64_t calls = 16;
     best->len = e->from_text ? r->text_len : r->packed_len;
-    for (int i = 0; i < ROUNDS; i++) {
-        keep_best(&best->library, round_of(e, in, best->len, &calls));
-        keep_best(&best->reference, round_of(&by_reference, in, best->len, &reference_calls));
-        keep_best(&best->copy, round_of(&copy, in, best->len, &copy_calls));
+    for (int who = 0; who < PROGRAM; who++) {
+        entry o = by(e, who, reference, peers);
+        calls = 16;
+        for (int i = 0; i < ROUNDS && o.function; i++)
+            keep_best(&best->ns[who], round_of(&o, in, best->len, &calls));
     }
     double ns = program ? by_program(program, e->name, in, best->len, calls) : 0;
     if (ns > 0)
-        keep_best(&best->program, ns);
-}
-
-/* A figure, and the library's ratio to it. */
-static void print_ratio(double library, double ns)
-{
-    if (ns > 0)
-        printf("  %10.1f %6.2f", ns, library / ns);
-    else
-        printf("  %10s %6s", "-", "-");
+        keep_best(&best->ns[PROGRAM], ns);
 }
 
 static int is_for(const record *r, const entry *e)
@@ -238,20 +258,56 @@ static int is_for(const record *r, const entry *e)
 
 enum { ENTRIES = sizeof entries / sizeof *entries, RECORDS = sizeof records / sizeof *records };
 
+static void print(row rows[ENTRIES][RECORDS])
+{
+    FILE *figures = fopen("target/host/bench.tsv", "w");
+    int shown[ALL] = {0};
+    for (int i = 0; i < ENTRIES; i++)
+        for (int j = 0; j < RECORDS; j++)
+            for (int who = 0; who < ALL; who++)
+                shown[who] |= rows[i][j].ns[who] > 0;
+    printf("nanoseconds for a call\n%-10s  %-12s %6s", "entry", "record", "bytes");
+    for (int who = 0; who < ALL; who++)
+        if (shown[who])
+            printf("  %10s", names[who]);
+    printf("  %s\n", "library : reference");
+    if (figures)
+        fprintf(figures, "entry\trecord\tbytes\tby\tns\n");
+    for (int i = 0; i < ENTRIES; i++)
+        for (int j = 0; j < RECORDS; j++) {
+            const row *b = &rows[i][j];
+            if (!b->len)
+                continue;
+            printf("%-10s  %-12s %6zu", entries[i].name, records[j].name, b->len);
+            for (int who = 0; who < ALL; who++) {
+                if (b->ns[who] > 0)
+                    printf("  %10.1f", b->ns[who]);
+                else if (shown[who])
+                    printf("  %10s", "-");
+                if (figures && b->ns[who] > 0)
+                    fprintf(figures, "%s\t%s\t%zu\t%s\t%.1f\n", entries[i].name, records[j].name, b->len, names[who], b->ns[who]);
+            }
+            printf("  %.2f\n", b->ns[LIBRARY] / b->ns[REFERENCE]);
+        }
+    if (figures)
+        fclose(figures);
+}
+
 int main(int count, char **words)
 {
     static row rows[ENTRIES][RECORDS];
     void *reference = count > 1 ? dlopen(words[1], RTLD_NOW | RTLD_LOCAL) : NULL;
-    const char *program = count > 2 ? words[2] : NULL;
-    writes *nson_write = reference ? (writes *)(uintptr_t)dlsym(reference, "kez_nson_write") : NULL;
+    void *peers = count > 2 && strcmp(words[2], "-") ? dlopen(words[2], RTLD_NOW | RTLD_LOCAL) : NULL;
+    const char *program = count > 3 ? words[3] : NULL;
+    writes *nson_write = reference ? (writes *)dlsym(reference, "kez_nson_write") : NULL;
     if (!nson_write) {
-        fprintf(stderr, "usage: bench libreference.so [PROGRAM]\n");
+        fprintf(stderr, "usage: bench libreference.so [libpeers.so | -] [PROGRAM]\n");
         return 2;
     }
     make(&records[0], "small", 300, 2, "A map for the left ear. ");
     make(&records[1], "middle", 4000, 16, "Threshold 42 dB at 1000 Hz, \"comfort\" 61 dB.\n");
-    make(&records[2], "large, ASCII", 60000, 16, "Threshold 42 dB at 1000 Hz, comfort 61 dB; the next visit is in spring.\n");
-    make(&records[3], "large, other", 60000, 16, "Порог слышимости 42 дБ при 1000 Гц — 聴力検査の結果は良好です 👂\n");
+    make(&records[2], "large", 60000, 16, "Threshold 42 dB at 1000 Hz, comfort 61 dB; the next visit is in spring.\n");
+    make(&records[3], "not ASCII", 60000, 16, "Порог слышимости 42 дБ при 1000 Гц — 聴力検査の結果は良好です 👂\n");
     make(&records[4], "plain", 60000, 0, "Threshold 42 dB at 1000 Hz, comfort 61 dB; the next visit is in spring. ");
     make(&records[5], "lines of 80", 60000, 0, "Threshold 42 dB at 1000 Hz, comfort 61 dB; the next visit is in spring, at ten.\n");
     make_hex(&records[6], "hex in tags", 1000);
@@ -265,20 +321,7 @@ int main(int count, char **words)
         for (int i = 0; i < ENTRIES; i++)
             for (int j = 0; j < RECORDS; j++)
                 if (is_for(&records[j], &entries[i]))
-                    measure(&rows[i][j], &entries[i], &records[j], reference, program);
-    printf("nanoseconds for a call; ratio: the library to what stands left of it\n");
-    printf("%-10s  %-12s %6s  %10s  %10s %6s", "entry", "record", "bytes", "library", "reference", "ratio");
-    printf(program ? "  %10s %6s  %10s\n" : "%s%s  %10s\n", program ? "program" : "", program ? "ratio" : "", "memcpy");
-    for (int i = 0; i < ENTRIES; i++)
-        for (int j = 0; j < RECORDS; j++) {
-            row *b = &rows[i][j];
-            if (!is_for(&records[j], &entries[i]))
-                continue;
-            printf("%-10s  %-12s %6zu  %10.1f", entries[i].name, records[j].name, b->len, b->library);
-            print_ratio(b->library, b->reference);
-            if (program)
-                print_ratio(b->library, b->program);
-            printf("  %10.1f\n", b->copy);
-        }
+                    measure(&rows[i][j], &entries[i], &records[j], reference, peers, program);
+    print(rows);
     return 0;
 }

@@ -49,6 +49,11 @@ build_library() {
     esac
 }
 
+# the same library to be loaded at run time, for Python
+build_shared() {
+    quietly gcc -shared -o "$built/libkezubimoryu.so" -Wl,--whole-archive "$archive" -Wl,--no-whole-archive -lpthread -ldl -lm
+}
+
 # build_c NAME SOURCE [WORDS..]: a C program over the archive
 build_c() {
     local name=$1 source=$2 defines

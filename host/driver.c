@@ -4,7 +4,6 @@
  * its page ends, so that a read past it is seen. Whatever goes wrong is the answer `broken ..`.
  * Built with -DKIND_.. for each kind of host/kinds; notepack's are always there. */
 #define _GNU_SOURCE
-#define KEZ_ALL
 #include "kezubimoryu.h"
 
 #include <inttypes.h>
@@ -271,6 +270,57 @@ static int do_write(const kind *k, char **words)
     return 1;
 }
 
+#ifdef KIND_read_both
+/* The second lent buffer: the guards of the first, and a pattern of its own. */
+static uint8_t second_area[GUARD + MOST + GUARD];
+
+static void print_bytes(const uint8_t *at, size_t len)
+{
+    putchar_unlocked(' ');
+    for (size_t i = 0; i < len; i++) {
+        putchar_unlocked("0123456789abcdef"[at[i] >> 4]);
+        putchar_unlocked("0123456789abcdef"[at[i] & 15]);
+    }
+    if (!len)
+        putchar_unlocked('-');
+}
+
+static int do_both(const kind *k, char **words)
+{
+    (void)k;
+    uint64_t room;
+    if (!lend(&first, words[0]) || !parsed(words[1], &room) || room > MOST)
+        return 0;
+    uint8_t *nson = lend_room(room);
+    memcpy(second_area, area, GUARD + room + GUARD);
+    uint8_t *json = room || line_number % 2 ? second_area + GUARD : NULL;
+    kez_answer a = kez_read_both(first.at, first.len, nson, room, json, room);
+    check_input(&first);
+    /* how much was written: what the JSON reader says that is lent all there is */
+    static uint8_t alone[KEZ_MOST];
+    kez_answer by_json = kez_json_read(first.at, first.len, alone, sizeof alone);
+    size_t len = a.refusal || !a.value || by_json.refusal ? 0 : by_json.value;
+    if (len > room) {
+        wrong("has written more than there is room for");
+        return 1;
+    }
+    check_room(room, a.value == 2 ? len : 0);
+    for (size_t i = 0; i < GUARD + room + GUARD; i++)
+        if ((i < GUARD || i >= GUARD + len) && second_area[i] != pattern(i))
+            wrong("writes where it must not in the second buffer");
+    if (!a.refusal && a.value > 2)
+        wrong("has a value above 2");
+    if (told_refusal(a))
+        return 1;
+    printf("ok %" PRIu64, a.value);
+    if (a.value) {
+        print_bytes(area + GUARD, a.value == 2 ? len : 0);
+        print_bytes(second_area + GUARD, len);
+    }
+    return 1;
+}
+#endif
+
 #ifdef KIND_rivals
 static int do_rivals(const kind *k, char **words)
 {
@@ -318,6 +368,9 @@ static const kind kinds[] = {
 #endif
 #ifdef KIND_json_read
     {"json_read", 2, do_write, kez_json_read},
+#endif
+#ifdef KIND_read_both
+    {"read_both", 2, do_both, NULL},
 #endif
 #ifdef KIND_rivals
     {"rivals", 2, do_rivals, NULL},

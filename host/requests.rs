@@ -39,7 +39,9 @@ fn main() -> io::Result<()> {
 
 /// COUNT requests of these kinds.
 fn requests(seed: u64, count: usize, kinds: &[String]) -> impl Iterator<Item = String> {
-    let mut g = Requests { dice: Dice(seed), kinds: kinds.to_vec(), lines: Vec::new() };
+    let both = kinds.iter().any(|kind| kind == "read_both");
+    let kinds = kinds.iter().filter(|kind| *kind != "read_both").cloned().collect();
+    let mut g = Requests { dice: Dice(seed), kinds, lines: Vec::new() };
     boundaries::all(&mut g);
     let limits = thinned(std::mem::take(&mut g.lines), count / 2);
     damage::everywhere(&mut g);
@@ -50,7 +52,16 @@ fn requests(seed: u64, count: usize, kinds: &[String]) -> impl Iterator<Item = S
         }
         g.lines.pop()
     });
-    limits.into_iter().chain(damaged).chain(random).take(count)
+    let asked = limits.into_iter().chain(damaged).chain(random).take(count);
+    asked.enumerate().map(move |(i, line)| if both && i % 3 == 0 { to_both(line) } else { line })
+}
+
+/// A request to one of the two readers of texts, put to both.
+fn to_both(line: String) -> String {
+    match line.strip_prefix("nson_read ").or(line.strip_prefix("json_read ")) {
+        Some(rest) => format!("read_both {rest}"),
+        None => line,
+    }
 }
 
 /// At most `most` of the lines, evenly.

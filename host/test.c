@@ -1,10 +1,11 @@
 /* Tests of the C entries over the library's archive; those of host/kinds that are not notepack's, by the paper's examples.
  * The last line is 'N passed, M failed'. Built with -DKIND_.. as the driver. */
-#define KEZ_ALL
+#define _GNU_SOURCE
 #include "kezubimoryu.h"
 
 #include <stdio.h>
 #include <string.h>
+#include <sys/mman.h>
 
 static int passed, failed;
 
@@ -645,9 +646,78 @@ static void sentences(void)
     CHECK(!strcmp(kez_refusal_text(UINT64_MAX), kez_refusal_text(20)), "no such number");
 }
 
+/* With length 0 every entry takes a null pointer, one that is not aligned to anything, and one to a page that can't be
+ * touched, for what is read and for what is written. Nothing but a refusal can follow: no form of an event is empty. */
+static void nothing_lent(void)
+{
+    uint8_t *page = mmap(NULL, 4096, PROT_NONE, MAP_PRIVATE | MAP_ANONYMOUS, -1, 0);
+    uint8_t *const none[] = {NULL, (uint8_t *)1, page, page + 4096};
+    for (int i = 0; i < 4; i++) {
+        const uint8_t *in = none[i];
+        refused(in, 0, 2, 0);
+        for (int j = 0; j < 4; j++) {
+            uint8_t *out = none[j];
+            CHECK(is(kez_notepack_write(in, 0, out, 0), 2, 0), "%d %d", i, j);
+            CHECK(is(kez_notepack_write(vector.at, vector.len, out, 0), 11, vector.len), "%d", j);
+#ifdef KIND_canonical
+            CHECK(is(kez_canonical_write(in, 0, out, 0), 2, 0), "%d %d", i, j);
+            CHECK(is(kez_canonical_write(vector.at, vector.len, out, 0), 11, 265), "%d", j);
+#endif
+#ifdef KIND_nson_write
+            CHECK(is(kez_nson_write(in, 0, out, 0), 2, 0), "%d %d", i, j);
+            CHECK(kez_nson_write(vector.at, vector.len, out, 0).refusal == 11, "%d", j);
+#endif
+#ifdef KIND_nson_read
+            CHECK(is(kez_nson_read(in, 0, out, 0), 12, 0), "%d %d", i, j);
+#endif
+#ifdef KIND_json_read
+            CHECK(is(kez_json_read(in, 0, out, 0), 14, 0), "%d %d", i, j);
+#endif
+#ifdef KIND_read_both
+            CHECK(is(kez_read_both(in, 0, out, 0, out, 0), 0, 0), "%d %d", i, j);
+#endif
+#ifdef KIND_rivals
+            CHECK(is(kez_rivals(in, 0, out, 0), 2, 0), "%d %d", i, j);
+            CHECK(is(kez_rivals(vector.at, vector.len, out, 0), 2, 0), "%d", j);
+#endif
+        }
+    }
+    munmap(page, 4096);
+}
+
+#ifdef KIND_read_both
+/* Document 003's event by both; with a count that lies, by JSON alone; neither; and without room. */
+static void read_both(void)
+{
+    static bytes packed, text, damaged;
+    static uint8_t other[70000];
+    document_003(&packed, &text);
+    lend();
+    memcpy(other, room, sizeof other);
+    CHECK(is(kez_read_both(text.at, text.len, room, sizeof room, other, sizeof other), 0, 2), "both");
+    CHECK(!memcmp(room, packed.at, packed.len) && !memcmp(other, packed.at, packed.len), "another event");
+    CHECK(untouched_from(packed.len), "bytes behind the written ones changed");
+    damaged = text;
+    damaged.at[326] ^= 1;
+    lend();
+    memcpy(other, room, sizeof other);
+    CHECK(is(kez_read_both(damaged.at, damaged.len, room, sizeof room, other, sizeof other), 0, 1), "JSON alone");
+    CHECK(untouched() && !memcmp(other, packed.at, packed.len), "the first buffer changed, or another event");
+    CHECK(is(kez_read_both(damaged.at, damaged.len, NULL, 0, other, packed.len), 0, 1), "one buffer is enough");
+    lend();
+    memcpy(other, room, sizeof other);
+    CHECK(is(kez_read_both(text.at, text.len, room, packed.len - 1, other, sizeof other), 11, packed.len), "the first too short");
+    CHECK(is(kez_read_both(text.at, text.len, room, sizeof room, other, packed.len - 1), 11, packed.len), "the second too short");
+    CHECK(is(kez_read_both(text.at, text.len - 1, room, sizeof room, other, sizeof other), 0, 0), "neither");
+    CHECK(is(kez_read_both(room, 65537, NULL, 0, other, sizeof other), 1, 0), "too long");
+    CHECK(untouched() && !memcmp(room, other, sizeof other), "a refusal changed what was lent");
+}
+#endif
+
 int main(void)
 {
     make_vector();
+    nothing_lent();
     the_vector();
     truncations();
     padded();
@@ -666,6 +736,9 @@ int main(void)
 #endif
 #ifdef KIND_json_read
     json_read();
+#endif
+#ifdef KIND_read_both
+    read_both();
 #endif
 #ifdef KIND_rivals
     rivals();

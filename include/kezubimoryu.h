@@ -1,10 +1,12 @@
 /* Kezubimoryu: Nostr events as notepack, canonical text, NSON and plain JSON.
  *
  * Every entry takes numbers and byte buffers that the caller lends, takes all inputs there are, and ends.
- * A pointer to bytes comes with its length; a null pointer with length 0 is fine. A pointer to a number is never null.
- * What is lent to be written overlaps nothing else that is lent to the same call.
+ * A pointer to bytes comes with its length. With length 0 it may be null or anything else: nothing is touched through it.
+ * A pointer to a number is never null. What is lent to be written overlaps nothing else that is lent to the same call.
+ * No entry keeps a pointer or has a state of its own, so calls from several threads need no lock.
  *
  * A packed event is notepack without a version byte, at most 65,536 bytes. Places and counts start at 0, lengths are in bytes.
+ * Link with `pkg-config --cflags --libs kezubimoryu`.
  */
 #ifndef KEZUBIMORYU_H
 #define KEZUBIMORYU_H
@@ -15,6 +17,12 @@
 #ifdef __cplusplus
 extern "C" {
 #endif
+
+/* No input is longer, nor an event in strict form, nor NSON: a buffer of this many bytes is room enough for these. */
+#define KEZ_MOST 65536
+
+/* A canonical text has at most three bytes for each byte that was packed. */
+#define KEZ_CANONICAL_MOST (3 * KEZ_MOST)
 
 /* What every entry answers.
  * refusal is 0, and value is what the entry says below; or refusal is a number from 1 to 19, and value is its place.
@@ -68,9 +76,6 @@ kez_answer kez_rivals(const uint8_t *first, size_t first_len,
 kez_answer kez_canonical_write(const uint8_t *packed, size_t packed_len,
                                uint8_t *out, size_t out_len);
 
-/* Not in the library yet: define KEZ_ALL once they are. */
-#ifdef KEZ_ALL
-
 /* Writes a packed event as NSON; both readers below then show the same event.
  * Bytes that kez_notepack_read refuses get its refusal; then 17 if NSON can't carry the event; then 11.
  * value: the length written */
@@ -89,9 +94,14 @@ kez_answer kez_nson_read(const uint8_t *text, size_t text_len,
 kez_answer kez_json_read(const uint8_t *text, size_t text_len,
                          uint8_t *out, size_t out_len);
 
-#endif /* KEZ_ALL */
+/* Puts one text to both readers. What NSON's reader accepts is left in both buffers, the same bytes; what the JSON reader
+ * alone accepts is left in json_out. Refusals: 1, and 11 with the length needed where a buffer that is to be written is too short.
+ * value: 0 neither accepts it, 1 JSON alone, 2 both */
+kez_answer kez_read_both(const uint8_t *text, size_t text_len,
+                         uint8_t *nson_out, size_t nson_out_len,
+                         uint8_t *json_out, size_t json_out_len);
 
-/* A sentence for a number of refusal. */
+/* A sentence for a number of refusal. The string is a constant: it is never null and never freed. */
 static inline const char *kez_refusal_text(uint64_t number)
 {
     switch (number) {

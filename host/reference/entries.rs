@@ -2,7 +2,7 @@
 
 use crate::answer::{Answer, Refusal};
 use crate::rivals::Choice;
-use crate::{canonical, json, notepack, nson, rivals};
+use crate::{both, canonical, json, notepack, nson, rivals};
 
 #[repr(C)]
 pub struct KezAnswer {
@@ -113,4 +113,17 @@ pub unsafe extern "C" fn kez_rivals(first: *const u8, first_len: usize, second: 
         Ok(Choice::Second) => Ok(2),
         Err((refusal, _)) => Err(refusal),
     })
+}
+
+#[no_mangle]
+pub unsafe extern "C" fn kez_read_both(
+    text: *const u8,
+    text_len: usize,
+    nson_out: *mut u8,
+    nson_out_len: usize,
+    json_out: *mut u8,
+    json_out_len: usize,
+) -> KezAnswer {
+    let (text, nson_out, json_out) = unsafe { (lent(text, text_len), lent_mut(nson_out, nson_out_len), lent_mut(json_out, json_out_len)) };
+    told(both::read(text, nson_out, json_out))
 }

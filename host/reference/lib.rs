@@ -2,6 +2,7 @@
 //! a yardstick for the library's answers and for its speed. `entries` has the library's own C entries.
 
 pub mod answer;
+pub mod both;
 pub mod bytes;
 pub mod canonical;
 pub mod entries;

@@ -5,7 +5,7 @@
 
 use reference::answer::{Answer, Refusal};
 use reference::rivals::{Choice, Which};
-use reference::{canonical, json, notepack, nson, rivals};
+use reference::{both, canonical, json, notepack, nson, rivals};
 use std::io::{self, BufRead, Write};
 
 mod selftest;
@@ -63,6 +63,17 @@ fn answer(line: &str) -> Option<String> {
                 format!("refused {number} {place} {}", if which == Which::First { 1 } else { 2 })
             }
         },
+        ["read_both", s, room] => {
+            let room = number(room)? as usize;
+            let (s, mut nson, mut json) = (bytes(s)?, vec![0; room], vec![0; room]);
+            told(both::read(&s, &mut nson, &mut json).map(|value| match value {
+                0 => "ok 0".into(),
+                // the length is what the reader tells that is lent the same room
+                _ => json::read(&s, &mut vec![0; room]).map_or("ok".into(), |n| {
+                    format!("ok {value} {} {}", if value == 2 { hex(&nson[..n]) } else { "-".into() }, hex(&json[..n]))
+                }),
+            }))
+        }
         [entry, s, room] => writes(writing(entry)?, s, room)?,
         _ => return None,
     })

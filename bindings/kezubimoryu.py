@@ -1,0 +1,154 @@
+"""Kezubimoryu from Python: the C entries of kezubimoryu.h under their own names, by ctypes, in this one file.
+
+Each takes bytes. A refusal is raised as Refused, with its number and place; the sentence is its text.
+The shared library is $KEZ_LIBRARY, or libkezubimoryu.so beside this file, or wherever the system finds it.
+"""
+import ctypes
+import os
+from collections import namedtuple
+
+KEZ_MOST = 65536
+KEZ_CANONICAL_MOST = 3 * KEZ_MOST
+
+Numbers = namedtuple("Numbers", "created_at kind content_at content_len tag_count")
+Element = namedtuple("Element", "at len is_bytes")
+Both = namedtuple("Both", "value nson json")
+
+SENTENCES = (
+    "Nothing is refused.",
+    "The input is longer than 65,536 bytes.",
+    "The packed event is cut short, or a length in it goes beyond its end.",
+    "A varint does not fit 64 bits.",
+    "The input ends inside a varint.",
+    "A text is not well-formed UTF-8.",
+    "The kind is above 65,535.",
+    "The time is above 9,223,372,036,854,775 seconds.",
+    "There are more than 1,000 tags, or more than 255 texts in a tag.",
+    "A tag is empty.",
+    "Something follows after the end.",
+    "The lent buffer is shorter than needed.",
+    "A fixed piece, hex or time is not as it must be, or the id, pubkey or sig is not lowercase hex of its length.",
+    "A count in the nson field disagrees with the text.",
+    "The text is not allowed: wrong JSON syntax, type, escape, or a raw control byte.",
+    "A field is missing.",
+    "A field stands there twice.",
+    "NSON can't carry this event.",
+    "Arrays and objects are nested more than 16 deep.",
+    "There is no such tag or element.",
+)
+
+
+class Refused(Exception):
+    def __init__(self, number, place):
+        super().__init__("refused %d at %d: %s" % (number, place, kez_refusal_text(number)))
+        self.number = number
+        self.place = place
+
+
+class _Answer(ctypes.Structure):
+    _fields_ = [("refusal", ctypes.c_uint64), ("value", ctypes.c_uint64)]
+
+
+def _open():
+    beside = os.path.join(os.path.dirname(os.path.abspath(__file__)), "libkezubimoryu.so")
+    name = os.environ.get("KEZ_LIBRARY") or (beside if os.path.exists(beside) else "libkezubimoryu.so")
+    return ctypes.CDLL(name)
+
+
+_library = _open()
+_bytes = (ctypes.c_char_p, ctypes.c_size_t)
+_room = (ctypes.POINTER(ctypes.c_char), ctypes.c_size_t)
+_number = ctypes.POINTER(ctypes.c_uint64)
+
+
+def _call(name, types, *words):
+    """The answer's value; a refusal is raised."""
+    entry = getattr(_library, name, None)
+    if entry is None:
+        raise NotImplementedError("this library has no " + name)
+    entry.restype = _Answer
+    entry.argtypes = types
+    answer = entry(*words)
+    if answer.refusal:
+        raise Refused(answer.refusal, answer.value)
+    return answer.value
+
+
+def _lend(data):
+    data = bytes(data)
+    return data, len(data)
+
+
+def _write(name, data, room):
+    out = ctypes.create_string_buffer(room)
+    length = _call(name, _bytes + _room, *_lend(data), out, room)
+    return out.raw[:length]
+
+
+def kez_refusal_text(number):
+    """A sentence for a number of refusal."""
+    return SENTENCES[number] if 0 <= number < len(SENTENCES) else "There is no refusal with this number."
+
+
+def kez_notepack_read(packed):
+    """The five numbers of a packed event."""
+    numbers = (ctypes.c_uint64 * 5)()
+    at = [ctypes.cast(ctypes.byref(numbers, 8 * i), _number) for i in range(5)]
+    _call("kez_notepack_read", _bytes + (_number,) * 5, *_lend(packed), *at)
+    return Numbers(*numbers)
+
+
+def kez_notepack_is_strict(packed):
+    """Are these bytes the strict form?"""
+    return bool(_call("kez_notepack_is_strict", _bytes, *_lend(packed)))
+
+
+def kez_notepack_write(packed):
+    """The strict form of a packed event."""
+    return _write("kez_notepack_write", packed, KEZ_MOST)
+
+
+def kez_notepack_tag_len(packed, tag):
+    """The number of texts in this tag."""
+    return _call("kez_notepack_tag_len", _bytes + (ctypes.c_uint64,), *_lend(packed), tag)
+
+
+def kez_notepack_element(packed, tag, element):
+    """Where the payload of this element stands, its length, and whether it is raw bytes whose text is their hex."""
+    numbers = (ctypes.c_uint64 * 3)()
+    at = [ctypes.cast(ctypes.byref(numbers, 8 * i), _number) for i in range(3)]
+    _call("kez_notepack_element", _bytes + (ctypes.c_uint64,) * 2 + (_number,) * 3, *_lend(packed), tag, element, *at)
+    return Element(*numbers)
+
+
+def kez_canonical_write(packed):
+    """The canonical text of NIP-01."""
+    return _write("kez_canonical_write", packed, KEZ_CANONICAL_MOST)
+
+
+def kez_nson_write(packed):
+    """A packed event as NSON."""
+    return _write("kez_nson_write", packed, KEZ_MOST)
+
+
+def kez_nson_read(text):
+    """NSON as a packed event in strict form."""
+    return _write("kez_nson_read", text, KEZ_MOST)
+
+
+def kez_json_read(text):
+    """An event in plain JSON as a packed event in strict form."""
+    return _write("kez_json_read", text, KEZ_MOST)
+
+
+def kez_read_both(text):
+    """One text put to both readers: 0 neither, 1 JSON alone, 2 both; and what each leaves, or None."""
+    nson, json = ctypes.create_string_buffer(KEZ_MOST), ctypes.create_string_buffer(KEZ_MOST)
+    value = _call("kez_read_both", _bytes + _room + _room, *_lend(text), nson, KEZ_MOST, json, KEZ_MOST)
+    length = len(kez_json_read(text)) if value else 0
+    return Both(value, nson.raw[:length] if value == 2 else None, json.raw[:length] if value else None)
+
+
+def kez_rivals(first, second):
+    """Which of two packed events is kept: 0 not rivals, 1 the first, 2 the second."""
+    return _call("kez_rivals", _bytes + _bytes, *_lend(first), *_lend(second))

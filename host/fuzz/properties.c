@@ -1,0 +1,422 @@
+/* The properties, and the lent buffers that are watched. Built with -DKIND_.. for each kind of host/kinds.
+ * Every buffer that is lent ends at a page that can't be touched, or starts behind one, by turns; on its other side stand bytes
+ * that are looked at after the call, and so are the bytes of the buffer itself that the call must leave. */
+#define _GNU_SOURCE
+#include "properties.h"
+
+#include "kezubimoryu.h"
+
+#include <inttypes.h>
+#include <stdio.h>
+#include <stdlib.h>
+#include <string.h>
+#include <sys/mman.h>
+#include <unistd.h>
+
+enum { READ, STRICT, PACK, TAG_LEN, ELEMENT, CANONICAL, NSON_WRITE, NSON_READ, JSON_READ, READ_BOTH, RIVALS };
+
+const char *const entry_names[ENTRIES] = {"kez_notepack_read", "kez_notepack_is_strict", "kez_notepack_write", "kez_notepack_tag_len",
+                                          "kez_notepack_element", "kez_canonical_write", "kez_nson_write", "kez_nson_read",
+                                          "kez_json_read", "kez_read_both", "kez_rivals"};
+
+void (*answered)(int entry, uint64_t refusal, uint64_t value);
+
+/* What goes wrong ends the process, with the input. */
+
+static int current; /* the entry */
+static const uint8_t *given;
+static size_t given_len;
+
+static void __attribute__((noreturn)) found(const char *what)
+{
+    fprintf(stderr, "FOUND: %s %s\ninput of %zu bytes: ", entry_names[current], what, given_len);
+    for (size_t i = 0; i < given_len && i < 2000; i++)
+        fprintf(stderr, "%02x", given[i]);
+    fprintf(stderr, "\n");
+    abort();
+}
+
+static void must(int is_so, const char *what)
+{
+    if (!is_so)
+        found(what);
+}
+
+static uint64_t dice;
+
+static uint64_t roll(uint64_t below)
+{
+    dice += UINT64_C(0x9e3779b97f4a7c15);
+    uint64_t z = dice;
+    z = (z ^ (z >> 30)) * UINT64_C(0xbf58476d1ce4e5b9);
+    z = (z ^ (z >> 27)) * UINT64_C(0x94d049bb133111eb);
+    return (z ^ (z >> 31)) % below;
+}
+
+/* Lent buffers */
+
+enum { SIZE = 1 << 18, BESIDE = 64 };
+
+typedef struct {
+    uint8_t *low, *high; /* between two pages that can't be touched */
+    uint8_t *at;         /* what is lent; its bytes and those beside it were old[..] */
+    size_t len;
+    uint8_t *from;       /* the start of what is watched: len + BESIDE bytes */
+    const uint8_t *old;
+} buffer;
+
+static buffer in_first, in_second, out_first, out_second, number_buffer;
+static uint8_t pattern[SIZE + BESIDE + 4096], first_copy[SIZE + BESIDE], second_copy[SIZE + BESIDE];
+
+static void make(buffer *b)
+{
+    size_t page = (size_t)sysconf(_SC_PAGESIZE);
+    uint8_t *map = mmap(NULL, SIZE + 2 * page, PROT_NONE, MAP_PRIVATE | MAP_ANONYMOUS, -1, 0);
+    if (map == MAP_FAILED || mprotect(map + page, SIZE, PROT_READ | PROT_WRITE)) {
+        perror("no memory");
+        exit(2);
+    }
+    b->low = map + page;
+    b->high = b->low + SIZE;
+}
+
+static void place(buffer *b, size_t len)
+{
+    b->len = len;
+    if (roll(2)) {
+        b->at = b->high - len;
+        b->from = b->at - BESIDE;
+    } else {
+        b->at = b->from = b->low;
+    }
+}
+
+static void lend_input(buffer *b, const uint8_t *data, size_t len, uint8_t *copy)
+{
+    place(b, len);
+    memcpy(b->from, pattern, len + BESIDE);
+    memcpy(b->at, data, len);
+    memcpy(copy, b->from, len + BESIDE);
+    b->old = copy;
+}
+
+static void lend_room(buffer *b, size_t room)
+{
+    place(b, room);
+    b->old = pattern + roll(4096);
+    memcpy(b->from, b->old, room + BESIDE);
+}
+
+/* Bytes with length 0 are lent as a null pointer, or as the page that can't be touched. */
+static uint8_t *lent(const buffer *b)
+{
+    return b->len ? b->at : roll(2) ? NULL : b->high;
+}
+
+/* Only the first `written` bytes of what was lent may differ. */
+static void unchanged(const buffer *b, size_t written, const char *what)
+{
+    size_t before = (size_t)(b->at - b->from), behind = before + written;
+    must(!memcmp(b->from, b->old, before) && !memcmp(b->from + behind, b->old + behind, b->len + BESIDE - behind), what);
+}
+
+/* What holds of every answer. */
+static kez_answer checked(kez_answer a)
+{
+    unchanged(&in_first, 0, "changes its input");
+    must(a.refusal <= 19, "has a refusal that does not exist");
+    if (answered)
+        answered(current, a.refusal, a.value);
+    return a;
+}
+
+static int same(kez_answer a, kez_answer b)
+{
+    return a.refusal == b.refusal && a.value == b.value;
+}
+
+static void accepted(kez_answer a, uint64_t value, const char *what)
+{
+    must(!a.refusal && a.value == value, what);
+}
+
+/* Entries that write */
+
+typedef kez_answer writer(const uint8_t *, size_t, uint8_t *, size_t);
+
+static kez_answer in_room(int entry, writer *call, size_t room)
+{
+    current = entry;
+    lend_room(&out_first, room);
+    kez_answer a = checked(call(lent(&in_first), in_first.len, lent(&out_first), room));
+    if (a.refusal) {
+        unchanged(&out_first, 0, "refuses, and changes the lent buffer");
+        must(a.refusal != 11 || a.value > room, "refuses 11 though there is room");
+    } else {
+        must(a.value <= room, "has written more than there is room for");
+        unchanged(&out_first, a.value, "changes bytes behind the written length");
+    }
+    return a;
+}
+
+/* What an entry leaves. */
+typedef struct {
+    kez_answer answer; /* with room enough */
+    uint8_t bytes[SIZE];
+} result;
+
+static int leaves(const result *r, const uint8_t *bytes, size_t len)
+{
+    return !r->answer.refusal && r->answer.value == len && !memcmp(r->bytes, bytes, len);
+}
+
+/* Asks with no room, with too little, with just enough and with more. */
+static void write_with(result *r, int entry, writer *call)
+{
+    kez_answer none = in_room(entry, call, 0);
+    if (none.refusal != 11) {
+        must(none.refusal != 0, "writes nothing and accepts");
+        must(same(in_room(entry, call, roll(600)), none), "answers otherwise with other room");
+        r->answer = none;
+        return;
+    }
+    size_t need = none.value;
+    must(need <= KEZ_CANONICAL_MOST && (entry == CANONICAL || need <= KEZ_MOST), "needs more than it can");
+    must(same(in_room(entry, call, need - 1), none), "answers otherwise with a byte too little");
+    must(same(in_room(entry, call, roll(need)), none), "answers otherwise with less room");
+    accepted(in_room(entry, call, need + 1 + roll(40)), need, "does not write with more room");
+    memcpy(r->bytes, out_first.at, need);
+    r->answer = in_room(entry, call, need);
+    accepted(r->answer, need, "does not write with just enough room");
+    must(!memcmp(r->bytes, out_first.at, need), "writes other bytes with other room");
+}
+
+/* Entries that leave numbers */
+
+enum { NUMBERS = 5 };
+static uint64_t numbers[NUMBERS];
+
+static void lend_numbers(int count)
+{
+    lend_room(&number_buffer, 8 * (size_t)count);
+}
+
+static uint64_t *number(int i)
+{
+    return (uint64_t *)(void *)(number_buffer.at + 8 * i);
+}
+
+static void take_numbers(kez_answer a, int count)
+{
+    unchanged(&number_buffer, a.refusal ? 0 : 8 * (size_t)count, "changes a number that it must leave");
+    must(a.refusal || !a.value, "has a value that is not 0");
+    memcpy(numbers, number_buffer.at, 8 * (size_t)count);
+}
+
+static kez_answer read_numbers(void)
+{
+    current = READ;
+    lend_numbers(5);
+    kez_answer a = checked(kez_notepack_read(lent(&in_first), in_first.len, number(0), number(1), number(2), number(3), number(4)));
+    take_numbers(a, 5);
+    return a;
+}
+
+/* Tag and element as the tags' lengths have it. */
+static void elements(kez_answer read, uint64_t tags)
+{
+    uint64_t tag = roll(8) ? roll(tags + 2) : UINT64_MAX - roll(2);
+    current = TAG_LEN;
+    kez_answer count = checked(kez_notepack_tag_len(lent(&in_first), in_first.len, tag));
+    kez_answer none = {19, 0};
+    must(read.refusal ? same(count, read) : tag < tags ? !count.refusal && count.value - 1 < 255 : same(count, none), "disagrees with the reader");
+    uint64_t texts = count.refusal ? 1 : count.value, element = roll(8) ? roll(texts + 1) : UINT64_MAX - roll(2);
+    current = ELEMENT;
+    lend_numbers(3);
+    kez_answer a = checked(kez_notepack_element(lent(&in_first), in_first.len, tag, element, number(0), number(1), number(2)));
+    take_numbers(a, 3);
+    must(count.refusal ? same(a, count) : element < texts ? !a.refusal : same(a, none), "disagrees with the tag's length");
+    if (!a.refusal)
+        must(numbers[2] < 2 && numbers[0] <= in_first.len && numbers[1] <= in_first.len - numbers[0], "shows a part that is not in the input");
+}
+
+/* One input as a packed event */
+
+static result strict_form, again;
+static result canonical_text __attribute__((unused)), by_nson __attribute__((unused)), by_json __attribute__((unused)); /* by the kinds */
+
+static int is_strict(void)
+{
+    current = STRICT;
+    kez_answer a = checked(kez_notepack_is_strict(lent(&in_first), in_first.len));
+    must(a.refusal || a.value < 2, "has a value that is neither 0 nor 1");
+    return a.refusal ? -1 : (int)a.value;
+}
+
+static void as_packed(const uint8_t *data, size_t len)
+{
+    static uint8_t content[KEZ_MOST];
+    uint64_t was[NUMBERS];
+    lend_input(&in_first, data, len, first_copy);
+    kez_answer read = read_numbers();
+    memcpy(was, numbers, sizeof was);
+    int strict = is_strict();
+    must((strict < 0) == (read.refusal != 0), "disagrees with the reader");
+    for (int i = 0; i < 3; i++)
+        elements(read, was[4]);
+    write_with(&strict_form, PACK, kez_notepack_write);
+#ifdef KIND_canonical
+    write_with(&canonical_text, CANONICAL, kez_canonical_write);
+    must(!read.refusal || same(read, canonical_text.answer), "refuses otherwise than the reader");
+#endif
+#ifdef KIND_nson_write
+    static result text;
+    write_with(&text, NSON_WRITE, kez_nson_write);
+    must(!read.refusal || same(read, text.answer), "refuses otherwise than the reader");
+#endif
+    current = PACK;
+    if (read.refusal) {
+        must(same(read, strict_form.answer), "refuses otherwise than the reader");
+        return;
+    }
+    current = READ;
+    must(was[2] <= len && was[3] <= len - was[2], "shows a content that is not in the input");
+    memcpy(content, data + was[2], was[3]);
+    current = PACK;
+    must(strict_form.answer.value <= len, "writes a strict form that is longer than what was read");
+    current = STRICT;
+    must(strict == leaves(&strict_form, data, len), "disagrees with the strict form");
+    /* the strict form reads back */
+    lend_input(&in_first, strict_form.bytes, strict_form.answer.value, first_copy);
+    accepted(read_numbers(), 0, "does not read the strict form back");
+    must(numbers[0] == was[0] && numbers[1] == was[1] && numbers[3] == was[3] && numbers[4] == was[4] &&
+             !memcmp(content, in_first.at + numbers[2], was[3]), "reads the strict form as another event");
+    must(is_strict() == 1, "does not take the strict form as strict");
+    write_with(&again, PACK, kez_notepack_write);
+    must(leaves(&again, strict_form.bytes, strict_form.answer.value), "does not leave strict bytes as they are");
+#ifdef KIND_canonical
+    write_with(&again, CANONICAL, kez_canonical_write);
+    must(leaves(&again, canonical_text.bytes, canonical_text.answer.value), "has another text for the strict form");
+#endif
+#ifdef KIND_nson_write
+    if (text.answer.refusal)
+        return;
+    lend_input(&in_first, text.bytes, text.answer.value, first_copy);
+#ifdef KIND_nson_read
+    write_with(&again, NSON_READ, kez_nson_read);
+    must(leaves(&again, strict_form.bytes, strict_form.answer.value), "does not read what the NSON writer wrote");
+#endif
+#ifdef KIND_json_read
+    write_with(&again, JSON_READ, kez_json_read);
+    must(leaves(&again, strict_form.bytes, strict_form.answer.value), "does not read what the NSON writer wrote");
+#endif
+#endif
+}
+
+/* One input as a text */
+
+#ifdef KIND_read_both
+static void both_readers(void)
+{
+    int nson = !by_nson.answer.refusal, json = !by_json.answer.refusal;
+    size_t need = json ? by_json.answer.value : 0;
+    size_t rooms[2] = {roll(4) ? need + roll(9) : roll(need + 1), roll(4) ? need + roll(9) : roll(need + 1)};
+    current = READ_BOTH;
+    lend_room(&out_first, rooms[0]);
+    lend_room(&out_second, rooms[1]);
+    kez_answer a = checked(kez_read_both(lent(&in_first), in_first.len, lent(&out_first), rooms[0], lent(&out_second), rooms[1]));
+    kez_answer wanted = {0, (uint64_t)(json + nson)};
+    if (in_first.len > KEZ_MOST)
+        wanted = (kez_answer){1, 0};
+    else if ((json && rooms[1] < need) || (nson && rooms[0] < need))
+        wanted = (kez_answer){11, need};
+    must(same(a, wanted), "disagrees with the readers");
+    unchanged(&out_first, !a.refusal && a.value == 2 ? need : 0, "changes what it must leave of the first buffer");
+    unchanged(&out_second, !a.refusal && a.value ? need : 0, "changes what it must leave of the second buffer");
+    if (!a.refusal && a.value)
+        must(!memcmp(out_second.at, by_json.bytes, need), "leaves another event than the JSON reader");
+    if (!a.refusal && a.value == 2)
+        must(!memcmp(out_first.at, by_json.bytes, need), "leaves two events");
+}
+#endif
+
+static void as_text(const uint8_t *data, size_t len)
+{
+    lend_input(&in_first, data, len, first_copy);
+#ifdef KIND_nson_read
+    write_with(&by_nson, NSON_READ, kez_nson_read);
+#endif
+#ifdef KIND_json_read
+    write_with(&by_json, JSON_READ, kez_json_read);
+#ifdef KIND_nson_read
+    must(by_nson.answer.refusal || leaves(&by_json, by_nson.bytes, by_nson.answer.value), "shows another event than the NSON reader");
+#endif
+#endif
+#ifdef KIND_read_both
+    both_readers();
+#endif
+    /* what a reader leaves is strict, and an NSON text is the writer's own */
+#ifdef KIND_json_read
+    if (!by_json.answer.refusal) {
+        lend_input(&in_first, by_json.bytes, by_json.answer.value, first_copy);
+        must(is_strict() == 1, "does not take as strict what the JSON reader leaves");
+    }
+#endif
+#if defined KIND_nson_read && defined KIND_nson_write
+    if (!by_nson.answer.refusal) {
+        lend_input(&in_first, by_nson.bytes, by_nson.answer.value, first_copy);
+        write_with(&again, NSON_WRITE, kez_nson_write);
+        must(leaves(&again, data, len), "does not write the text that the NSON reader read");
+    }
+#endif
+}
+
+/* Two inputs */
+
+#ifdef KIND_rivals
+static kez_answer rivals_of(const uint8_t *data, size_t len, const uint8_t *other, size_t other_len)
+{
+    lend_input(&in_first, data, len, first_copy);
+    lend_input(&in_second, other, other_len, second_copy);
+    current = RIVALS;
+    kez_answer a = checked(kez_rivals(lent(&in_first), in_first.len, lent(&in_second), in_second.len));
+    unchanged(&in_second, 0, "changes its second input");
+    must(a.refusal || a.value < 3, "has a value above 2");
+    return a;
+}
+
+static void as_rivals(const uint8_t *data, size_t len, const uint8_t *other, size_t other_len)
+{
+    kez_answer one = rivals_of(data, len, other, other_len), two = rivals_of(other, other_len, data, len);
+    must(!one.refusal == !two.refusal, "refuses two inputs in one order only");
+    if (one.refusal)
+        return;
+    must(!one.value == !two.value, "takes two inputs as rivals in one order only");
+    if (one.value == 2)
+        must(two.value == 1, "keeps another record in the other order");
+    if (one.value == 1 && two.value == 1)
+        must(!memcmp(data, other, 32), "ties though the ids differ");
+}
+#endif
+
+void properties(const uint8_t *data, size_t len, const uint8_t *other, size_t other_len, uint64_t choices)
+{
+    dice = choices;
+    if (!in_first.low) {
+        for (size_t i = 0; i < sizeof pattern; i++)
+            pattern[i] = (uint8_t)roll(256);
+        buffer *all[] = {&in_first, &in_second, &out_first, &out_second, &number_buffer};
+        for (int i = 0; i < 5; i++)
+            make(all[i]);
+        dice = choices;
+    }
+    given = data;
+    given_len = len;
+    as_packed(data, len);
+    as_text(data, len);
+#ifdef KIND_rivals
+    as_rivals(data, len, other, other_len);
+#else
+    (void)other, (void)other_len;
+#endif
+}

@@ -1,0 +1,91 @@
+/* Faults, planted between the library and the harness: each call of a wrapped entry comes here first (-Wl,--wrap). -DPLANTED=n
+ * chooses one. Each shows itself at some inputs only, by a sum over their bytes, and host/fuzz/planted asks that it be found. */
+#include "kezubimoryu.h"
+
+#ifndef PLANTED
+#define PLANTED 0
+#endif
+
+/* one input of 64 */
+static int shows(const uint8_t *at, size_t len)
+{
+    uint32_t sum = 2166136261u;
+    for (size_t i = 0; i < len; i++)
+        sum = (sum ^ at[i]) * 16777619u;
+    return (sum >> 20) % 64 == 0;
+}
+
+#define WRITER(name)                                                                           \
+    kez_answer __real_##name(const uint8_t *in, size_t in_len, uint8_t *out, size_t out_len);  \
+    kez_answer __wrap_##name(const uint8_t *in, size_t in_len, uint8_t *out, size_t out_len);  \
+    kez_answer __wrap_##name(const uint8_t *in, size_t in_len, uint8_t *out, size_t out_len)
+
+#if PLANTED == 1 /* one byte is stored by a refusal */
+WRITER(kez_notepack_write)
+{
+    kez_answer a = __real_kez_notepack_write(in, in_len, out, out_len);
+    if (a.refusal && out_len && shows(in, in_len))
+        out[out_len / 2] ^= 1;
+    return a;
+}
+#elif PLANTED == 2 /* one byte behind the written length is changed */
+WRITER(kez_canonical_write)
+{
+    kez_answer a = __real_kez_canonical_write(in, in_len, out, out_len);
+    if (!a.refusal && a.value < out_len && shows(in, in_len))
+        out[out_len - 1] ^= 1;
+    return a;
+}
+#elif PLANTED == 3 /* one byte of the event is flipped by one of the two readers */
+WRITER(kez_json_read)
+{
+    kez_answer a = __real_kez_json_read(in, in_len, out, out_len);
+    if (!a.refusal && shows(in, in_len))
+        out[40] ^= 1;
+    return a;
+}
+#elif PLANTED == 4 /* one byte of the event is flipped by the strict writer */
+WRITER(kez_notepack_write)
+{
+    kez_answer a = __real_kez_notepack_write(in, in_len, out, out_len);
+    if (!a.refusal && shows(in, in_len))
+        out[128] ^= 1;
+    return a;
+}
+#elif PLANTED == 5 /* the byte behind an input is read */
+kez_answer __real_kez_notepack_is_strict(const uint8_t *in, size_t in_len);
+kez_answer __wrap_kez_notepack_is_strict(const uint8_t *in, size_t in_len);
+kez_answer __wrap_kez_notepack_is_strict(const uint8_t *in, size_t in_len)
+{
+    if (in_len && shows(in, in_len))
+        (void)*(const volatile uint8_t *)(in + in_len);
+    return __real_kez_notepack_is_strict(in, in_len);
+}
+#elif PLANTED == 6 /* the byte before a lent buffer is changed */
+WRITER(kez_canonical_write)
+{
+    if (out_len && shows(in, in_len))
+        out[-1] ^= 1;
+    return __real_kez_canonical_write(in, in_len, out, out_len);
+}
+#elif PLANTED == 7 /* a number is stored by a refusal */
+kez_answer __real_kez_notepack_read(const uint8_t *in, size_t in_len, uint64_t *a, uint64_t *b, uint64_t *c, uint64_t *d, uint64_t *e);
+kez_answer __wrap_kez_notepack_read(const uint8_t *in, size_t in_len, uint64_t *a, uint64_t *b, uint64_t *c, uint64_t *d, uint64_t *e);
+kez_answer __wrap_kez_notepack_read(const uint8_t *in, size_t in_len, uint64_t *a, uint64_t *b, uint64_t *c, uint64_t *d, uint64_t *e)
+{
+    kez_answer answer = __real_kez_notepack_read(in, in_len, a, b, c, d, e);
+    if (answer.refusal && shows(in, in_len))
+        *a = 0;
+    return answer;
+}
+#elif PLANTED == 8 /* an old record is kept */
+kez_answer __real_kez_rivals(const uint8_t *first, size_t first_len, const uint8_t *second, size_t second_len);
+kez_answer __wrap_kez_rivals(const uint8_t *first, size_t first_len, const uint8_t *second, size_t second_len);
+kez_answer __wrap_kez_rivals(const uint8_t *first, size_t first_len, const uint8_t *second, size_t second_len)
+{
+    kez_answer a = __real_kez_rivals(first, first_len, second, second_len);
+    if (!a.refusal && a.value == 2 && shows(first, first_len))
+        a.value = 1;
+    return a;
+}
+#endif

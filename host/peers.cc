@@ -1,0 +1,34 @@
+// JSON parsers that others wrote, for host/bench: each parses a text into its own tree, and says whether it could. Those are built
+// whose headers are there (host/bench-install gets them).
+#include <cstddef>
+#include <cstdint>
+
+#ifdef HAS_RAPIDJSON
+#include <rapidjson/document.h>
+extern "C" int peer_rapidjson(const uint8_t *text, size_t len)
+{
+    rapidjson::Document tree;
+    tree.Parse<rapidjson::kParseValidateEncodingFlag>(reinterpret_cast<const char *>(text), len);
+    return !tree.HasParseError();
+}
+#endif
+
+#ifdef HAS_SIMDJSON
+#include <simdjson.h>
+// it reads past the end of what it is given, so each text is copied into a buffer of its own, as its guide has it
+extern "C" int peer_simdjson(const uint8_t *text, size_t len)
+{
+    static simdjson::dom::parser parser;
+    return parser.parse(reinterpret_cast<const char *>(text), len, true).error() == simdjson::SUCCESS;
+}
+#endif
+
+#ifdef HAS_JANSSON
+#include <jansson.h>
+extern "C" int peer_jansson(const uint8_t *text, size_t len)
+{
+    json_t *tree = json_loadb(reinterpret_cast<const char *>(text), len, 0, nullptr);
+    json_decref(tree);
+    return tree != nullptr;
+}
+#endif
