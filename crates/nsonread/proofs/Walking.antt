@@ -146,7 +146,7 @@ walk-shows s w e =
     let f : walkedOf s (h .value) n (y .value) ≡ w = shown-same (k .1) in
     let r = event-shown s h n y (l .0) a b c (k .0) in
     let g : Shows s (walkedOf s (h .value) n (y .value)) =
-        record { event = nson.eventOf s (h .value) (y .value); shows = r; len = refl; text = text-is s (h .value) n (y .value) (head-shown s h a) (counts-placed s n b) (body-stands (n .value) s (n .next) y c) } in
+    record { event = nson.eventOf s (h .value) (y .value); shows = r; len = refl; text = text-is s (h .value) n (y .value) (head-shown s h a) (counts-placed s n b) (body-stands (n .value) s (n .next) y c) } in
     rw f at g)))
 
 -- ---- the entry

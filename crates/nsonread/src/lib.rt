@@ -773,7 +773,10 @@ fn put_items(out: &mut [u8], at: usize, s: &[u8], n: usize, d: usize, from: usiz
         count_at += 4;
         left -= 1;
     }
-    Copied { out: o, next: place }
+    Copied {
+        out: o,
+        next: place,
+    }
 }
 
 // n tags, whose counts stand from d on and whose first bracket stands at a place.
@@ -811,7 +814,11 @@ fn put_front(out: &mut [u8], at: usize, s: &[u8], w: Walked) -> usize
     let c = hex::put_unhex(out, b, scan::part(s, 156, 128));
     let d = varint::put_varint(out, c, w.created_at as u64);
     let e = varint::put_varint(out, d, w.kind as u64);
-    let f = varint::put_varint(out, e, jsontext::unescaped_len(s, content_at, z.content) as u64);
+    let f = varint::put_varint(
+        out,
+        e,
+        jsontext::unescaped_len(s, content_at, z.content) as u64,
+    );
     let g = jsontext::put_unescaped(out, f, s, content_at, z.content);
     varint::put_varint(out, g, z.tags as u64)
 }
@@ -824,7 +831,14 @@ fn put_whole(out: &mut [u8], s: &[u8], w: Walked) -> usize
 {
     let z = w.sizes;
     let o = put_front(out, 0, s, w);
-    put_tags(out, o, s, z.tags, 328, w.body_at + 21 + z.kind + z.content + 10)
+    put_tags(
+        out,
+        o,
+        s,
+        z.tags,
+        328,
+        w.body_at + 21 + z.kind + z.content + 10,
+    )
 }
 
 // The event of an NSON text, in strict form: every refusal first, then 11 with the length needed; else written from the start.
