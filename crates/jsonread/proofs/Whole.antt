@@ -2,7 +2,7 @@
 -- By the definitions' steps; the room was measured, so that what is written is the strict form and the rest is unchanged.
 use Prim.Native.Nat.{ℕ, _≤_, _<_, _^_}
 use mathlib.Core.Path.{_≡_, sym, ap, _∙_, subst}
-use mathlib.Core.List.{List}
+use mathlib.Core.List.{List, []}
 use native.Mathlib.Omega.{arith}
 use lib.ListN.{length}
 use lib.Dec.{eqb}
@@ -86,3 +86,18 @@ module _ (s d : List ℕ) where
           let o = object-packs w z in
           let u = fitted (h ∙ o .len) i (subst (λ (t : List ℕ). Wrote d 0 t d′ k) (o .writes) y) in
           (rw json-shown (u .0), rw json-shown (u .1))
+
+-- ---- the length alone
+
+module _ (s : List ℕ) where
+  pub len-long : 65_536 < length s → refused 1 0 ≡ andThen (readJson s) (λ x. shown (length (pack x)))
+  unfolding readJson
+  len-long h = let u = lt-leb (length s) 65_536 h in rw u
+
+  module _ (l : length s ≤ 65_536) (r : FieldsRead) (e : wholeRead s r ≡ wholeAt s) where
+    pub len-refused : {why : Refusal} → r ≡ fields-by.Refused why → told why ≡ andThen (readJson s) (λ x. shown (length (pack x)))
+    len-refused z = let u = read-whole s [] l r e ∙ ap (wholeRead s) z in rw u
+
+    pub len-shown : {f : Fields} {c : Cursor} → r ≡ fields-by.Found f c → ObjectGood s r → {n : ℕ} → n ≡ measured f
+        → shown n ≡ andThen (readJson s) (λ x. shown (length (pack x)))
+    len-shown z w h = rw (json-shown s [] l r e z w) (ap (λ (i : ℕ). shown i) (h ∙ object-packs w z .len))

@@ -9,6 +9,7 @@ ghost use mathlib.Core.Path.{_≡_};
 ghost use mathlib.Core.List.{[]};
 ghost use lib.ListN.{length};
 ghost use lib.Dec.{eqb};
+ghost use Rattle.scan.specs.Choice.{shown, andThen};
 ghost use Rattle.store.specs.Store.{Wrote};
 ghost use Rattle.store.specs.Entry.{writes, leaves};
 ghost use Rattle.hex.specs.Hex.{unhex};
@@ -1070,5 +1071,22 @@ pub fn read_json(s: &[u8], out: &mut [u8]) -> JsonRead
             }
             JsonRead::Written(put_event(out, 0, s, f))
         }
+    }
+}
+
+// The length that the event of a plain JSON text takes in strict form, or the refusal.
+pub fn json_len(s: &[u8]) -> JsonRead
+    ensures { λ r. ⌜ jsonRead r ≡ andThen (readJson (now (s .entry))) (λ e. shown (length (pack e))) ⌝ }
+{
+    if s.len() > event::MAX_INPUT {
+        return JsonRead::Refused(Refusal {
+            number: event::INPUT_TOO_LONG,
+            place: 0,
+        });
+    }
+    let found = whole_text(s);
+    match found {
+        FieldsRead::Refused(r) => JsonRead::Refused(r),
+        FieldsRead::Found(f, _) => JsonRead::Written(f.strict_len()),
     }
 }

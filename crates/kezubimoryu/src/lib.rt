@@ -1,4 +1,5 @@
 // The C entries: thin and total over the crates below. Each takes numbers and byte buffers and answers two numbers.
+use both::BothRead;
 use canonical::CanonicalWrite;
 use event::Refusal;
 use jsonread::JsonRead;
@@ -24,6 +25,7 @@ ghost use Rattle.nson.specs.Nson.{nson};
 ghost use Rattle.nson.specs.Read.{readNson};
 ghost use Rattle.nsonwrite.specs.Carried.{carried};
 ghost use Rattle.json.specs.Object.{readJson};
+ghost use Rattle.both.specs.Both.{both, bothFirst, bothSecond};
 ghost use Rattle.rivals.specs.Rivals.{rivals};
 ghost use Rattle.kezubimoryu.specs.Entries.{ok, yesNo, told, keptNumber};
 
@@ -192,6 +194,23 @@ pub extern "C" fn kez_json_read(text: &[u8], out: &mut [u8]) -> KezAnswer
     match done {
         JsonRead::Written(n) => shown(n as u64),
         JsonRead::Refused(r) => refused(r),
+    }
+}
+
+// Neither accepts is 0, JSON alone is 1, both with the same bytes is 2; 3, that they differ, is never told.
+#[no_mangle]
+pub extern "C" fn kez_read_both(text: &[u8], first: &mut [u8], second: &mut [u8]) -> KezAnswer
+    ensures { λ a. ⌜ (a .refusal, a .value) ≡ twoNumbers (both (now (text .entry)) (now (first .entry)) (now (second .entry))) ⌝ }
+    ensures { λ _. ⌜ now (first .exit) ≡ bothFirst (now (text .entry)) (now (first .entry)) (now (second .entry)) ⌝ }
+    ensures { λ _. ⌜ now (second .exit) ≡ bothSecond (now (text .entry)) (now (first .entry)) (now (second .entry)) ⌝ }
+{
+    let done = both::read_both(text, first, second);
+    match done {
+        BothRead::Neither => shown(0),
+        BothRead::JsonAlone(_) => shown(1),
+        BothRead::Same(_) => shown(2),
+        BothRead::Differ => shown(3),
+        BothRead::Refused(r) => refused(r),
     }
 }
 

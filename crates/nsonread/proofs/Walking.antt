@@ -171,3 +171,15 @@ module _ (s d : List ℕ) where
           let t : Wrote d 0 (pack (g .event)) d′ n = rw (g .text) at o in
           let f = fitted (g .len) l t in
           (rw (g .shows) (f .0), rw (g .shows) (f .1))
+
+-- ---- the length alone
+
+module _ (s : List ℕ) where
+  pub len-refused : {r : Answer Walked} {n q : ℕ} → r ≡ walkAt s → r ≡ refused n q → refused n q ≡ andThen (nson.readNson s) (λ e. shown (length (pack e)))
+  len-refused e k = let u = walk-refuses s (sym e ∙ k) in rw u refl
+
+  pub len-shown : {r : Answer Walked} {w : Walked} → r ≡ walkAt s → r ≡ shown w → shown (w .len) ≡ andThen (nson.readNson s) (λ e. shown (length (pack e)))
+  len-shown {w = w} e k = go (walk-shows s w (sym e ∙ k))
+    where
+      go : Shows s w → shown (w .len) ≡ andThen (nson.readNson s) (λ e. shown (length (pack e)))
+      go g = rw (g .shows) (ap (λ (i : ℕ). shown i) (g .len))

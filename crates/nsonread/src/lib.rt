@@ -5,7 +5,7 @@ ghost use Prim.Native.Nat.{_+_, _*_, _≤_};
 ghost use mathlib.Core.Path.{_≡_};
 ghost use mathlib.Core.Bool.{false};
 ghost use lib.ListN.{length};
-ghost use Rattle.scan.specs.Choice.{andThen, read, many};
+ghost use Rattle.scan.specs.Choice.{shown, andThen, read, many};
 ghost use Rattle.store.specs.Store.{Wrote};
 ghost use Rattle.store.specs.Entry.{writes, leaves};
 ghost use Rattle.varint.specs.Uleb.{uleb};
@@ -859,5 +859,16 @@ pub fn read_nson(s: &[u8], out: &mut [u8]) -> NsonRead
             }
             NsonRead::Written(put_whole(out, s, w))
         }
+    }
+}
+
+// The length that the event of an NSON text takes in strict form, or the refusal.
+pub fn nson_len(s: &[u8]) -> NsonRead
+    ensures { λ r. ⌜ nsonRead r ≡ andThen (readNson (now (s .entry))) (λ e. shown (length (pack e))) ⌝ }
+{
+    let walked = walk_text(s);
+    match walked {
+        Walk::Refused(r) => NsonRead::Refused(r),
+        Walk::Done(w) => NsonRead::Written(w.len),
     }
 }
