@@ -7,7 +7,7 @@ use Rattle.both.specs.declared.BothRead.the-variants as both-by
 
 abbrev pub bothRead : BothRead → Answer ℕ
 bothRead both-by.Neither = shown 0
-bothRead (both-by.JsonAlone n) = shown 1
-bothRead (both-by.Same n) = shown 2
+bothRead (both-by.JsonAlone) = shown 1
+bothRead (both-by.Same) = shown 2
 bothRead both-by.Differ = shown 3
 bothRead (both-by.Refused r) = told r

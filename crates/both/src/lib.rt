@@ -12,11 +12,11 @@ ghost use Rattle.nsonread.specs.Answers.{nsonRead};
 ghost use Rattle.both.specs.Both.{compare, both, bothFirst, bothSecond};
 ghost use Rattle.both.specs.Answers.{bothRead};
 
-// How the two readers compare; with the length of the strict form that was written.
+// How the two readers compare.
 pub enum BothRead {
     Neither,
-    JsonAlone(usize),
-    Same(usize),
+    JsonAlone,
+    Same,
     Differ,
     Refused(Refusal),
 }
@@ -34,7 +34,7 @@ fn compared(a: NsonRead, b: JsonRead, first: &[u8], second: &[u8]) -> BothRead
                     return BothRead::Differ;
                 }
                 if scan::stands_at(scan::part(first, 0, n), second, 0) {
-                    return BothRead::Same(n);
+                    return BothRead::Same;
                 }
                 BothRead::Differ
             }
@@ -82,7 +82,7 @@ pub fn read_both(s: &[u8], first: &mut [u8], second: &mut [u8]) -> BothRead
             match by_nson {
                 NsonRead::Refused(_) => {
                     jsonread::read_json(s, second);
-                    BothRead::JsonAlone(need)
+                    BothRead::JsonAlone
                 }
                 NsonRead::Written(_) => {
                     if first.len() < need {

@@ -207,8 +207,8 @@ pub extern "C" fn kez_read_both(text: &[u8], first: &mut [u8], second: &mut [u8]
     let done = both::read_both(text, first, second);
     match done {
         BothRead::Neither => shown(0),
-        BothRead::JsonAlone(_) => shown(1),
-        BothRead::Same(_) => shown(2),
+        BothRead::JsonAlone => shown(1),
+        BothRead::Same => shown(2),
         BothRead::Differ => shown(3),
         BothRead::Refused(r) => refused(r),
     }
