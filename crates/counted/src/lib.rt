@@ -1,6 +1,8 @@
 // The bytes between two quotes of NSON: whether they are free of faults, in a fast look; and which fault is the earliest.
 ghost use mathlib.Core.Path.{_≡_};
 ghost use mathlib.Core.Bool.{true};
+ghost use lib.ListN.{length};
+ghost use Rattle.jsontext.specs.Escape.{unescape};
 ghost use Rattle.scan.specs.Span.{All};
 ghost use Rattle.escape.specs.Quoted.{Quoted, NsonBare, NsonLetter};
 ghost use Rattle.counted.specs.Counted.{isLetter, faultIn};
@@ -88,4 +90,20 @@ pub fn fault_in(t: &[u8]) -> u8
         }
     }
     first_fault(t)
+}
+
+// The earliest fault of the bytes between two quotes, 0 where there is none; and the length of the text that they spell.
+pub struct Seen {
+    pub fault: u8,
+    pub len: usize,
+}
+
+// Both in one look.
+pub fn look(t: &[u8]) -> Seen
+    ensures { λ r. ⌜ r .fault ≡ faultIn (now (t .entry)) ⌝ }
+    ensures { λ r. ⌜ r .len ≡ length (unescape (now (t .entry))) ⌝ }
+{
+    let fault = fault_in(t);
+    let len = jsontext::unescaped_len(t, 0, t.len());
+    Seen { fault, len }
 }

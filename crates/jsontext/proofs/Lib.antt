@@ -12,3 +12,4 @@ pub mod Meaning
 pub mod Unescape
 pub mod Parts
 pub mod Walk
+pub mod Neighbours

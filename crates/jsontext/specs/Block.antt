@@ -29,3 +29,8 @@ pub record PlainTo (s : List ℕ) (a b : ℕ) : Type 0 where
   pub onward : a ≤ b
   pub inside : b ≤ length s
   pub plain : (k : ℕ) → a ≤ k → k < b → specialOf (getD s k 0) ≡ 0
+
+-- a sum over neighbours: f of each byte and the one before it; p stands before the first
+unfoldable pub neighbours : (ℕ → ℕ → ℕ) → ℕ → List ℕ → ℕ
+neighbours f p [] = 0
+neighbours f p (b ∷ l) = f p b + neighbours f b l

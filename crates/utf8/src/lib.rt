@@ -277,17 +277,18 @@ fn is_short(s: &[u8]) -> bool
     if is_ascii(s) {
         return true;
     }
-    is_mixed(s)
+    is_mixed(&s[..])
 }
 
-// Whether a text is well-formed.
+// Whether a text is well-formed. `&s[..]` hands on the slice as a new one: handed on as it came it is copied whole, and the copy waits for
+// the two stores of whoever has just made it.
 pub fn is_utf8(s: &[u8]) -> bool
     ensures { λ r. ⌜ r ≡ isUtf8 (now (s .entry)) ⌝ }
 {
     if s.len() <= 128 {
         return is_short(s);
     }
-    is_mixed(s)
+    is_mixed(&s[..])
 }
 
 // 10xxxxxx with the lowest six bits of n.
