@@ -2,7 +2,7 @@
 -- Each turn of the loops is one law whose premises are what the loop knows.
 use Prim.Native.Nat.{ℕ, _+_, _-_, _<_, _≤_}
 use mathlib.Core.Path.{_≡_, refl, sym, ap, _∙_}
-use mathlib.Core.Bool.{false}
+use mathlib.Core.Bool.{true, false}
 use mathlib.Core.List.{List, [], _∷_, _++_}
 use mathlib.Core.Logic.{dite}
 use native.Mathlib.Omega.{arith}
@@ -69,3 +69,14 @@ digits-last t i n v h q =
     dite (ℕ-discrete n 0)
     (λ z. eq-eqb n 0 z ∙ sym (digits-more t i (length t) n v h q z ∙ rw (rest-none t (length t) (omega arith))))
     (λ z. ne-eqb n 0 z ∙ digits-end t i (length t) n v h q z)
+
+-- no byte at all, or a first byte that is none, decide at once
+pub digits-none : (t : List ℕ) → length t ≡ 0 → true ≡ allDigits t
+unfolding allDigits
+digits-none [] h = refl
+digits-none (b ∷ t) h = absurd (omega arith)
+
+pub digits-first : (t : List ℕ) {v : ℕ} → (length t ≡ 0 → ⊥) → v ≡ valueOf (getD t 0 0) → v ≡ 16 → false ≡ allDigits t
+unfolding allDigits
+digits-first [] n e h = absurd (n refl)
+digits-first (b ∷ t) n e h = rw (le-ltb (valueOf b) 16 (omega arith))

@@ -4,7 +4,7 @@ ghost use mathlib.Core.Path.{_≡_};
 ghost use lib.ListN.{length};
 ghost use Rattle.store.specs.Store.{Wrote};
 ghost use Rattle.hex.specs.Hex.{valueOf, digitOf, hexes, unhex, allDigits, goesAsBytes};
-ghost use Rattle.hex.specs.Block.{isOther, othersOf};
+ghost use Rattle.hex.specs.Block.{isOther, othersOf, valuesOf, pairsOf};
 
 // A digit's value; 16 where the byte is none of 0-9 a-f.
 pub fn value_of(b: u8) -> u8
@@ -59,8 +59,46 @@ pub fn put_hex(out: &mut [u8], at: usize, s: &[u8]) -> usize
     store::put_byte(out, o, digit_of(s[room] / 16))
 }
 
-// A byte for each two digits, where there is room for all.
-fn unhex_all(out: &mut [u8], at: usize, t: &[u8]) -> usize
+// The value of each byte as a digit.
+fn put_values(out: &mut [u8], t: &[u8]) -> usize
+    requires { ⌜ length (now t) ≤ length (now out) ⌝ }
+    ensures { λ r. ⌜ Wrote (now (out .entry)) 0 (valuesOf (now (t .entry))) (now (out .exit)) r ⌝ }
+{
+    let mut i = 0;
+    while i < t.len() {
+        out[i] = value_of(t[i]);
+        i += 1;
+    }
+    i
+}
+
+// A byte for each two values.
+fn put_pairs(out: &mut [u8], at: usize, v: &[u8]) -> usize
+    requires { ⌜ at + length (now v) / 2 ≤ length (now out) ⌝ }
+    ensures { λ r. ⌜ Wrote (now (out .entry)) at (pairsOf (now (v .entry))) (now (out .exit)) r ⌝ }
+{
+    let n = v.len() / 2;
+    let mut i = 0;
+    while i < n {
+        out[at + i] = 16 * (v[2 * i] % 16) + v[2 * i + 1] % 16;
+        i += 1;
+    }
+    at + n
+}
+
+// The bytes of 64 digits: first all values, then all pairs. Each is a loop for vectors, which one loop over both is not.
+fn unhex_block(out: &mut [u8], at: usize, t: &[u8]) -> usize
+    requires { ⌜ length (now t) ≡ 64 ⌝ }
+    requires { ⌜ at + 32 ≤ length (now out) ⌝ }
+    ensures { λ r. ⌜ Wrote (now (out .entry)) at (unhex (now (t .entry))) (now (out .exit)) r ⌝ }
+{
+    let mut v = [0u8; 64];
+    put_values(&mut v, t);
+    put_pairs(out, at, &v)
+}
+
+// A byte for each two digits, pair by pair, where there is room for all.
+fn unhex_each(out: &mut [u8], at: usize, t: &[u8]) -> usize
     requires { ⌜ at + length (now t) / 2 ≤ length (now out) ⌝ }
     ensures { λ r. ⌜ Wrote (now (out .entry)) at (unhex (now (t .entry))) (now (out .exit)) r ⌝ }
 {
@@ -74,6 +112,21 @@ fn unhex_all(out: &mut [u8], at: usize, t: &[u8]) -> usize
         i += 2;
     }
     o
+}
+
+// The same, in blocks of 64 digits and the rest.
+fn unhex_all(out: &mut [u8], at: usize, t: &[u8]) -> usize
+    requires { ⌜ at + length (now t) / 2 ≤ length (now out) ⌝ }
+    ensures { λ r. ⌜ Wrote (now (out .entry)) at (unhex (now (t .entry))) (now (out .exit)) r ⌝ }
+{
+    let mut i = 0;
+    let mut o = at;
+    while t.len() - i >= 64 {
+        let e = i + 64;
+        o = unhex_block(out, o, &t[i..e]);
+        i = e;
+    }
+    unhex_each(out, o, &t[i..])
 }
 
 // A byte for each two digits, written.
@@ -113,10 +166,16 @@ fn others(block: &[u8]) -> u8
     n
 }
 
-// Whether every byte is one of 0-9 a-f: block by block.
+// Whether every byte is one of 0-9 a-f: block by block. Most texts that are not show it in their first byte.
 pub fn all_digits(t: &[u8]) -> bool
     ensures { λ r. ⌜ r ≡ allDigits (now (t .entry)) ⌝ }
 {
+    if t.len() == 0 {
+        return true;
+    }
+    if value_of(t[0]) == 16 {
+        return false;
+    }
     let mut i = 0;
     while t.len() - i >= 128 {
         let e = i + 128;

@@ -3,9 +3,10 @@
 use Prim.Native.Nat.{_+_, _-_, _≤_}
 use mathlib.Core.Path.{_≡_, refl}
 use native.Mathlib.Omega.{arith}
+use borrow.Author.Needs.{needs}
 use lib.ListN.{length, drop, length-take, length-drop}
 use Rattle.hex.specs.Hex.{allDigits}
-use Rattle.hex.proofs.BlockLaws.{digits-more, digits-end, digits-last}
+use Rattle.hex.proofs.BlockLaws.{digits-none, digits-first, digits-more, digits-end, digits-last}
 use Rattle.hex.proofs.all_digits.Statement.{statement}
 use Rattle.hex.proofs.all_digits.Tie as tie
 
@@ -21,6 +22,10 @@ all-digits-spec =
     (tie.spec
     Inv-loop
     μ-loop
+    (λ c. digits-none _ (c .if1 .taken))
+    (λ c. omega arith)
+    (λ c κs. search needs)
+    (λ c. digits-first _ (c .before .before .before .if1 .left) (c .before .value-of .ensures) (c .if2 .taken))
     (λ c. (omega arith, refl))
     (λ c. omega arith)
     (λ c. omega arith)
@@ -28,9 +33,9 @@ all-digits-spec =
     (λ c. omega arith)
     (λ c. omega arith)
     (λ c κs. simp (length-take, length-drop) (omega arith))
-    (λ c. let q = c .before .before .before .before .loop in digits-end _ (q .i) (q .i + 128) _ (q .inv .1) (omega arith) (c .before .others .ensures) (c .if1 .taken))
+    (λ c. let q = c .before .before .before .before .loop in digits-end _ (q .i) (q .i + 128) _ (q .inv .1) (omega arith) (c .before .others .ensures) (c .if3 .taken))
     (λ c. omega arith)
-    (λ c. let q = c .before .before .before .before .loop in (omega arith, digits-more _ (q .i) (q .i + 128) _ (q .inv .1) (omega arith) (c .before .others .ensures) (c .if1 .left)))
+    (λ c. let q = c .before .before .before .before .loop in (omega arith, digits-more _ (q .i) (q .i + 128) _ (q .inv .1) (omega arith) (c .before .others .ensures) (c .if3 .left)))
     (λ c. omega arith)
     (λ c. omega arith)
     (λ c. omega arith)

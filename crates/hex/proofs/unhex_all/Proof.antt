@@ -1,13 +1,13 @@
--- `unhex_all` stores a byte for each two digits. The invariant: what is left to write are the bytes of t from i on, and the place is `at + i / 2`.
--- A turn is `unhex-two` and one byte stored; a last digit alone is no byte, by `unhex-ended`.
+-- `unhex_all` goes in blocks of 64 digits. The invariant: what is left to write are the bytes of t from i on, and the place is `at + i / 2`.
+-- A turn is `unhex-block-on` and the block written; the rest is written pair by pair.
 use Prim.Native.Nat.{_+_, _*_, _-_, _≤_}
-use mathlib.Core.Path.{_≡_, refl}
+use mathlib.Core.Path.{_≡_, refl, _∙_}
 use native.Mathlib.Omega.{arith}
 use borrow.Author.Needs.{needs}
-use lib.ListN.{length, drop, length-set}
-use Rattle.store.proofs.Laws.{Left, start, byte, done}
+use lib.ListN.{length, drop, length-take, length-drop}
+use Rattle.store.proofs.Laws.{Left, start, kept}
 use Rattle.hex.specs.Hex.{unhex}
-use Rattle.hex.proofs.Turn.{unhex-two, unhex-ended}
+use Rattle.hex.proofs.Pairs.{block-written, rest-written}
 use Rattle.hex.proofs.unhex_all.Statement.{statement}
 use Rattle.hex.proofs.unhex_all.Tie as tie
 
@@ -19,10 +19,14 @@ abbrev μ-loop : tie.MeasureT-loop
 
 again : tie.Need-loop-again Inv-loop μ-loop
 again c =
-    let turn = c .before .before .before .before in
-    let v = turn .before .loop .inv in
-    let left = rw (unhex-two _ _ (turn .loop-test .taken)) at (v .3) in
-    (omega arith, omega arith, simp length-set (v .2), rw (c .before .before .value-of .ensures, c .value-of2 .ensures) (byte (omega arith) left))
+    let q = c .before .before .before .before .before .before .loop in
+    let u = block-written _ (q .i) (q .inv .3) (omega arith) (omega arith) (c .before .before .unhex-block .ensures) in
+    (omega arith, omega (arith, u .0), u .1 ∙ q .inv .2, u .2)
+
+returns : tie.Need-returns Inv-loop μ-loop
+returns c =
+    let q = c .before .before .before .before .before .before .loop in
+    rest-written _ (q .i) (q .inv .3) (omega arith) (c .before .before .unhex-each .ensures)
 
 pub unhex-all-spec : {M : Type 1} → statement M
 unhex-all-spec =
@@ -33,16 +37,15 @@ unhex-all-spec =
     (λ c. (omega arith, omega arith, refl, start))
     (λ c. omega arith)
     (λ c. omega arith)
-    (λ c κs. search needs)
-    (λ c. omega arith)
-    (λ c. omega arith)
-    (λ c κs. search needs)
     (λ c. omega arith)
     (λ c. omega arith)
     (λ c. omega arith)
-    (λ c. omega arith)
-    (λ c. omega arith)
+    (λ c κs. (simp (length-take, length-drop) (omega arith), omega arith))
     (λ c. omega arith)
     again
-    (λ c. c .before .loop .inv .2)
-    (λ c. done (rw (unhex-ended _ _ (c .loop-test .left)) at (c .before .loop .inv .3))))
+    (λ c. omega arith)
+    (λ c. omega arith)
+    (λ c. omega arith)
+    (λ c κs. simp (length-take, length-drop) (omega arith))
+    (λ c. kept (returns c))
+    returns)
