@@ -7,3 +7,4 @@ pub mod Known
 pub mod Members
 pub mod Whole
 pub mod Plain
+pub mod Runs

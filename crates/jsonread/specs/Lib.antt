@@ -2,3 +2,4 @@ pub mod Size
 pub mod Copy
 pub mod Found
 pub mod Answers
+pub mod Run

@@ -9,7 +9,7 @@ ghost use mathlib.Core.Path.{_≡_};
 ghost use mathlib.Core.List.{[]};
 ghost use lib.ListN.{length};
 ghost use lib.Dec.{eqb};
-ghost use Rattle.scan.specs.Choice.{shown, andThen};
+ghost use Rattle.scan.specs.Choice.{pick, shown, andThen};
 ghost use Rattle.store.specs.Store.{Wrote};
 ghost use Rattle.store.specs.Entry.{writes, leaves};
 ghost use Rattle.hex.specs.Hex.{unhex};
@@ -22,6 +22,7 @@ ghost use Rattle.json.specs.Field.{missing, bytes, number, tags, text, under, t
 ghost use Rattle.json.specs.Field.{wholeAt};
 ghost use Rattle.json.specs.Object.{noFields, colonAt, memberAt, membersAt, objectAt, readJson};
 ghost use Rattle.json.specs.Object as object;
+ghost use Rattle.jsonread.specs.Run.{plainRun};
 ghost use Rattle.jsonread.specs.Size.{elementSize, tagSize, sized};
 ghost use Rattle.jsonread.specs.Copy.{behindAt, textEnd, countTexts, textsText, textsEnd, tagsText, partOf, contentText, fieldsText, measured};
 ghost use Rattle.jsonread.specs.Found.{PlainText, fieldsOf, noSpot, spotOf, withSpot, noneFound, allFound, SpotGood, Good, FieldsGood, ObjectGood};
@@ -181,7 +182,35 @@ fn pass_plain(s: &[u8], at: usize) -> usize
     i
 }
 
-// The same; 64 hex digits in front of a quote, an id or a key, are passed at once.
+// n for a plain byte, and else its place.
+fn stop_place(plain: bool, i: u8, n: u8) -> u8
+    ensures { λ r. ⌜ r ≡ pick plain n i ⌝ }
+{
+    if plain { n } else { i }
+}
+
+fn lesser(a: u8, b: u8) -> u8
+    ensures { λ r. ⌜ r ≡ min a b ⌝ }
+{
+    if a < b { a } else { b }
+}
+
+// How many bytes of a block stand before the first that is not plain. No exit on the way, and a minimum of bytes: a loop for vectors.
+fn plain_run(block: &[u8]) -> u8
+    requires { ⌜ length (now block) ≤ 32 ⌝ }
+    ensures { λ r. ⌜ r ≡ plainRun (now (block .entry)) ⌝ }
+{
+    let n = block.len() as u8;
+    let mut i = 0;
+    let mut m = n;
+    while i < block.len() {
+        m = lesser(stop_place(is_plain(block[i]), i as u8, n), m);
+        i += 1;
+    }
+    m
+}
+
+// Passes plain bytes from a place on. 64 hex digits in front of a quote, an id or a key, are passed at once, and so is what ends within 32 bytes.
 fn plain_end(s: &[u8], at: usize) -> usize
     requires { ⌜ at ≤ length (now s) ⌝ }
     ensures { λ r. ⌜ PlainTo (now (s .entry)) at r ⌝ }
@@ -190,6 +219,13 @@ fn plain_end(s: &[u8], at: usize) -> usize
     if scan::byte_at(s, e) == 0x22 {
         if hex::all_digits(scan::part(s, at, 64)) {
             return e;
+        }
+    }
+    if s.len() - at >= 32 {
+        let k = at + 32;
+        let m = plain_run(&s[at..k]) as usize;
+        if m < 32 {
+            return at + m;
         }
     }
     pass_plain(s, at)
@@ -215,7 +251,7 @@ impl Cursor {
                 );
             }
         }
-        let found = jsontext::Cursor { at }.string(s);
+        let found = jsontext::Cursor { at }.string(&s[..]);
         match found {
             StringRead::Text(p, next) => TextRead::Other(p, Cursor { at: next.at }),
             StringRead::Refused(r) => TextRead::Refused(r),
@@ -252,7 +288,7 @@ impl Cursor {
         ensures { λ r. ⌜ SpotGood (now (s .entry)) 0 r ⌝ }
     {
         let at = self.at;
-        let found = jsontext::Cursor { at }.string(s);
+        let found = jsontext::Cursor { at }.string(&s[..]);
         match found {
             StringRead::Text(p, next) => {
                 if is_hex_of(s, p, n) {
@@ -278,7 +314,7 @@ impl Cursor {
         ensures { λ r. ⌜ SpotGood (now (s .entry)) 6 r ⌝ }
     {
         let at = self.at;
-        let found = jsontext::Cursor { at }.string(s);
+        let found = jsontext::Cursor { at }.string(&s[..]);
         match found {
             StringRead::Text(p, next) => {
                 let n = jsontext::unescaped_len(s, p.from, p.count);
@@ -303,7 +339,7 @@ impl Cursor {
         ensures { λ r. ⌜ SpotGood (now (s .entry)) 3 r ⌝ }
     {
         let at = self.at;
-        let found = jsontext::Cursor { at }.number(s);
+        let found = jsontext::Cursor { at }.number(&s[..]);
         match found {
             Skip::Past(next) => {
                 let end = next.at;
@@ -368,7 +404,7 @@ impl Cursor {
     fn element(self, s: &[u8]) -> LenRead
         ensures { λ r. ⌜ lenRead r ≡ under elementSize (textAt (now (s .entry)) (self .at)) ⌝ }
     {
-        let found = self.spelled(s);
+        let found = self.spelled(&s[..]);
         match found {
             TextRead::Plain(p, next) => LenRead::Len(
                 notepack::text_len(scan::part(s, p.from, p.count)),
@@ -597,7 +633,7 @@ impl Cursor {
     fn name(self, s: &[u8]) -> LenRead
         ensures { λ r. ⌜ lenRead r ≡ under fieldOf (textAt (now (s .entry)) (self .at)) ⌝ }
     {
-        let found = self.spelled(s);
+        let found = self.spelled(&s[..]);
         match found {
             TextRead::Plain(p, next) => LenRead::Len(
                 field_spelled(scan::part(s, p.from, p.count)),
@@ -614,7 +650,7 @@ impl Cursor {
         ensures { λ r. ⌜ SpotGood (now (s .entry)) 7 r ⌝ }
     {
         let at = self.at;
-        let found = jsontext::Cursor { at }.skip_value(s, event::MAX_DEPTH);
+        let found = jsontext::Cursor { at }.skip_value(&s[..], event::MAX_DEPTH);
         match found {
             Skip::Past(next) => SpotRead::Found(
                 Spot {
@@ -917,7 +953,7 @@ fn behind(s: &[u8], at: usize) -> usize
 fn text_end(s: &[u8], at: usize) -> usize
     ensures { λ r. ⌜ r ≡ textEnd (now (s .entry)) at ⌝ }
 {
-    let found = Cursor { at }.spelled(s);
+    let found = Cursor { at }.spelled(&s[..]);
     match found {
         TextRead::Plain(_, next) => next.at,
         TextRead::Other(_, next) => next.at,
@@ -955,7 +991,7 @@ fn put_texts(out: &mut [u8], at: usize, s: &[u8], from: usize, count: u64) -> Co
     let mut i = from;
     let mut left = count;
     while 0 < left {
-        let found = Cursor { at: i }.spelled(s);
+        let found = Cursor { at: i }.spelled(&s[..]);
         match found {
             TextRead::Plain(p, next) => {
                 o = strict::put_text(out, o, scan::part(s, p.from, p.count));

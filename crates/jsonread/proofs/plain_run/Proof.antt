@@ -1,0 +1,42 @@
+-- `plain_run` keeps the least place of a byte that is not plain. The invariant: the run is that place, or ends further on.
+-- Each turn is `run-more`; at the end the run is the least place, or the whole block.
+use Prim.Native.Nat.{_+_, _-_, _≤_, min}
+use mathlib.Core.Path.{_≡_}
+use native.Mathlib.Omega.{arith}
+use borrow.Author.Needs.{needs}
+use lib.ListN.{length, drop}
+use Rattle.jsonread.specs.Run.{plainRun}
+use Rattle.jsonread.proofs.Runs.{run-within, run-more, run-done}
+use Rattle.jsonread.proofs.plain_run.Statement.{statement}
+use Rattle.jsonread.proofs.plain_run.Tie as tie
+
+abbrev Inv-loop : tie.InvT-loop
+Inv-loop block n i₀ m₀ i m = (i ≤ length block) × (m ≤ length block) × (plainRun block ≡ min m (i + plainRun (drop i block)))
+
+abbrev μ-loop : tie.MeasureT-loop
+μ-loop block n i₀ m₀ i m = length block - i
+
+again : tie.Need-loop-again Inv-loop μ-loop
+again c =
+    let turn = c .before .before .before .before in
+    let q = turn .before .loop in
+    let n = length (turn .before .before .before .args .block .now) in
+    (omega arith, omega arith, run-more _ (q .i) n (q .m) (q .inv .2) (turn .loop-test .taken) (q .inv .1) (c .before .before .is-plain .ensures) (c .before .stop-place .ensures) (c .lesser .ensures))
+
+pub plain-run-spec : {M : Type 1} → statement M
+plain-run-spec =
+    tie.close
+    (tie.spec
+    Inv-loop
+    μ-loop
+    (λ c. omega arith)
+    (λ c. (omega arith, omega arith, omega (arith, run-within (c .before .args .block .now))))
+    (λ c. omega arith)
+    (λ c κs. search needs)
+    (λ c. omega arith)
+    (λ c κs. search needs)
+    (λ c κs. search needs)
+    (λ c. omega arith)
+    (λ c. omega arith)
+    again
+    (λ c. search run-done))
