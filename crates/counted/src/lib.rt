@@ -24,8 +24,9 @@ fn is_letter(b: u8) -> bool
 fn is_bare(t: &[u8]) -> bool
     ensures { λ r. ⌜ (r ≡ true → All NsonBare (now (t .entry))) ⌝ }
 {
-    if escape::nson_len(t) == t.len() {
-        return escape::nson_fits(t);
+    let size = escape::nson_size(t);
+    if size.len == t.len() {
+        return size.fits;
     }
     false
 }

@@ -6,7 +6,7 @@ use mathlib.Core.Bool.{Bool, true, false}
 use mathlib.Core.List.{List, [], _∷_, _++_, append-nil}
 use native.Mathlib.Omega.{arith}
 use lib.ListN.{length, getD, take, drop, length-append, length-take, length-drop, take-append-drop}
-use lib.Seq.{drop-drop, drop-append-le, take-all, length-take-le, getD-take, getD-drop, take-length, drop-length}
+use lib.Seq.{drop-drop, drop-append-le, take-all, length-take-le, getD-take, getD-drop}
 use Rattle.scan.specs.Choice.{pick}
 use Rattle.scan.proofs.Step.{rest-none, rest-more, pick-by}
 use Rattle.store.specs.Store.{Wrote}
@@ -53,6 +53,17 @@ module _ (all : Bool) (s : List ℕ) (i n h : ℕ) where
   pub count-all : n + i + length (escaped (byteOf all) (drop i s)) ≡ h → length s ≤ i → i ≤ length s → n + length s ≡ h
   unfolding escaped
   count-all e l k = let r : length (escaped (byteOf all) (drop i s)) ≡ 0 = rw (rest-none s i l) refl in omega arith
+
+-- a text that doesn't grow stands as it is
+pub grows-not : (all : Bool) (s : List ℕ) → length (escaped (byteOf all) s) ≡ length s → escaped (byteOf all) s ≡ s
+unfolding escaped
+grows-not all [] h = refl
+grows-not all (b ∷ s) h = by-cases (isEscaped all b) (byte-tests all b) (grows-not all s) (sym (length-append (byteOf all b) (escaped (byteOf all) s)) ∙ h)
+  where
+    by-cases : (t : Bool) → byteOf all b ≡ pick t (behind (letterOf b)) (b ∷ []) → (length (escaped (byteOf all) s) ≡ length s → escaped (byteOf all) s ≡ s)
+        → length (byteOf all b) + length (escaped (byteOf all) s) ≡ suc (length s) → byteOf all b ++ escaped (byteOf all) s ≡ b ∷ s
+    by-cases true e f k = let n = ap length e in absurd (omega (arith, length-least (byteOf all) (escaping all) s))
+    by-cases false e f k = let n = ap length e in rw e (ap (λ (l : List ℕ). b ∷ l) (f (omega arith)))
 
 -- a block's length and that of the rest
 pub length-block : (f : ℕ → List ℕ) (s : List ℕ) (i e n : ℕ) → i ≤ e → e ≤ length s → n + length (take (e - i) (drop i s)) ≡ length (escaped f (take (e - i) (drop i s)))
@@ -108,11 +119,6 @@ module _ (all : Bool) where
           → escaped (byteOf all) (b ∷ x ++ y) ≡ take (pick t 0 (suc (runOf all x))) (b ∷ x) ++ escaped (byteOf all) (drop (pick t 0 (suc (runOf all x))) (b ∷ x) ++ y)
       by-cases true e f = refl
       by-cases false e f = rw (e, f)
-
-  -- a text that is all run stands as it is
-  pub run-whole : (x : List ℕ) → runOf all x ≡ length x → escaped (byteOf all) x ≡ x
-  unfolding escaped
-  run-whole x h = ap (λ (l : List ℕ). escaped (byteOf all) l) (sym (append-nil x)) ∙ run-front x [] ∙ rw (h, take-length x, drop-length x) (append-nil x)
 
   -- the byte behind the run becomes two
   run-stop : (x : List ℕ) → runOf all x < length x → isEscaped all (getD x (runOf all x) 0) ≡ true

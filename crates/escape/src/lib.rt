@@ -97,14 +97,6 @@ pub fn canonical_len(s: &[u8]) -> usize
     escaped_len(true, s)
 }
 
-// The length of a text in NSON.
-pub fn nson_len(s: &[u8]) -> usize
-    ensures { λ r. ⌜ r ≡ length (escaped nsonByte (now (s .entry))) ⌝ }
-    ensures { λ r. ⌜ r ≤ 2 * length (now (s .entry)) ⌝ }
-{
-    escaped_len(false, s)
-}
-
 // ---- the text
 
 // One byte, as one or as two.
@@ -163,7 +155,7 @@ fn put_rest(all: bool, out: &mut [u8], at: usize, s: &[u8]) -> usize
     ensures { λ r. ⌜ Wrote (now (out .entry)) at (escaped (byteOf all) (now (s .entry))) (now (out .exit)) r ⌝ }
 {
     if s.len() <= 64 {
-        if plain_run(all, s) as usize == s.len() {
+        if escapes(all, s) == 0 {
             return store::put_bytes(out, at, s);
         }
     }
@@ -232,30 +224,57 @@ fn is_control(b: u8) -> u8
     0
 }
 
-fn block_controls(block: &[u8]) -> u8
+// How many bytes of a block become two in NSON, and how many it can't carry.
+struct Sums {
+    escapes: u8,
+    controls: u8,
+}
+
+fn count_block(block: &[u8]) -> Sums
     requires { ⌜ length (now block) ≤ 128 ⌝ }
-    ensures { λ r. ⌜ r ≡ controls (now (block .entry)) ⌝ }
+    ensures { λ r. ⌜ r .escapes + length (now (block .entry)) ≡ length (escaped nsonByte (now (block .entry))) ⌝ }
+    ensures { λ r. ⌜ r .controls ≡ controls (now (block .entry)) ⌝ }
+    ensures { λ r. ⌜ r .controls ≤ length (now (block .entry)) ⌝ }
 {
     let mut i = 0;
     let mut n: u8 = 0;
+    let mut m: u8 = 0;
     while i < block.len() {
-        n += is_control(block[i]);
+        n += one_if(is_escaped(false, block[i]));
+        m += is_control(block[i]);
         i += 1;
     }
-    n
+    Sums {
+        escapes: n,
+        controls: m,
+    }
 }
 
-// Whether NSON can carry the text: no byte below 20 other than 0A.
-pub fn nson_fits(s: &[u8]) -> bool
-    ensures { λ r. ⌜ r ≡ nsonText (now (s .entry)) ⌝ }
+// The length of a text in NSON, and whether NSON can carry it: no byte below 20 other than 0A.
+pub struct Size {
+    pub len: usize,
+    pub fits: bool,
+}
+
+// Both in one pass.
+pub fn nson_size(s: &[u8]) -> Size
+    ensures { λ r. ⌜ r .len ≡ length (escaped nsonByte (now (s .entry))) ⌝ }
+    ensures { λ r. ⌜ r .fits ≡ nsonText (now (s .entry)) ⌝ }
+    ensures { λ r. ⌜ r .len ≤ 2 * length (now (s .entry)) ⌝ }
 {
     let mut i = 0;
+    let mut n = 0;
+    let mut m = 0;
     while s.len() - i >= 128 {
         let e = i + 128;
-        if block_controls(&s[i..e]) != 0 {
-            return false;
-        }
+        let x = count_block(&s[i..e]);
+        n += 128 + x.escapes as usize;
+        m += x.controls as usize;
         i = e;
     }
-    block_controls(&s[i..]) == 0
+    let x = count_block(&s[i..]);
+    Size {
+        len: n + (s.len() - i) + x.escapes as usize,
+        fits: m + x.controls as usize == 0,
+    }
 }

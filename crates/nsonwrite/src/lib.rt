@@ -13,7 +13,7 @@ ghost use lib.Dec.{leb};
 ghost use Rattle.scan.specs.Choice.{pick};
 ghost use Rattle.store.specs.Store.{Wrote};
 ghost use Rattle.store.specs.Entry.{writes, leaves};
-ghost use Rattle.escape.specs.Escape.{nsonByte, nsonText};
+ghost use Rattle.escape.specs.Escape.{nsonByte, escaped, nsonText};
 ghost use Rattle.notepack.specs.Unpack.{textOf, unpack};
 ghost use Rattle.tagtext.specs.Copy.{elementsFrom, elementsEnd, tagsFrom};
 ghost use Rattle.nson.specs.Nson.{nson};
@@ -54,24 +54,31 @@ fn put_word(out: &mut [u8], at: usize, n: usize) -> usize
     store::put_byte(out, o, (n % 256) as u8)
 }
 
-// Whether a part's text has no byte that NSON can't carry. Hex digits are none.
-fn is_plain(s: &[u8], p: Part) -> bool
-    ensures { λ r. ⌜ r ≡ nsonText (textOf (now (s .entry)) p) ⌝ }
-{
-    if p.raw {
-        return true;
-    }
-    escape::nson_fits(scan::part(s, p.at, p.len))
+// The length of a part's text between its quotes, and whether NSON can carry it.
+struct TextSize {
+    len: usize,
+    fits: bool,
 }
 
-// Whether NSON can carry a part's text, whose escaped length is n.
-fn text_fits(s: &[u8], p: Part, n: usize) -> bool
-    ensures { λ r. ⌜ r ≡ pick (nsonText (textOf (now (s .entry)) p)) (leb n 65535) false ⌝ }
+fn text_size(s: &[u8], p: Part) -> TextSize
+    ensures { λ r. ⌜ r .len ≡ length (escaped nsonByte (textOf (now (s .entry)) p)) ⌝ }
+    ensures { λ r. ⌜ r .len ≤ 2 * length (now (s .entry)) ⌝ }
+    ensures { λ r. ⌜ r .fits ≡ pick (nsonText (textOf (now (s .entry)) p)) (leb (r .len) 65535) false ⌝ }
 {
-    if is_plain(s, p) {
-        return n <= MAX_TEXT;
+    let bytes = scan::part(s, p.at, p.len);
+    if p.raw {
+        // hex digits: two for each byte, none of which is escaped
+        let n = 2 * bytes.len();
+        return TextSize {
+            len: n,
+            fits: n <= MAX_TEXT,
+        };
     }
-    false
+    let size = escape::nson_size(bytes);
+    TextSize {
+        len: size.len,
+        fits: both(size.fits, size.len <= MAX_TEXT),
+    }
 }
 
 fn both(a: bool, b: bool) -> bool
@@ -99,8 +106,9 @@ fn measure_elements(s: &[u8], from: usize, count: u64, d: &mut [u8], at: usize) 
         match found {
             PartRead::Found(p, behind) => {
                 left -= 1;
-                let n = tagtext::text_len(false, s, p);
-                fits = both(fits, text_fits(s, p, n));
+                let size = text_size(s, p);
+                let n = size.len;
+                fits = both(fits, size.fits);
                 len += n + 2 + tagtext::comma_len(left);
                 out = put_word(d, out, n);
                 next = behind.at;
@@ -172,13 +180,14 @@ fn measure_texts(s: &[u8], h: Head, d: &mut [u8]) -> Measured
 {
     let content = h.content;
     let kind = decimal::decimal_len(h.kind);
-    let n = tagtext::text_len(false, s, content);
+    let size = text_size(s, content);
+    let n = size.len;
     let a = store::put_byte(d, 0, kind as u8);
     let b = put_word(d, a, n);
     let c = store::put_byte(d, b, (h.tag_count % 256) as u8);
     let tags = measure_tags(s, h.tags_at, h.tag_count, d, c);
     Measured {
-        fits: both(text_fits(s, content, n), tags.fits),
+        fits: both(size.fits, tags.fits),
         len: n + tags.len,
         out: tags.out,
         next: tags.next,

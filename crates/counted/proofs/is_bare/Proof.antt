@@ -8,4 +8,9 @@ use Rattle.counted.proofs.is_bare.Statement.{statement}
 use Rattle.counted.proofs.is_bare.Tie as tie
 
 pub is-bare-spec : {M : Type 1} → statement M
-is-bare-spec = tie.close (tie.spec (λ c κs. search needs) (λ c κs. search needs) (λ c. λ q. bare-text _ (sym (c .before .before .nson-len .ensures .0) ∙ c .before .if1 .taken) (sym (c .nson-fits .ensures) ∙ q)) (λ c. λ q. absurd (false-true q)))
+is-bare-spec =
+    tie.close
+    (tie.spec
+    (λ c κs. search needs)
+    (λ c. λ q. let size = c .before .before .nson-size .ensures in bare-text _ (sym (size .0) ∙ c .if1 .taken) (sym (size .1 .0) ∙ q))
+    (λ c. λ q. absurd (false-true q)))

@@ -1,8 +1,8 @@
--- `put_rest` writes a short text whole where all of it is a run, and else byte after byte.
--- `run-whole`: a text that is all run stands as it is.
-use mathlib.Core.Path.{sym, _∙_}
+-- `put_rest` writes a short text whole where none of its bytes becomes two, and else byte after byte.
+-- `grows-not`: a text that doesn't grow stands as it is.
+use native.Mathlib.Omega.{arith}
 use borrow.Author.Needs.{needs}
-use Rattle.escape.proofs.BlockLaws.{run-whole}
+use Rattle.escape.proofs.BlockLaws.{grows-not}
 use Rattle.escape.proofs.put_rest.Statement.{statement}
 use Rattle.escape.proofs.put_rest.Tie as tie
 
@@ -10,14 +10,13 @@ returns : tie.Need-returns
 returns c =
     let tested = c .before .before .before .before in
     let a = tested .before .before .before .before .before .args in
-    rw (run-whole (a .all) (a .s .now) (sym (tested .before .plain-run .ensures .0) ∙ tested .if2 .taken)) (c .before .before .put-bytes .ensures)
+    rw (grows-not (a .all) (a .s .now) (omega (arith, tested .before .escapes .ensures, tested .if2 .taken))) (c .before .before .put-bytes .ensures)
 
 pub put-rest-spec : {M : Type 1} → statement M
 put-rest-spec =
     tie.close
     (tie.spec
     (λ c κs. search needs)
-    (λ c. search needs)
     (λ c κs. search needs)
     (λ c. search needs)
     returns

@@ -34,31 +34,30 @@ abbrev μ-loop : tie.MeasureT-loop
 
 sum-fits : tie.Need-add-len-3 Inv-loop μ-loop
 sum-fits c =
-    let q = c .before .before .before .before .before .before .before .before .before .loop in
-    let known = c .before .before .before .before .before .before .before .before .before .before .before in
+    let q = c .before .before .before .before .before .before .before .before .loop in
+    let known = c .before .before .before .before .before .before .before .before .before .before in
     let a = known .before .args in
     let bytes = all-places (a .s .now) (λ i. omega (arith, known .shared-slice-known .given i)) in
     let most = elements-room (a .s .now) false bytes (a .count) (a .from) in
-    omega (arith, q .inv .2, most, known .before .pre, c .comma-len .ensures .1, c .before .before .before .text-len .ensures .1)
+    omega (arith, q .inv .2, most, known .before .pre, c .comma-len .ensures .1, c .before .before .text-size .ensures .1 .0)
 
 again : tie.Need-loop-again Inv-loop μ-loop
 again c =
     let worded = c .before .before in
     let comma = worded .before .before in
     let both = comma .before in
-    let tested = both .before in
-    let measured = tested .before in
+    let measured = both .before in
     let told = measured .before .before in
     let called = told .before .before in
     let turn = called .before in
     let q = turn .before .loop in
     let s = turn .before .before .before .before .args .s .now in
     let test = turn .loop-test .taken in
-    let n = measured .text-len .ensures .0 in
+    let n = measured .text-size .ensures .0 in
     let t = texts-turn s (q .left) (q .next) _ _ _ test (called .read-part .ensures) (told .found .given .1) in
     let k = count-turn s (q .left) (q .next) _ _ _ test (called .read-part .ensures) (told .found .given .1) n in
     let e = elements-turn nsonByte s (q .left) (q .next) _ _ _ test (called .read-part .ensures) (told .found .given .1) in
-    let f = text-fit _ n (tested .text-fits .ensures) in (
+    let f = text-fit _ n (measured .text-size .ensures .1 .1) in (
       q .inv .0 ∙ ap (λ (l : List Text). pick (q .fits) (allFit l) false) t ∙ all-fit-more (q .fits) _ _ f (both .both .ensures),
       part (also (ap cutWords t ∙ words-more _ _ n) (q .inv .1)) (worded .put-word .ensures),
       omega (arith, q .inv .2, k, comma .comma-len .ensures .0),
@@ -120,10 +119,9 @@ measure-elements-spec =
     (λ c. search needs)
     (λ c κs. search needs)
     (λ c κs. search needs)
+    (λ c. omega (arith, c .before .before .before .before .before .before .before .before .before .before .pre, c .before .text-size .ensures .1 .0))
     (λ c κs. search needs)
-    (λ c. omega (arith, c .before .before .before .before .before .before .before .before .before .before .before .pre, c .before .before .text-len .ensures .1))
-    (λ c κs. search needs)
-    (λ c. omega (arith, c .before .before .before .before .before .before .before .before .before .before .before .before .pre, c .comma-len .ensures .1, c .before .before .before .text-len .ensures .1))
+    (λ c. omega (arith, c .before .before .before .before .before .before .before .before .before .before .before .pre, c .comma-len .ensures .1, c .before .before .text-size .ensures .1 .0))
     sum-fits
     (λ c κs. search needs)
     (λ c. search needs)

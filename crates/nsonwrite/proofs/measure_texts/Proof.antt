@@ -11,24 +11,23 @@ use Rattle.nsonwrite.proofs.measure_texts.Tie as tie
 returns : tie.Need-returns
 returns c =
     let both = c .before in
-    let tested = both .before in
-    let tags = tested .before .before .before in
+    let tags = both .before .before .before in
     let count = tags .before .before .before .before in
     let word = count .before .before .before .before .before in
     let kind = word .before .before .before .before in
     let measured = kind .before .before in
     let start = measured .before .before .before .before .before in
     let a = start .args in
-    let n = measured .text-len .ensures in
+    let n = measured .text-size .ensures in
     let t = tags .measure-tags .ensures in
     let w = then (then (then (kind .put-byte .ensures) (word .put-word .ensures)) (count .put-byte2 .ensures)) (t .1 .0) in
     let counts = counts-wrote (a .s .now) (a .h) (measured .before .decimal-len .ensures .0) (n .0) w in (
-      texts-fit (a .s .now) (a .h) (text-fit _ (n .0) (tested .text-fits .ensures)) (t .0) (both .both .ensures),
+      texts-fit (a .s .now) (a .h) (text-fit _ (n .0) (n .1 .1)) (t .0) (both .both .ensures),
       (
         counts,
         (
           texts-length (a .s .now) (a .h) (n .0) (t .1 .1 .0),
-          (let most = ends counts .most in omega (arith, start .pre), omega (arith, start .pre, n .1, t .1 .1 .1)),
+          (let most = ends counts .most in omega (arith, start .pre), omega (arith, start .pre, n .1 .0, t .1 .1 .1)),
         ),
       ),
     )
@@ -46,7 +45,6 @@ measure-texts-spec =
     (λ c κs. search needs)
     (λ c κs. c .before .before .before .before .before .before .before .before .before .before .before .before .before .before .before .before .before .before .before .pre .0)
     (λ c κs. search needs)
-    (λ c κs. search needs)
-    (λ c. omega (arith, c .before .before .before .before .before .before .before .before .before .before .before .before .before .before .before .before .before .before .before .before .before .before .before .before .before .pre, c .before .before .before .before .before .before .before .before .before .before .before .before .before .before .before .before .before .before .before .before .text-len .ensures .1, c .before .before .before .before .before .measure-tags .ensures .1 .1 .1))
+    (λ c. omega (arith, c .before .before .before .before .before .before .before .before .before .before .before .before .before .before .before .before .before .before .before .before .before .before .before .before .pre, c .before .before .before .before .before .before .before .before .before .before .before .before .before .before .before .before .before .before .before .text-size .ensures .1 .0, c .before .before .before .before .measure-tags .ensures .1 .1 .1))
     (λ c. search needs)
     returns)
