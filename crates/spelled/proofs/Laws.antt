@@ -9,11 +9,13 @@ use native.Mathlib.Omega.{arith}
 use native.Mathlib.Decide.{decLt, ℕ-discrete}
 use lib.ListN.{length, getD, take, drop, length-take, length-drop}
 use Rattle.scan.proofs.Step.{rest-more}
+use Rattle.scan.proofs.AllLaws.{all-map}
 use Rattle.jsontext.specs.Escape.{escapeAt, orItself, plainAt, unescape}
-use Rattle.jsontext.proofs.Meaning.{unescape-byte}
+use Rattle.jsontext.proofs.Meaning.{unescape-byte, unescape-itself}
 use Rattle.jsontext.proofs.Unescape.{unescape-end, taken, length-escape, unescape-whole}
 use Rattle.varint.specs.Uleb.{uleb}
-use Rattle.hex.specs.Hex.{unhex, goesAsBytes}
+use Rattle.hex.specs.Hex.{Digit, number, letter, unhex, goesAsBytes}
+use Rattle.hex.proofs.Texts.{go-digits}
 use Rattle.notepack.specs.Strict.{packElement}
 use Rattle.notepack.proofs.Lengths.{element-bytes, element-text, length-as-bytes, length-as-text}
 
@@ -38,9 +40,37 @@ length-from (suc k) t i h =
 pub length-unescape : (t : List ℕ) → length (unescape t) ≤ length t
 length-unescape t = let m : length (unescape t) ≤ length t - 0 = length-from (length t) t 0 (omega arith) in omega arith
 
--- the element of what is its own text
-pub whole-element : {t l : List ℕ} {e : ℕ} → t ≡ l → e ≡ plainAt t 0 → length t ≤ e → packElement t ≡ packElement (unescape l)
-whole-element {t} p q h = ap packElement (sym (unescape-whole t q h)) ∙ ap (λ (l : List ℕ). packElement (unescape l)) p
+digit-plain : (b : ℕ) → Digit b → b ≡ 0x5C → ⊥
+digit-plain b (number l h) e = omega arith
+digit-plain b (letter l h) e = omega arith
+
+-- digits are no backslash: what goes as bytes is its own text
+digits-text : (t : List ℕ) → goesAsBytes t ≡ true → unescape t ≡ t
+digits-text t g = unescape-itself (all-map digit-plain (go-digits t g .2))
+
+-- the element of a part that is its own text
+module _ {t l : List ℕ} {g : Bool} (p : t ≡ l) (a : g ≡ goesAsBytes t) where
+  -- it goes as bytes
+  module _ (h : g ≡ true) where
+    own-digits : packElement (unescape l) ≡ packElement t
+    own-digits = ap packElement (ap unescape (sym p) ∙ digits-text t (sym a ∙ h))
+
+    pub digits-element : packElement (unescape l) ≡ uleb (2 * (length t / 2) + 1) ++ unhex t
+    digits-element = own-digits ∙ element-bytes t g a h
+
+    pub digits-length : length (packElement (unescape l)) ≡ length (uleb (2 * (length t / 2) + 1)) + length t / 2
+    digits-length = ap length own-digits ∙ length-as-bytes t g a h
+
+  -- it doesn't, and has no backslash
+  module _ (h : g ≡ false) {e : ℕ} (q : e ≡ plainAt t 0) (k : length t ≤ e) where
+    own-plain : packElement (unescape l) ≡ packElement t
+    own-plain = ap packElement (ap unescape (sym p) ∙ unescape-whole t q k)
+
+    pub plain-element : packElement (unescape l) ≡ uleb (2 * length t) ++ t
+    plain-element = own-plain ∙ element-text t g a h
+
+    pub plain-length : length (packElement (unescape l)) ≡ length (uleb (2 * length t)) + length t
+    plain-length = ap length own-plain ∙ length-as-text t g a h
 
 -- a part of n bytes has at most n, and no more than the input
 pub part-most : (s : List ℕ) (from n : ℕ) → (length (take n (drop from s)) ≤ n) × (length (take n (drop from s)) ≤ length s)

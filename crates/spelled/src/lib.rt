@@ -18,14 +18,18 @@ fn escaped_len(s: &[u8], from: usize, n: usize) -> usize
     varint::varint_len(2 * k as u64) + k
 }
 
-// The length of the strict element whose text the n bytes of s from a place on spell.
+// The length of the strict element whose text the n bytes of s from a place on spell. Hex is asked for first: digits are no backslash.
 pub fn element_len(s: &[u8], from: usize, n: usize) -> usize
     ensures { λ r. ⌜ r ≡ length (packElement (unescape (take n (drop from (now (s .entry)))))) ⌝ }
     ensures { λ r. ⌜ r ≤ n + 10 ⌝ }
 {
     let t = scan::part(s, from, n);
+    if hex::goes_as_bytes(t) {
+        let k = t.len() / 2;
+        return varint::varint_len(2 * k as u64 + 1) + k;
+    }
     if t.len() <= jsontext::next_backslash(t, 0) {
-        return notepack::text_len(t);
+        return varint::varint_len(2 * t.len() as u64) + t.len();
     }
     escaped_len(s, from, n)
 }
@@ -43,13 +47,19 @@ fn put_escaped(out: &mut [u8], at: usize, s: &[u8], from: usize, n: usize) -> us
     jsontext::put_unescaped(out, o, s, from, n)
 }
 
-// The strict element whose text they spell, written.
+// The strict element whose text they spell, written. Hex is asked for first here too.
 pub fn put_element(out: &mut [u8], at: usize, s: &[u8], from: usize, n: usize) -> usize
     ensures { λ r. ⌜ Wrote (now (out .entry)) at (packElement (unescape (take n (drop from (now (s .entry)))))) (now (out .exit)) r ⌝ }
 {
     let t = scan::part(s, from, n);
+    if hex::goes_as_bytes(t) {
+        let k = t.len() / 2;
+        let o = varint::put_varint(out, at, 2 * k as u64 + 1);
+        return hex::put_unhex(out, o, t);
+    }
     if t.len() <= jsontext::next_backslash(t, 0) {
-        return strict::put_text(out, at, t);
+        let o = varint::put_varint(out, at, 2 * t.len() as u64);
+        return store::put_bytes(out, o, t);
     }
     put_escaped(out, at, s, from, n)
 }

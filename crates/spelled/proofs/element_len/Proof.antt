@@ -1,12 +1,29 @@
--- `element_len`: a string with no backslash is its own text.
--- By `whole-element`; with a backslash the other function measures it.
-use mathlib.Core.Path.{ap, _∙_}
+-- `element_len`: what goes as bytes has no backslash, and a string with no backslash is its own text.
+-- By the law of the element's length for each form; with a backslash the other function measures it.
+use mathlib.Core.Path.{ap}
 use native.Mathlib.Omega.{arith}
 use lib.ListN.{length}
-use Rattle.spelled.proofs.Laws.{part-most, whole-element}
+use Rattle.spelled.proofs.Laws.{part-most, digits-length, plain-length}
 use borrow.Author.Needs.{needs}
 use Rattle.spelled.proofs.element_len.Statement.{statement}
 use Rattle.spelled.proofs.element_len.Tie as tie
+
+as-bytes : tie.Need-returns
+as-bytes c =
+    let asked = c .before .before in
+    let args = asked .before .before .before .args in
+    let p = asked .before .part .ensures in
+    let e = digits-length p (asked .goes-as-bytes .ensures) (c .before .if1 .taken) in
+    omega (arith, e, c .varint-len .ensures, ap length p, part-most (args .s .now) (args .from) (args .n))
+
+as-text : tie.Need-returns-2
+as-text c =
+    let looked = c .before .before in
+    let asked = looked .before .before in
+    let args = asked .before .before .before .args in
+    let p = asked .before .part .ensures in
+    let e = plain-length p (asked .goes-as-bytes .ensures) (looked .before .if1 .left) (looked .next-backslash .ensures) (c .before .if2 .taken) in
+    omega (arith, e, c .varint-len2 .ensures, ap length p, part-most (args .s .now) (args .from) (args .n))
 
 pub element-len-spec : {M : Type 1} → statement M
 element-len-spec =
@@ -14,12 +31,15 @@ element-len-spec =
     (tie.spec
     (λ c κs. search needs)
     (λ c κs. search needs)
+    (λ c. search needs)
+    (λ c. search needs)
     (λ c κs. search needs)
-    (λ c.
-    let asked = c .before .before .before in
-    let args = asked .before .before .args in
-    let e = ap length (whole-element (asked .part .ensures) (c .before .before .next-backslash .ensures) (c .before .if1 .taken)) in
-    let p = ap length (asked .part .ensures) in
-    (c .text-len .ensures .0 ∙ e, omega (arith, p, c .text-len .ensures .1, part-most (args .s .now) (args .from) (args .n))))
+    (λ c. search needs)
+    as-bytes
+    (λ c κs. search needs)
+    (λ c. search needs)
+    (λ c κs. search needs)
+    (λ c. search needs)
+    as-text
     (λ c κs. search needs)
     (λ c. search needs))
