@@ -2,6 +2,7 @@
 use event::Refusal;
 ghost use Prim.Native.Nat.{min, _+_, _-_, _*_, _^_, _≤_, _<_};
 ghost use mathlib.Core.Path.{_≡_};
+ghost use mathlib.Core.Bool.{true};
 ghost use lib.ListN.{length, take, drop};
 ghost use Rattle.scan.specs.Choice.{refused};
 ghost use Rattle.scan.specs.Place.{standsAt};
@@ -12,7 +13,8 @@ ghost use Rattle.event.specs.Event.{sameText};
 ghost use Rattle.jsontext.specs.Token.{isSpace, spaceAt, wordAt, isDigit, digitsOr, minusAt, signAt, intAt, fracAt, isE, expAt, numberFrom, unsignedFrom, numberAt};
 ghost use Rattle.jsontext.specs.Escape.{hexValue, unitOf, unitAt, letterOf, letterEscape, pairOf, unicodeAt, escapeAt, plainAt, orItself, unescape};
 ghost use Rattle.jsontext.specs.Half.{held, halfBehind};
-ghost use Rattle.jsontext.specs.Block.{isOne, isControl, isSlash, specialOf, sumOf, PlainTo};
+ghost use Rattle.jsontext.specs.Block.{isOne, isControl, specialOf, sumOf, PlainTo};
+ghost use Rattle.jsontext.specs.Run.{stopOf, Ran};
 ghost use Rattle.jsontext.specs.Text.{stringAt};
 ghost use Rattle.jsontext.specs.Value.{itemAt, memberAt, valueAt, walkAt};
 ghost use Rattle.jsontext.specs.Answers.{skipRead, stringRead};
@@ -593,29 +595,39 @@ impl Cursor {
 
 // ---- the text of a spelled string
 
-// How many bytes of a block are backslashes.
-fn backslashes(block: &[u8]) -> u8
+// 0 for a byte that is neither a control byte nor a quote nor a backslash. One comparison would do, but a loop with three is the one for vectors.
+fn stop_of(b: u8) -> u8
+    ensures { λ r. ⌜ r ≡ stopOf b ⌝ }
+    ensures { λ r. ⌜ r ≤ 3 ⌝ }
+{
+    is_control(b) + is_one(b, 0x22) + is_one(b, 0x5C)
+}
+
+// 0 for a block of such bytes.
+fn stops(block: &[u8]) -> u8
     requires { ⌜ length (now block) ≤ 32 ⌝ }
-    ensures { λ r. ⌜ r ≡ sumOf isSlash (now (block .entry)) ⌝ }
+    ensures { λ r. ⌜ r ≡ sumOf stopOf (now (block .entry)) ⌝ }
 {
     let mut i = 0;
     let mut n: u8 = 0;
     while i < block.len() {
-        n += is_one(block[i], 0x5C);
+        n += stop_of(block[i]);
         i += 1;
     }
     n
 }
 
-// Passes blocks of 32 bytes without a backslash from a place on.
-fn pass_blocks(t: &[u8], at: usize) -> usize
+// Passes blocks of 32 such bytes from a place on: none of them is a backslash.
+fn pass_stops(t: &[u8], at: usize) -> usize
     requires { ⌜ at ≤ length (now t) ⌝ }
     ensures { λ r. ⌜ plainAt (now (t .entry)) at ≡ plainAt (now (t .entry)) r ⌝ }
+    ensures { λ r. ⌜ at ≤ r ⌝ }
+    ensures { λ r. ⌜ r ≤ length (now (t .entry)) ⌝ }
 {
     let mut i = at;
     while t.len() - i >= 32 {
         let e = i + 32;
-        if backslashes(&t[i..e]) != 0 {
+        if stops(&t[i..e]) != 0 {
             return i;
         }
         i = e;
@@ -630,7 +642,7 @@ pub fn next_backslash(t: &[u8], at: usize) -> usize
     if t.len() <= at {
         return at;
     }
-    let mut i = pass_blocks(t, at);
+    let mut i = pass_stops(t, at);
     while i < t.len() {
         let b = t[i];
         if b == 0x5C {
@@ -646,7 +658,7 @@ fn escape_or_itself(t: &[u8], at: usize) -> Escape
     requires { ⌜ at < length (now t) ⌝ }
     ensures { λ r. ⌜ r ≡ orItself (escapeAt (now (t .entry)) at) ⌝ }
 {
-    let e = escape_at(t, at);
+    let e = escape_at(&t[..], at);
     let w = e.width;
     if w == 0 {
         return Escape {
@@ -679,17 +691,118 @@ fn text_len(t: &[u8]) -> usize
     n
 }
 
-// The text, written.
+// The places behind a run that was written: of the output and of the input.
+struct Copied {
+    out: usize,
+    next: usize,
+}
+
+// Whether none of the four bytes from a place on is a backslash.
+fn four_plain(t: &[u8], at: usize) -> bool
+    requires { ⌜ at + 4 ≤ length (now t) ⌝ }
+    ensures { λ r. ⌜ (r ≡ true → plainAt (now (t .entry)) at ≡ plainAt (now (t .entry)) (at + 4)) ⌝ }
+{
+    if t[at] == 0x5C {
+        return false;
+    }
+    if t[at + 1] == 0x5C {
+        return false;
+    }
+    if t[at + 2] == 0x5C {
+        return false;
+    }
+    if t[at + 3] == 0x5C {
+        return false;
+    }
+    true
+}
+
+// Four bytes from a place on, where there is room for them.
+fn put_four(out: &mut [u8], at: usize, t: &[u8], from: usize) -> usize
+    requires { ⌜ at + 4 ≤ length (now out) ⌝ }
+    requires { ⌜ from + 4 ≤ length (now t) ⌝ }
+    ensures { λ r. ⌜ Wrote (now (out .entry)) at (take 4 (drop from (now (t .entry)))) (now (out .exit)) r ⌝ }
+    ensures { λ r. ⌜ r ≡ at + 4 ⌝ }
+{
+    out[at] = t[from];
+    out[at + 1] = t[from + 1];
+    out[at + 2] = t[from + 2];
+    out[at + 3] = t[from + 3];
+    at + 4
+}
+
+// The bytes up to the next backslash, four a turn while there are four and room for them.
+fn put_fours(out: &mut [u8], at: usize, t: &[u8], from: usize) -> Copied
+    requires { ⌜ from ≤ length (now t) ⌝ }
+    ensures { λ r. ⌜ Ran (now (t .entry)) from (r .next) (now (out .entry)) at (now (out .exit)) (r .out) ⌝ }
+{
+    let mut i = from;
+    let mut o = at;
+    if out.len() <= at {
+        return Copied { out: o, next: i };
+    }
+    while t.len() - i >= 4 {
+        if out.len() - o < 4 {
+            break;
+        }
+        if !four_plain(t, i) {
+            break;
+        }
+        o = put_four(out, o, t, i);
+        i += 4;
+    }
+    Copied { out: o, next: i }
+}
+
+// The same byte by byte, to the backslash or the end.
+fn put_plain(out: &mut [u8], at: usize, t: &[u8], from: usize) -> Copied
+    requires { ⌜ from ≤ length (now t) ⌝ }
+    ensures { λ r. ⌜ Ran (now (t .entry)) from (r .next) (now (out .entry)) at (now (out .exit)) (r .out) ⌝ }
+    ensures { λ r. ⌜ r .next ≡ plainAt (now (t .entry)) from ⌝ }
+{
+    let mut i = from;
+    let mut o = at;
+    while i < t.len() {
+        let b = t[i];
+        if b == 0x5C {
+            break;
+        }
+        o = store::put_byte(out, o, b);
+        i += 1;
+    }
+    Copied { out: o, next: i }
+}
+
+// The bytes up to the next backslash or the end, written: blocks, then four by four, then one by one.
+fn put_run(out: &mut [u8], at: usize, t: &[u8], from: usize) -> Copied
+    requires { ⌜ from ≤ length (now t) ⌝ }
+    ensures { λ r. ⌜ Wrote (now (out .entry)) at (take (r .next - from) (drop from (now (t .entry)))) (now (out .exit)) (r .out) ⌝ }
+    ensures { λ r. ⌜ r .next ≡ plainAt (now (t .entry)) from ⌝ }
+{
+    let i = pass_stops(t, from);
+    let o = store::put_bytes(out, at, &t[from..i]);
+    let c = put_fours(out, o, t, i);
+    put_plain(out, c.out, t, c.next)
+}
+
+// The text, written: runs, and the escapes between them, those of a letter in two steps less.
 fn put_text(out: &mut [u8], at: usize, t: &[u8]) -> usize
     ensures { λ r. ⌜ Wrote (now (out .entry)) at (unescape (now (t .entry))) (now (out .exit)) r ⌝ }
 {
     let mut i = 0;
     let mut o = at;
     while i < t.len() {
-        let e = next_backslash(t, i);
-        o = store::put_part(out, o, t, i, e - i);
+        let run = put_run(out, o, t, i);
+        o = run.out;
+        let e = run.next;
         if t.len() <= e {
             return o;
+        }
+        let b = letter_of(scan::byte_at(t, e + 1));
+        if b != 0 {
+            o = store::put_byte(out, o, b);
+            i = e + 2;
+            continue;
         }
         let x = escape_or_itself(t, e);
         let w = x.width;
