@@ -15,3 +15,4 @@ pub mod Walk
 pub mod Neighbours
 pub mod RunLaws
 pub mod Letters
+pub mod ShortLaws

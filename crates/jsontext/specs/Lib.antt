@@ -7,3 +7,4 @@ pub mod Text
 pub mod Value
 pub mod Answers
 pub mod Run
+pub mod Short

@@ -3,8 +3,8 @@ use event::Refusal;
 ghost use Prim.Native.Nat.{min, _+_, _-_, _*_, _^_, _≤_, _<_};
 ghost use mathlib.Core.Path.{_≡_};
 ghost use mathlib.Core.Bool.{true};
-ghost use lib.ListN.{length, take, drop};
-ghost use Rattle.scan.specs.Choice.{refused};
+ghost use lib.ListN.{length, getD, take, drop};
+ghost use Rattle.scan.specs.Choice.{pick, refused};
 ghost use Rattle.scan.specs.Place.{standsAt};
 ghost use Rattle.store.specs.Store.{Wrote};
 ghost use Rattle.utf8.specs.Encode.{encode};
@@ -13,8 +13,9 @@ ghost use Rattle.event.specs.Event.{sameText};
 ghost use Rattle.jsontext.specs.Token.{isSpace, spaceAt, wordAt, isDigit, digitsOr, minusAt, signAt, intAt, fracAt, isE, expAt, numberFrom, unsignedFrom, numberAt};
 ghost use Rattle.jsontext.specs.Escape.{hexValue, unitOf, unitAt, letterOf, letterEscape, pairOf, unicodeAt, escapeAt, plainAt, orItself, unescape};
 ghost use Rattle.jsontext.specs.Half.{held, halfBehind};
-ghost use Rattle.jsontext.specs.Block.{isOne, isControl, specialOf, sumOf, PlainTo};
+ghost use Rattle.jsontext.specs.Block.{isOne, isControl, isSlash, specialOf, sumOf, PlainTo, neighbours};
 ghost use Rattle.jsontext.specs.Run.{stopOf, Ran};
+ghost use Rattle.jsontext.specs.Short.{oddOf, evenPairs};
 ghost use Rattle.jsontext.specs.Text.{stringAt};
 ghost use Rattle.jsontext.specs.Value.{itemAt, memberAt, valueAt, walkAt};
 ghost use Rattle.jsontext.specs.Answers.{skipRead, stringRead};
@@ -669,8 +670,91 @@ fn escape_or_itself(t: &[u8], at: usize) -> Escape
     e
 }
 
-// The length of the text.
-fn text_len(t: &[u8]) -> usize
+// How many bytes of a block are backslashes.
+fn backslashes(block: &[u8]) -> u8
+    requires { ⌜ length (now block) ≤ 128 ⌝ }
+    ensures { λ r. ⌜ r ≡ sumOf isSlash (now (block .entry)) ⌝ }
+    ensures { λ r. ⌜ r ≤ length (now (block .entry)) ⌝ }
+{
+    let mut i = 0;
+    let mut n: u8 = 0;
+    while i < block.len() {
+        n += is_one(block[i], 0x5C);
+        i += 1;
+    }
+    n
+}
+
+// The end of the block of 128 bytes at a place, or the end of the n bytes.
+fn long_end(at: usize, n: usize) -> usize
+    requires { ⌜ at ≤ n ⌝ }
+    ensures { λ r. ⌜ r ≡ min (at + 128) n ⌝ }
+{
+    if n - at <= 128 { n } else { at + 128 }
+}
+
+// How many bytes of t are backslashes, block by block.
+fn slashes(t: &[u8]) -> usize
+    ensures { λ r. ⌜ r ≡ sumOf isSlash (now (t .entry)) ⌝ }
+    ensures { λ r. ⌜ r ≤ length (now (t .entry)) ⌝ }
+{
+    let mut i = 0;
+    let mut n = 0;
+    while i < t.len() {
+        let e = long_end(i, t.len());
+        n += backslashes(&t[i..e]) as usize;
+        i = e;
+    }
+    n
+}
+
+fn choose(t: bool, a: u8, b: u8) -> u8
+    ensures { λ r. ⌜ r ≡ pick t a b ⌝ }
+{
+    if t { a } else { b }
+}
+
+// 1 for a byte behind a backslash that is neither n nor a quote, and else 0.
+fn odd_of(before: u8, b: u8) -> u8
+    ensures { λ r. ⌜ r ≡ oddOf before b ⌝ }
+    ensures { λ r. ⌜ r ≤ 1 ⌝ }
+{
+    choose(before == 0x5C, 1 - is_one(b, 0x6E) - is_one(b, 0x22), 0)
+}
+
+// How many such bytes a block has behind its first.
+fn odd_pairs(block: &[u8]) -> u8
+    requires { ⌜ 1 ≤ length (now block) ⌝ }
+    requires { ⌜ length (now block) ≤ 129 ⌝ }
+    ensures { λ r. ⌜ r ≡ neighbours oddOf (getD (now (block .entry)) 0 0) (drop 1 (now (block .entry))) ⌝ }
+{
+    let mut i = 1;
+    let mut n: u8 = 0;
+    while i < block.len() {
+        n += odd_of(block[i - 1], block[i]);
+        i += 1;
+    }
+    n
+}
+
+// Whether every backslash of t but a last one is followed by n or a quote. A block is lent with the byte before it.
+fn even_pairs(t: &[u8]) -> bool
+    requires { ⌜ 1 ≤ length (now t) ⌝ }
+    ensures { λ r. ⌜ r ≡ evenPairs (now (t .entry)) ⌝ }
+{
+    let mut i = 1;
+    while i < t.len() {
+        let e = long_end(i, t.len());
+        if odd_pairs(&t[i - 1..e]) != 0 {
+            return false;
+        }
+        i = e;
+    }
+    true
+}
+
+// The length of the text, run by run.
+fn long_text_len(t: &[u8]) -> usize
     ensures { λ r. ⌜ r ≡ length (unescape (now (t .entry))) ⌝ }
     ensures { λ r. ⌜ r ≤ length (now (t .entry)) ⌝ }
 {
@@ -689,6 +773,23 @@ fn text_len(t: &[u8]) -> usize
         i = e + w;
     }
     n
+}
+
+// The length of the text. Where every backslash begins \n or \", each of them is the one byte that its escape is longer than what it stands for.
+fn text_len(t: &[u8]) -> usize
+    ensures { λ r. ⌜ r ≡ length (unescape (now (t .entry))) ⌝ }
+    ensures { λ r. ⌜ r ≤ length (now (t .entry)) ⌝ }
+{
+    let n = t.len();
+    if n == 0 {
+        return 0;
+    }
+    if t[n - 1] != 0x5C {
+        if even_pairs(t) {
+            return n - slashes(t);
+        }
+    }
+    long_text_len(&t[..])
 }
 
 // The places behind a run that was written: of the output and of the input.
