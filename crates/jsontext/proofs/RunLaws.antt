@@ -1,7 +1,7 @@
 -- Runs, the bytes up to the next backslash: blocks are passed whole, and parts of a run are written one after the other.
 -- `Ran` goes by composition (`ran-then`); a block, four bytes and one byte are each a part.
 use Prim.Native.Nat.{ℕ, zero, suc, _+_, _-_, _<_, _≤_}
-use mathlib.Core.Path.{_≡_, refl, sym, ap, _∙_}
+use mathlib.Core.Path.{_≡_, refl, _∙_}
 use mathlib.Core.List.{List, [], _∷_, _++_}
 use native.Mathlib.Nat.{add-zero}
 use native.Mathlib.Omega.{arith}
@@ -12,7 +12,7 @@ use Rattle.scan.proofs.SpanLaws.{join, span-unique}
 use Rattle.scan.proofs.Reading.{part-span}
 use Rattle.store.specs.Store.{Wrote}
 use Rattle.store.proofs.Laws.{then, nothing, stored}
-use Rattle.jsontext.specs.Block.{isOne, isSlash, sumOf}
+use Rattle.jsontext.specs.Block.{isSlash, sumOf}
 use Rattle.jsontext.specs.Escape.{plainAt}
 use Rattle.jsontext.specs.Run.{stopOf, Ran}
 use Rattle.jsontext.proofs.Turn.{plain-again}

@@ -596,7 +596,8 @@ impl Cursor {
 
 // ---- the text of a spelled string
 
-// 0 for a byte that is neither a control byte nor a quote nor a backslash. One comparison would do, but a loop with three is the one for vectors.
+// 0 for a byte that is neither a control byte nor a quote nor a backslash. The backslash alone would do, but a loop over 32 bytes with one
+// comparison is unrolled, and not made of vectors.
 fn stop_of(b: u8) -> u8
     ensures { λ r. ⌜ r ≡ stopOf b ⌝ }
     ensures { λ r. ⌜ r ≤ 3 ⌝ }
@@ -708,6 +709,7 @@ fn slashes(t: &[u8]) -> usize
     n
 }
 
+// a where t holds, and else b: a selection with no branch.
 fn choose(t: bool, a: u8, b: u8) -> u8
     ensures { λ r. ⌜ r ≡ pick t a b ⌝ }
 {
@@ -754,7 +756,7 @@ fn even_pairs(t: &[u8]) -> bool
 }
 
 // The length of the text, run by run.
-fn long_text_len(t: &[u8]) -> usize
+fn text_len_by_runs(t: &[u8]) -> usize
     ensures { λ r. ⌜ r ≡ length (unescape (now (t .entry))) ⌝ }
     ensures { λ r. ⌜ r ≤ length (now (t .entry)) ⌝ }
 {
@@ -775,7 +777,7 @@ fn long_text_len(t: &[u8]) -> usize
     n
 }
 
-// The length of the text. Where every backslash begins \n or \", each of them is the one byte that its escape is longer than what it stands for.
+// The length of the text. Where every backslash begins \n or \", the text is shorter than its spelling by one byte for each of them.
 fn text_len(t: &[u8]) -> usize
     ensures { λ r. ⌜ r ≡ length (unescape (now (t .entry))) ⌝ }
     ensures { λ r. ⌜ r ≤ length (now (t .entry)) ⌝ }
@@ -789,7 +791,7 @@ fn text_len(t: &[u8]) -> usize
             return n - slashes(t);
         }
     }
-    long_text_len(&t[..])
+    text_len_by_runs(&t[..])
 }
 
 // The places behind a run that was written: of the output and of the input.
@@ -886,7 +888,7 @@ fn put_run(out: &mut [u8], at: usize, t: &[u8], from: usize) -> Copied
     put_plain(out, c.out, t, c.next)
 }
 
-// The text, written: runs, and the escapes between them, those of a letter in two steps less.
+// The text, written run by run. A letter's escape, which is most of them, is one byte with no look at the other kinds.
 fn put_text(out: &mut [u8], at: usize, t: &[u8]) -> usize
     ensures { λ r. ⌜ Wrote (now (out .entry)) at (unescape (now (t .entry))) (now (out .exit)) r ⌝ }
 {

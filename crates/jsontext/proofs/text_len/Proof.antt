@@ -1,5 +1,5 @@
 -- `text_len` looks first whether every backslash begins \n or \"; then the length is a difference (`short-length`).
--- Otherwise it is what `long_text_len` counts.
+-- Otherwise it is what `text_len_by_runs` counts.
 use mathlib.Core.Path.{sym, _∙_}
 use native.Mathlib.Omega.{arith}
 use borrow.Author.Needs.{needs}

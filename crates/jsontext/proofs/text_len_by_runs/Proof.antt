@@ -1,12 +1,12 @@
--- `long_text_len` counts the text. The invariant, `Measured`: what was counted and the text from here on are the text, and no more was counted than was passed.
+-- `text_len_by_runs` counts the text. The invariant, `Measured`: what was counted and the text from here on are the text, and no more was counted than was passed.
 -- A turn is a run and an escape: `measured-run` and `measured-escape`.
 use Prim.Native.Nat.{_-_}
 use native.Mathlib.Omega.{arith}
 use borrow.Author.Needs.{needs}
 use lib.ListN.{length}
 use Rattle.jsontext.proofs.Unescape.{run-slash, steps, Measured, measured-none, measured-run, measured-escape, measured-all}
-use Rattle.jsontext.proofs.long_text_len.Statement.{statement}
-use Rattle.jsontext.proofs.long_text_len.Tie as tie
+use Rattle.jsontext.proofs.text_len_by_runs.Statement.{statement}
+use Rattle.jsontext.proofs.text_len_by_runs.Tie as tie
 
 abbrev Inv-loop : tie.InvT-loop
 Inv-loop t i₀ n₀ i n = Measured t i n
@@ -22,8 +22,8 @@ again c =
     let x = c .before .escape-or-itself in
     measured-escape (x .result) _ h (run-slash _ _ (r .ensures) h) (x .ensures) (c .scalar-len .ensures .0) (measured-run _ (r .ensures) (p .before .loop .inv))
 
-pub long-text-len-spec : {M : Type 1} → statement M
-long-text-len-spec =
+pub text-len-by-runs-spec : {M : Type 1} → statement M
+text-len-by-runs-spec =
     tie.close
     (tie.spec
     Inv-loop
