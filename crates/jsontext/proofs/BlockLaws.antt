@@ -12,8 +12,7 @@ use lib.Seq.{getD-drop, getD-take}
 use borrow.Author.Tests.{lt-ltb, eq-eqb}
 use Rattle.scan.proofs.Step.{rest-none, rest-more}
 use Rattle.jsontext.specs.Block.{isOne, isControl, isSlash, specialOf, sumOf, PlainTo}
-use Rattle.jsontext.specs.Escape.{plainAt}
-use Rattle.jsontext.proofs.Turn.{InText, text-ascii, plain-again}
+use Rattle.jsontext.proofs.Turn.{InText, text-ascii}
 
 -- ---- a sum over a block
 
@@ -49,7 +48,7 @@ special-sum : (b : ℕ) → specialOf b ≡ 0 → (isControl b ≡ 0) × (isOne 
 unfolding specialOf isSlash
 special-sum b e = (omega arith, omega arith, omega arith, omega arith)
 
-not-one : (b x : ℕ) → isOne b x ≡ 0 → b ≡ x → ⊥
+pub not-one : (b x : ℕ) → isOne b x ≡ 0 → b ≡ x → ⊥
 unfolding isOne
 not-one b x z e = let q = rw (eq-eqb b x e) at z in omega arith
 
@@ -79,16 +78,3 @@ text-plain {s} {start} {a} r p v = let e : a + (r - a) ≡ r = omega arith in rw
         let e : a + suc n ≡ a + n + 1 = omega arith in
         rw e (text-ascii s start (a + n) (go n (omega arith)) (omega (arith, p .inside)) (not-one (getD s (a + n) 0) 0x22 (u .1)) (not-control (getD s (a + n) 0) (u .0))
         (not-one (getD s (a + n) 0) 0x5C (u .2)) (u .3))
-
--- ---- bytes without a backslash
-
-pub run-block : (t : List ℕ) (at i e : ℕ) {n : ℕ} → plainAt t at ≡ plainAt t i → i ≤ e → e ≤ length t → n ≡ sumOf isSlash (take (e - i) (drop i t)) → n ≡ 0
-    → plainAt t at ≡ plainAt t e
-unfolding isSlash
-run-block t at i e v o h q z = let k : i + (e - i) ≡ e = omega arith in v ∙ rw k at (go (e - i) (omega arith))
-  where
-    go : (n : ℕ) → n ≤ e - i → plainAt t i ≡ plainAt t (i + n)
-    go zero l = rw add-zero refl
-    go (suc n) l =
-        let f : i + suc n ≡ i + n + 1 = omega arith in
-        rw f (plain-again t i (i + n) (go n (omega arith)) (omega arith) (not-one (getD t (i + n) 0) 0x5C (block-none isSlash t i e h q z (i + n) (omega arith) (omega arith))))

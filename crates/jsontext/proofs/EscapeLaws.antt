@@ -161,11 +161,11 @@ unit-length (json.unit p q r t) = refl
 
 -- ---- a letter behind the backslash
 
-data LetterOf (c : ℕ) : ℕ → Type 0 where
+pub data LetterOf (c : ℕ) : ℕ → Type 0 where
   letter-is : {b : ℕ} → json.Letter c b → LetterOf c b
   no-letter : LetterOf c 0
 
-of-letter : (c : ℕ) → LetterOf c (letterOf c)
+pub of-letter : (c : ℕ) → LetterOf c (letterOf c)
 unfolding letterOf
 of-letter c =
     key 0x22 (λ e. rw e (letter-is json.Letter.quotation-mark))

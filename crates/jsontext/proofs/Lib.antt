@@ -13,3 +13,6 @@ pub mod Unescape
 pub mod Parts
 pub mod Walk
 pub mod Neighbours
+pub mod RunLaws
+pub mod Letters
+pub mod ShortLaws

@@ -6,3 +6,5 @@ pub mod Block
 pub mod Text
 pub mod Value
 pub mod Answers
+pub mod Run
+pub mod Short

@@ -2,8 +2,9 @@
 use event::Refusal;
 ghost use Prim.Native.Nat.{min, _+_, _-_, _*_, _^_, _≤_, _<_};
 ghost use mathlib.Core.Path.{_≡_};
-ghost use lib.ListN.{length, take, drop};
-ghost use Rattle.scan.specs.Choice.{refused};
+ghost use mathlib.Core.Bool.{true};
+ghost use lib.ListN.{length, getD, take, drop};
+ghost use Rattle.scan.specs.Choice.{pick, refused};
 ghost use Rattle.scan.specs.Place.{standsAt};
 ghost use Rattle.store.specs.Store.{Wrote};
 ghost use Rattle.utf8.specs.Encode.{encode};
@@ -12,7 +13,9 @@ ghost use Rattle.event.specs.Event.{sameText};
 ghost use Rattle.jsontext.specs.Token.{isSpace, spaceAt, wordAt, isDigit, digitsOr, minusAt, signAt, intAt, fracAt, isE, expAt, numberFrom, unsignedFrom, numberAt};
 ghost use Rattle.jsontext.specs.Escape.{hexValue, unitOf, unitAt, letterOf, letterEscape, pairOf, unicodeAt, escapeAt, plainAt, orItself, unescape};
 ghost use Rattle.jsontext.specs.Half.{held, halfBehind};
-ghost use Rattle.jsontext.specs.Block.{isOne, isControl, isSlash, specialOf, sumOf, PlainTo};
+ghost use Rattle.jsontext.specs.Block.{isOne, isControl, isSlash, specialOf, sumOf, PlainTo, neighbours};
+ghost use Rattle.jsontext.specs.Run.{stopOf, Ran};
+ghost use Rattle.jsontext.specs.Short.{oddOf, evenPairs};
 ghost use Rattle.jsontext.specs.Text.{stringAt};
 ghost use Rattle.jsontext.specs.Value.{itemAt, memberAt, valueAt, walkAt};
 ghost use Rattle.jsontext.specs.Answers.{skipRead, stringRead};
@@ -593,29 +596,40 @@ impl Cursor {
 
 // ---- the text of a spelled string
 
-// How many bytes of a block are backslashes.
-fn backslashes(block: &[u8]) -> u8
+// 0 for a byte that is neither a control byte nor a quote nor a backslash. The backslash alone would do, but a loop over 32 bytes with one
+// comparison is unrolled, and not made of vectors.
+fn stop_of(b: u8) -> u8
+    ensures { λ r. ⌜ r ≡ stopOf b ⌝ }
+    ensures { λ r. ⌜ r ≤ 3 ⌝ }
+{
+    is_control(b) + is_one(b, 0x22) + is_one(b, 0x5C)
+}
+
+// 0 for a block of such bytes.
+fn stops(block: &[u8]) -> u8
     requires { ⌜ length (now block) ≤ 32 ⌝ }
-    ensures { λ r. ⌜ r ≡ sumOf isSlash (now (block .entry)) ⌝ }
+    ensures { λ r. ⌜ r ≡ sumOf stopOf (now (block .entry)) ⌝ }
 {
     let mut i = 0;
     let mut n: u8 = 0;
     while i < block.len() {
-        n += is_one(block[i], 0x5C);
+        n += stop_of(block[i]);
         i += 1;
     }
     n
 }
 
-// Passes blocks of 32 bytes without a backslash from a place on.
-fn pass_blocks(t: &[u8], at: usize) -> usize
+// Passes blocks of 32 such bytes from a place on: none of them is a backslash.
+fn pass_stops(t: &[u8], at: usize) -> usize
     requires { ⌜ at ≤ length (now t) ⌝ }
     ensures { λ r. ⌜ plainAt (now (t .entry)) at ≡ plainAt (now (t .entry)) r ⌝ }
+    ensures { λ r. ⌜ at ≤ r ⌝ }
+    ensures { λ r. ⌜ r ≤ length (now (t .entry)) ⌝ }
 {
     let mut i = at;
     while t.len() - i >= 32 {
         let e = i + 32;
-        if backslashes(&t[i..e]) != 0 {
+        if stops(&t[i..e]) != 0 {
             return i;
         }
         i = e;
@@ -630,7 +644,7 @@ pub fn next_backslash(t: &[u8], at: usize) -> usize
     if t.len() <= at {
         return at;
     }
-    let mut i = pass_blocks(t, at);
+    let mut i = pass_stops(t, at);
     while i < t.len() {
         let b = t[i];
         if b == 0x5C {
@@ -646,7 +660,7 @@ fn escape_or_itself(t: &[u8], at: usize) -> Escape
     requires { ⌜ at < length (now t) ⌝ }
     ensures { λ r. ⌜ r ≡ orItself (escapeAt (now (t .entry)) at) ⌝ }
 {
-    let e = escape_at(t, at);
+    let e = escape_at(&t[..], at);
     let w = e.width;
     if w == 0 {
         return Escape {
@@ -657,8 +671,92 @@ fn escape_or_itself(t: &[u8], at: usize) -> Escape
     e
 }
 
-// The length of the text.
-fn text_len(t: &[u8]) -> usize
+// How many bytes of a block are backslashes.
+fn backslashes(block: &[u8]) -> u8
+    requires { ⌜ length (now block) ≤ 128 ⌝ }
+    ensures { λ r. ⌜ r ≡ sumOf isSlash (now (block .entry)) ⌝ }
+    ensures { λ r. ⌜ r ≤ length (now (block .entry)) ⌝ }
+{
+    let mut i = 0;
+    let mut n: u8 = 0;
+    while i < block.len() {
+        n += is_one(block[i], 0x5C);
+        i += 1;
+    }
+    n
+}
+
+// The end of the block of 128 bytes at a place, or the end of the n bytes.
+fn long_end(at: usize, n: usize) -> usize
+    requires { ⌜ at ≤ n ⌝ }
+    ensures { λ r. ⌜ r ≡ min (at + 128) n ⌝ }
+{
+    if n - at <= 128 { n } else { at + 128 }
+}
+
+// How many bytes of t are backslashes, block by block.
+fn slashes(t: &[u8]) -> usize
+    ensures { λ r. ⌜ r ≡ sumOf isSlash (now (t .entry)) ⌝ }
+    ensures { λ r. ⌜ r ≤ length (now (t .entry)) ⌝ }
+{
+    let mut i = 0;
+    let mut n = 0;
+    while i < t.len() {
+        let e = long_end(i, t.len());
+        n += backslashes(&t[i..e]) as usize;
+        i = e;
+    }
+    n
+}
+
+// a where t holds, and else b: a selection with no branch.
+fn choose(t: bool, a: u8, b: u8) -> u8
+    ensures { λ r. ⌜ r ≡ pick t a b ⌝ }
+{
+    if t { a } else { b }
+}
+
+// 1 for a byte behind a backslash that is neither n nor a quote, and else 0.
+fn odd_of(before: u8, b: u8) -> u8
+    ensures { λ r. ⌜ r ≡ oddOf before b ⌝ }
+    ensures { λ r. ⌜ r ≤ 1 ⌝ }
+{
+    choose(before == 0x5C, 1 - is_one(b, 0x6E) - is_one(b, 0x22), 0)
+}
+
+// How many such bytes a block has behind its first.
+fn odd_pairs(block: &[u8]) -> u8
+    requires { ⌜ 1 ≤ length (now block) ⌝ }
+    requires { ⌜ length (now block) ≤ 129 ⌝ }
+    ensures { λ r. ⌜ r ≡ neighbours oddOf (getD (now (block .entry)) 0 0) (drop 1 (now (block .entry))) ⌝ }
+{
+    let mut i = 1;
+    let mut n: u8 = 0;
+    while i < block.len() {
+        n += odd_of(block[i - 1], block[i]);
+        i += 1;
+    }
+    n
+}
+
+// Whether every backslash of t but a last one is followed by n or a quote. A block is lent with the byte before it.
+fn even_pairs(t: &[u8]) -> bool
+    requires { ⌜ 1 ≤ length (now t) ⌝ }
+    ensures { λ r. ⌜ r ≡ evenPairs (now (t .entry)) ⌝ }
+{
+    let mut i = 1;
+    while i < t.len() {
+        let e = long_end(i, t.len());
+        if odd_pairs(&t[i - 1..e]) != 0 {
+            return false;
+        }
+        i = e;
+    }
+    true
+}
+
+// The length of the text, run by run.
+fn text_len_by_runs(t: &[u8]) -> usize
     ensures { λ r. ⌜ r ≡ length (unescape (now (t .entry))) ⌝ }
     ensures { λ r. ⌜ r ≤ length (now (t .entry)) ⌝ }
 {
@@ -679,17 +777,135 @@ fn text_len(t: &[u8]) -> usize
     n
 }
 
-// The text, written.
+// The length of the text. Where every backslash begins \n or \", the text is shorter than its spelling by one byte for each of them.
+fn text_len(t: &[u8]) -> usize
+    ensures { λ r. ⌜ r ≡ length (unescape (now (t .entry))) ⌝ }
+    ensures { λ r. ⌜ r ≤ length (now (t .entry)) ⌝ }
+{
+    let n = t.len();
+    if n == 0 {
+        return 0;
+    }
+    if t[n - 1] != 0x5C {
+        if even_pairs(t) {
+            return n - slashes(t);
+        }
+    }
+    text_len_by_runs(&t[..])
+}
+
+// The places behind a run that was written: of the output and of the input.
+struct Copied {
+    out: usize,
+    next: usize,
+}
+
+// Whether none of the four bytes from a place on is a backslash.
+fn four_plain(t: &[u8], at: usize) -> bool
+    requires { ⌜ at + 4 ≤ length (now t) ⌝ }
+    ensures { λ r. ⌜ (r ≡ true → plainAt (now (t .entry)) at ≡ plainAt (now (t .entry)) (at + 4)) ⌝ }
+{
+    if t[at] == 0x5C {
+        return false;
+    }
+    if t[at + 1] == 0x5C {
+        return false;
+    }
+    if t[at + 2] == 0x5C {
+        return false;
+    }
+    if t[at + 3] == 0x5C {
+        return false;
+    }
+    true
+}
+
+// Four bytes from a place on, where there is room for them.
+fn put_four(out: &mut [u8], at: usize, t: &[u8], from: usize) -> usize
+    requires { ⌜ at + 4 ≤ length (now out) ⌝ }
+    requires { ⌜ from + 4 ≤ length (now t) ⌝ }
+    ensures { λ r. ⌜ Wrote (now (out .entry)) at (take 4 (drop from (now (t .entry)))) (now (out .exit)) r ⌝ }
+    ensures { λ r. ⌜ r ≡ at + 4 ⌝ }
+{
+    out[at] = t[from];
+    out[at + 1] = t[from + 1];
+    out[at + 2] = t[from + 2];
+    out[at + 3] = t[from + 3];
+    at + 4
+}
+
+// The bytes up to the next backslash, four a turn while there are four and room for them.
+fn put_fours(out: &mut [u8], at: usize, t: &[u8], from: usize) -> Copied
+    requires { ⌜ from ≤ length (now t) ⌝ }
+    ensures { λ r. ⌜ Ran (now (t .entry)) from (r .next) (now (out .entry)) at (now (out .exit)) (r .out) ⌝ }
+{
+    let mut i = from;
+    let mut o = at;
+    if out.len() <= at {
+        return Copied { out: o, next: i };
+    }
+    while t.len() - i >= 4 {
+        if out.len() - o < 4 {
+            break;
+        }
+        if !four_plain(t, i) {
+            break;
+        }
+        o = put_four(out, o, t, i);
+        i += 4;
+    }
+    Copied { out: o, next: i }
+}
+
+// The same byte by byte, to the backslash or the end.
+fn put_plain(out: &mut [u8], at: usize, t: &[u8], from: usize) -> Copied
+    requires { ⌜ from ≤ length (now t) ⌝ }
+    ensures { λ r. ⌜ Ran (now (t .entry)) from (r .next) (now (out .entry)) at (now (out .exit)) (r .out) ⌝ }
+    ensures { λ r. ⌜ r .next ≡ plainAt (now (t .entry)) from ⌝ }
+{
+    let mut i = from;
+    let mut o = at;
+    while i < t.len() {
+        let b = t[i];
+        if b == 0x5C {
+            break;
+        }
+        o = store::put_byte(out, o, b);
+        i += 1;
+    }
+    Copied { out: o, next: i }
+}
+
+// The bytes up to the next backslash or the end, written: blocks, then four by four, then one by one.
+fn put_run(out: &mut [u8], at: usize, t: &[u8], from: usize) -> Copied
+    requires { ⌜ from ≤ length (now t) ⌝ }
+    ensures { λ r. ⌜ Wrote (now (out .entry)) at (take (r .next - from) (drop from (now (t .entry)))) (now (out .exit)) (r .out) ⌝ }
+    ensures { λ r. ⌜ r .next ≡ plainAt (now (t .entry)) from ⌝ }
+{
+    let i = pass_stops(t, from);
+    let o = store::put_bytes(out, at, &t[from..i]);
+    let c = put_fours(out, o, t, i);
+    put_plain(out, c.out, t, c.next)
+}
+
+// The text, written run by run. A letter's escape, which is most of them, is one byte with no look at the other kinds.
 fn put_text(out: &mut [u8], at: usize, t: &[u8]) -> usize
     ensures { λ r. ⌜ Wrote (now (out .entry)) at (unescape (now (t .entry))) (now (out .exit)) r ⌝ }
 {
     let mut i = 0;
     let mut o = at;
     while i < t.len() {
-        let e = next_backslash(t, i);
-        o = store::put_part(out, o, t, i, e - i);
+        let run = put_run(out, o, t, i);
+        o = run.out;
+        let e = run.next;
         if t.len() <= e {
             return o;
+        }
+        let b = letter_of(scan::byte_at(t, e + 1));
+        if b != 0 {
+            o = store::put_byte(out, o, b);
+            i = e + 2;
+            continue;
         }
         let x = escape_or_itself(t, e);
         let w = x.width;

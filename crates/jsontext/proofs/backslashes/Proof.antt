@@ -1,6 +1,6 @@
 -- `backslashes` adds up the backslashes of a block. The invariant: the sum and what is left make the whole.
--- A byte adds at most 1, so the sum is at most 1 * 32 and fits a byte.
-use Prim.Native.Nat.{_+_, _*_, _-_, _≤_}
+-- A byte adds at most 1, so the sum is at most the length, and fits a byte.
+use Prim.Native.Nat.{_+_, _-_, _≤_}
 use mathlib.Core.Path.{_≡_}
 use native.Mathlib.Omega.{arith}
 use borrow.Author.Needs.{needs}
@@ -11,7 +11,7 @@ use Rattle.jsontext.proofs.backslashes.Statement.{statement}
 use Rattle.jsontext.proofs.backslashes.Tie as tie
 
 abbrev Inv-loop : tie.InvT-loop
-Inv-loop block i₀ n₀ i n = (i ≤ length block) × (n ≤ 1 * i) × (n + sumOf isSlash (drop i block) ≡ sumOf isSlash block)
+Inv-loop block i₀ n₀ i n = (i ≤ length block) × (n ≤ i) × (n + sumOf isSlash (drop i block) ≡ sumOf isSlash block)
 
 abbrev μ-loop : tie.MeasureT-loop
 μ-loop block i₀ n₀ i n = length block - i
@@ -35,4 +35,4 @@ backslashes-spec =
     (λ c. omega arith)
     (λ c. omega arith)
     again
-    (λ c. sum-left isSlash _ _ _ _ (c .before .loop .inv .2) (c .loop-test .left)))
+    (λ c. (sum-left isSlash _ _ _ _ (c .before .loop .inv .2) (c .loop-test .left), omega arith)))

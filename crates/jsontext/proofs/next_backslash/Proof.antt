@@ -23,7 +23,7 @@ next-backslash-spec =
     μ-loop
     (λ c. search plains)
     (λ c κs. search needs)
-    (λ c. c .pass-blocks .ensures)
+    (λ c. c .pass-stops .ensures .0)
     (λ c. search needs)
     (λ c. search needs)
     (λ c. search needs)

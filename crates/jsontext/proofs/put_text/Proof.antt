@@ -1,11 +1,13 @@
 -- `put_text` writes the text. The invariant: what is left to write is the text from here on.
--- A turn writes a run, by `unescape-run`, and what an escape stands for, by `turn-text`.
+-- A turn writes a run, by `unescape-run`, and what an escape stands for: by `letter-text` where it is a letter's, and else by `turn-text`.
 use Prim.Native.Nat.{_-_}
+use native.Mathlib.Omega.{arith}
 use borrow.Author.Needs.{needs}
 use lib.ListN.{length, drop}
-use Rattle.store.proofs.Laws.{Left, start, part, also, done, same, kept}
+use Rattle.store.proofs.Laws.{Left, start, part, one, also, done, same, kept}
 use Rattle.jsontext.specs.Escape.{unescape}
 use Rattle.jsontext.proofs.Unescape.{unescape-run, unescape-end, turn-text, steps}
+use Rattle.jsontext.proofs.Letters.{letter-fits, letter-less, letter-text}
 use Rattle.jsontext.proofs.put_text.Statement.{statement}
 use Rattle.jsontext.proofs.put_text.Tie as tie
 
@@ -15,21 +17,37 @@ Inv-loop out₀ at t i₀ o₀ out i o = Left out₀ at (unescape t) out o (unes
 abbrev μ-loop : tie.MeasureT-loop
 μ-loop out₀ at t i₀ o₀ out i o = length t - i
 
-again : tie.Need-loop-again Inv-loop μ-loop
-again c =
-    let p = c .before .before .before .before in
-    let q = p .before .before .before .before in
-    let u = q .before .before .before .before in
-    let r = q .before .before .next-backslash in
-    let x = p .escape-or-itself in
-    let left = part (also (unescape-run _ _ (r .ensures)) (u .loop .inv)) (q .put-part .ensures) in
-    part (also (turn-text _ _ _ (x .result) (r .ensures) (p .before .if1 .left) (x .ensures)) left) (c .before .before .put-scalar .ensures)
-
 returns : tie.Need-returns Inv-loop μ-loop
 returns c =
-    let p = c .before .before .before .before in
-    let left = part (also (unescape-run _ _ (p .before .next-backslash .ensures)) (p .before .before .before .loop .inv)) (c .before .before .before .put-part .ensures) in
+    let run = c .before .before .before in
+    let r = run .put-run .ensures in
+    let left = part (also (unescape-run _ _ (r .1)) (run .before .before .before .loop .inv)) (r .0) in
     done (also (unescape-end _ _ (c .if1 .taken)) left)
+
+letter-on : tie.Need-loop-less Inv-loop μ-loop
+letter-on c =
+    let p = c .before .before .before .before in
+    let run = p .before .before .before .before .before .before in
+    letter-less _ _ _ _ _ (run .put-run .ensures .1) (p .before .before .before .if1 .left) (p .before .before .byte-at .ensures) (p .before .letter-of .ensures) (p .if2 .taken) (run .before .before .loop-test .taken)
+
+letter-again : tie.Need-loop-again Inv-loop μ-loop
+letter-again c =
+    let p = c .before .before .before .before in
+    let run = p .before .before .before .before .before .before in
+    let r = run .put-run .ensures in
+    let left = part (also (unescape-run _ _ (r .1)) (run .before .before .before .loop .inv)) (r .0) in
+    let text = letter-text _ _ _ _ _ (r .1) (p .before .before .before .if1 .left) (p .before .before .byte-at .ensures) (p .before .letter-of .ensures) (p .if2 .taken) in
+    one (also text left) (c .before .before .put-byte .ensures)
+
+again : tie.Need-loop-again-2 Inv-loop μ-loop
+again c =
+    let p = c .before .before .before .before in
+    let x = p .escape-or-itself in
+    let q = p .before .before .before .before in
+    let run = q .before .before .before in
+    let r = run .put-run .ensures in
+    let left = part (also (unescape-run _ _ (r .1)) (run .before .before .before .loop .inv)) (r .0) in
+    part (also (turn-text _ _ _ (x .result) (r .1) (q .if1 .left) (x .ensures)) left) (c .before .before .put-scalar .ensures)
 
 pub put-text-spec : {M : Type 1} → statement M
 put-text-spec =
@@ -39,10 +57,15 @@ put-text-spec =
     μ-loop
     (λ c. start)
     (λ c κs. search needs)
-    (λ c. search steps)
-    (λ c κs. search needs)
     (λ c. kept (returns c))
     returns
+    (λ c. omega arith)
+    (λ c κs. search needs)
+    (λ c κs. search needs)
+    (λ c κs. search needs)
+    (λ c. search (letter-fits, needs))
+    letter-on
+    letter-again
     (λ c κs. search needs)
     (λ c κs. search needs)
     (λ c. search steps)

@@ -1,0 +1,18 @@
+-- `odd_of` makes the test of `oddOf`.
+-- A byte is not both n and a quote (`one-letter`), so neither subtraction goes below 0.
+use native.Mathlib.Omega.{arith}
+use borrow.Author.Needs.{needs}
+use Rattle.jsontext.proofs.ShortLaws.{one-letter, odd-is}
+use Rattle.jsontext.proofs.odd_of.Statement.{statement}
+use Rattle.jsontext.proofs.odd_of.Tie as tie
+
+pub odd-of-spec : {M : Type 1} → statement M
+odd-of-spec =
+    tie.close
+    (tie.spec
+    (λ c κs. search needs)
+    (λ c. search needs)
+    (λ c κs. search needs)
+    (λ c. omega (arith, one-letter _ (c .before .is-one .ensures .0) (c .is-one2 .ensures .0)))
+    (λ c κs. search needs)
+    (λ c. odd-is _ _ (c .before .before .is-one .ensures .0) (c .before .is-one2 .ensures .0) (c .choose .ensures)))

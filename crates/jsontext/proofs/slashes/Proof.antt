@@ -1,0 +1,41 @@
+-- `slashes` adds up the backslashes block by block. The invariant: the sum and what is left make the whole, and it is no more than was passed.
+-- A block is one use of `sum-block`: the part `&t[i..e]` is `take (e - i) (drop i t)`.
+use Prim.Native.Nat.{_+_, _-_, _≤_}
+use mathlib.Core.Path.{_≡_}
+use native.Mathlib.Omega.{arith}
+use borrow.Author.Needs.{needs}
+use lib.ListN.{length, drop}
+use Rattle.jsontext.specs.Block.{isSlash, sumOf}
+use Rattle.jsontext.proofs.BlockLaws.{sum-left}
+use Rattle.jsontext.proofs.ShortLaws.{sum-block}
+use Rattle.jsontext.proofs.slashes.Statement.{statement}
+use Rattle.jsontext.proofs.slashes.Tie as tie
+
+abbrev Inv-loop : tie.InvT-loop
+Inv-loop t i₀ n₀ i n = (i ≤ length t) × (n ≤ i) × (n + sumOf isSlash (drop i t) ≡ sumOf isSlash t)
+
+abbrev μ-loop : tie.MeasureT-loop
+μ-loop t i₀ n₀ i n = length t - i
+
+again : tie.Need-loop-again Inv-loop μ-loop
+again c =
+    let q = c .before .before .before .before .loop in
+    (omega arith, omega arith, sum-block isSlash _ (q .i) _ (q .n) (q .inv .2) (omega arith) (c .backslashes .ensures .0))
+
+pub slashes-spec : {M : Type 1} → statement M
+slashes-spec =
+    tie.close
+    (tie.spec
+    Inv-loop
+    μ-loop
+    (λ c. (omega arith, omega arith, omega arith))
+    (λ c κs. search needs)
+    (λ c. omega arith)
+    (λ c. omega arith)
+    (λ c. omega arith)
+    (λ c κs. search needs)
+    (λ c. omega arith)
+    (λ c. omega arith)
+    (λ c. omega arith)
+    again
+    (λ c. let q = c .before .loop .inv in (sum-left isSlash _ _ _ _ (q .2) (c .loop-test .left), omega arith)))
