@@ -52,7 +52,7 @@ pub not-one : (b x : ℕ) → isOne b x ≡ 0 → b ≡ x → ⊥
 unfolding isOne
 not-one b x z e = let q = rw (eq-eqb b x e) at z in omega arith
 
-not-control : (b : ℕ) → isControl b ≡ 0 → 0x20 ≤ b
+pub not-control : (b : ℕ) → isControl b ≡ 0 → 0x20 ≤ b
 unfolding isControl
 not-control b z = dite (decLt b 0x20) (λ h. let q = rw (lt-ltb b 0x20 h) at z in absurd (omega arith)) (λ n. omega (arith, n))
 

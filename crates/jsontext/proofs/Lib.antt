@@ -4,6 +4,8 @@ pub mod BlockLaws
 pub mod EscapeLaws
 pub mod TokenLaws
 pub mod TextLaws
+pub mod LooseLaws
+pub mod ClashLaws
 pub mod FirstByte
 pub mod ValueSound
 pub mod ValueComplete

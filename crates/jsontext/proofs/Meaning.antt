@@ -150,7 +150,7 @@ unescape-append (json.char {c = c} {t = t} {l = m} g f) l =
 
 -- ---- the text is UTF-8
 
-unescaped-char : {c : List ℕ} → json.Unescaped c → utf8.Char c
+pub unescaped-char : {c : List ℕ} → json.Unescaped c → utf8.Char c
 unescaped-char (json.to-21 {b = b} (utf8.octet p q)) = utf8.one (utf8.octet {b = b} (omega arith) (omega arith))
 unescaped-char (json.to-5B {b = b} (utf8.octet p q)) = utf8.one (utf8.octet {b = b} (omega arith) (omega arith))
 unescaped-char (json.to-7F {b = b} (utf8.octet p q)) = utf8.one (utf8.octet {b = b} (omega arith) (omega arith))

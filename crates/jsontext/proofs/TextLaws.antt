@@ -72,7 +72,7 @@ to-above : {s c : List ℕ} {a e : ℕ} → Kind c → Span s a c e → 0x80 ≤
 to-above (narrow h) (step k f r) l = absurd (omega arith)
 to-above (wide g) r l = json.Unescaped.above g
 
-first-of : {P : ℕ → Type 0} {b : ℕ} {l : List ℕ} → All P (b ∷ l) → P b
+pub first-of : {P : ℕ → Type 0} {b : ℕ} {l : List ℕ} → All P (b ∷ l) → P b
 first-of (also p r) = p
 
 -- ---- consumes

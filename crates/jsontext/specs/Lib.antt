@@ -3,6 +3,7 @@ pub mod Token
 pub mod Escape
 pub mod Half
 pub mod Block
+pub mod Loose
 pub mod Text
 pub mod Value
 pub mod Answers

@@ -5,7 +5,7 @@ ghost use mathlib.Core.Path.{_≡_};
 ghost use mathlib.Core.Bool.{true};
 ghost use lib.ListN.{length, getD, take, drop};
 ghost use Rattle.scan.specs.Choice.{pick, refused};
-ghost use Rattle.scan.specs.Place.{standsAt};
+ghost use Rattle.scan.specs.Place.{byteAt, standsAt};
 ghost use Rattle.store.specs.Store.{Wrote};
 ghost use Rattle.utf8.specs.Encode.{encode};
 ghost use Rattle.hex.specs.Hex.{unhex, allDigits, goesAsBytes};
@@ -14,6 +14,7 @@ ghost use Rattle.jsontext.specs.Token.{isSpace, spaceAt, wordAt, isDigit
 ghost use Rattle.jsontext.specs.Escape.{hexValue, unitOf, unitAt, letterOf, letterEscape, pairOf, unicodeAt, escapeAt, plainAt, orItself, unescape};
 ghost use Rattle.jsontext.specs.Half.{held, halfBehind};
 ghost use Rattle.jsontext.specs.Block.{isOne, isControl, isSlash, specialOf, sumOf, PlainTo, neighbours};
+ghost use Rattle.jsontext.specs.Loose.{LooseTo, clashOf};
 ghost use Rattle.jsontext.specs.Run.{stopOf, Ran};
 ghost use Rattle.jsontext.specs.Short.{oddOf, evenPairs};
 ghost use Rattle.jsontext.specs.Text.{stringAt};
@@ -439,9 +440,119 @@ fn block_end(at: usize, n: usize) -> usize
     if n - at <= 32 { n } else { at + 32 }
 }
 
+// a where the test holds, and else b: no jump, so that a loop of it goes in vectors.
+fn choose(t: bool, a: u8, b: u8) -> u8
+    ensures { λ r. ⌜ r ≡ pick t a b ⌝ }
+{
+    if t { a } else { b }
+}
+
+// 0 where b may stand behind the byte before it in a string: behind a backslash n or a quote, else no quote and no control byte.
+fn clash(before: u8, b: u8) -> u8
+    ensures { λ r. ⌜ r ≡ clashOf before b ⌝ }
+    ensures { λ r. ⌜ r ≤ 2 ⌝ }
+{
+    choose(
+        before == 0x5C,
+        1 - is_one(b, 0x6E) - is_one(b, 0x22),
+        is_one(b, 0x22) + is_control(b),
+    )
+}
+
+// 0 for a block none of whose bytes clashes with the one before it; the first byte is the one before the block.
+fn clashes(block: &[u8]) -> u8
+    requires { ⌜ 1 ≤ length (now block) ⌝ }
+    requires { ⌜ length (now block) ≤ 33 ⌝ }
+    ensures { λ r. ⌜ r ≡ neighbours clashOf (byteAt (now (block .entry)) 0) (drop 1 (now (block .entry))) ⌝ }
+{
+    let mut i = 1;
+    let mut n: u8 = 0;
+    while i < block.len() {
+        n += clash(block[i - 1], block[i]);
+        i += 1;
+    }
+    n
+}
+
+// Passes blocks of 32 bytes without a clash. A backslash that ends the last of them is left to be read with what it escapes;
+// none is begun behind a backslash, which may be the second of two.
+fn pass_quoted(s: &[u8], at: usize) -> usize
+    requires { ⌜ 1 ≤ at ⌝ }
+    requires { ⌜ at ≤ length (now s) ⌝ }
+    ensures { λ r. ⌜ LooseTo (now (s .entry)) at r ⌝ }
+{
+    let mut i = at;
+    if s[i - 1] == 0x5C {
+        return i;
+    }
+    while s.len() - i >= 32 {
+        let e = i + 32;
+        if clashes(&s[i - 1..e]) != 0 {
+            break;
+        }
+        i = e;
+    }
+    if s[i - 1] == 0x5C {
+        return i - 1;
+    }
+    i
+}
+
+// Passes bare bytes and escapes from a place on, with no look at UTF-8: to the closing quote, to a fault, or to the end.
+fn loose_end(s: &[u8], from: usize) -> usize
+    requires { ⌜ 1 ≤ from ⌝ }
+    requires { ⌜ from ≤ length (now s) ⌝ }
+    ensures { λ r. ⌜ LooseTo (now (s .entry)) from r ⌝ }
+{
+    let mut i = from;
+    while i < s.len() {
+        i = pass_quoted(s, i);
+        let end = block_end(i, s.len());
+        while i < end {
+            let b = s[i];
+            if b == 0x22 {
+                return i;
+            }
+            if b < 0x20 {
+                return i;
+            }
+            if b != 0x5C {
+                i += 1;
+                continue;
+            }
+            let e = escape_at(&s[..], i);
+            let w = e.width;
+            if w == 0 {
+                return i;
+            }
+            i += w;
+        }
+    }
+    i
+}
+
 impl Cursor {
-    // The string whose opening quote stands at the cursor; the earliest fault decides. Blocks of plain bytes are passed whole.
+    // The string whose opening quote stands at the cursor. Where its end is found at once and the bytes up to it are UTF-8 it is read;
+    // in any other case character after character decides.
     pub fn string(self, s: &[u8]) -> StringRead
+        ensures { λ r. ⌜ stringRead r ≡ stringAt (now (s .entry)) (self .at) ⌝ }
+    {
+        let at = self.at;
+        if scan::byte_at(s, at) == 0x22 {
+            let from = at + 1;
+            let end = loose_end(&s[..], from);
+            if scan::byte_at(s, end) == 0x22 {
+                let count = end - from;
+                if utf8::is_utf8(scan::part(s, from, count)) {
+                    return StringRead::Text(Spelled { from, count }, Cursor { at: end + 1 });
+                }
+            }
+        }
+        self.slow_string(&s[..])
+    }
+
+    // The same, character after character; the earliest fault decides. Blocks of plain bytes are passed whole.
+    fn slow_string(self, s: &[u8]) -> StringRead
         ensures { λ r. ⌜ stringRead r ≡ stringAt (now (s .entry)) (self .at) ⌝ }
     {
         let at = self.at;
@@ -707,13 +818,6 @@ fn slashes(t: &[u8]) -> usize
         i = e;
     }
     n
-}
-
-// a where t holds, and else b: a selection with no branch.
-fn choose(t: bool, a: u8, b: u8) -> u8
-    ensures { λ r. ⌜ r ≡ pick t a b ⌝ }
-{
-    if t { a } else { b }
 }
 
 // 1 for a byte behind a backslash that is neither n nor a quote, and else 0.
