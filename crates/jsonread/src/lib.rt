@@ -846,7 +846,16 @@ impl Cursor {
         let first = past_space(s, at + 1);
         let found = Cursor { at: first }.field(s, k);
         match found {
-            SpotRead::Found(p, next) => FieldsRead::Found(f.with(k, p), next),
+            SpotRead::Found(p, next) => {
+                // field by field: a copy of the whole waits for the stores before it
+                let spot = Spot {
+                    from: p.from,
+                    count: p.count,
+                    number: p.number,
+                    len: p.len,
+                };
+                FieldsRead::Found(f.with(k, spot), next)
+            }
             SpotRead::Refused(r) => FieldsRead::Refused(r),
         }
     }
