@@ -63,9 +63,14 @@ module _ (t : List ℕ) (i : ℕ) (v : neighbours oddOf (getD t 0 0) (drop 1 t) 
     unfolding evenPairs
     pairs-odd z = sym (ne-eqb (neighbours oddOf (getD t 0 0) (drop 1 t)) 0 (λ y. z (omega (arith, v, y, neighbours-block oddOf t i e o l h q))))
 
-  pub pairs-left : length t ≤ i → true ≡ evenPairs t
+  -- the last block decides
+  pub pairs-rest : {n : ℕ} → 1 ≤ i → i ≤ length t
+      → n ≡ neighbours oddOf (getD (take (length t - (i - 1)) (drop (i - 1) t)) 0 0) (drop 1 (take (length t - (i - 1)) (drop (i - 1) t))) → eqb n 0 ≡ evenPairs t
   unfolding evenPairs
-  pairs-left h = sym (eq-eqb (neighbours oddOf (getD t 0 0) (drop 1 t)) 0 (v ∙ neighbours-none oddOf (getD t (i - 1) 0) t i h))
+  pairs-rest {n} o h q =
+      let z = neighbours-none oddOf (getD t (length t - 1) 0) t (length t) (omega arith) in
+      let e : n ≡ neighbours oddOf (getD t 0 0) (drop 1 t) = omega (arith, v, z, neighbours-block oddOf t i (length t) o h (omega arith) q) in
+      rw e refl
 
 -- ---- one pair
 

@@ -797,14 +797,6 @@ fn backslashes(block: &[u8]) -> u8
     n
 }
 
-// The end of the block of 128 bytes at a place, or the end of the n bytes.
-fn long_end(at: usize, n: usize) -> usize
-    requires { ⌜ at ≤ n ⌝ }
-    ensures { λ r. ⌜ r ≡ min (at + 128) n ⌝ }
-{
-    if n - at <= 128 { n } else { at + 128 }
-}
-
 // How many bytes of t are backslashes, block by block.
 fn slashes(t: &[u8]) -> usize
     ensures { λ r. ⌜ r ≡ sumOf isSlash (now (t .entry)) ⌝ }
@@ -812,12 +804,12 @@ fn slashes(t: &[u8]) -> usize
 {
     let mut i = 0;
     let mut n = 0;
-    while i < t.len() {
-        let e = long_end(i, t.len());
+    while t.len() - i >= 128 {
+        let e = i + 128;
         n += backslashes(&t[i..e]) as usize;
         i = e;
     }
-    n
+    n + backslashes(&t[i..]) as usize
 }
 
 // 1 for a byte behind a backslash that is neither n nor a quote, and else 0.
@@ -849,14 +841,14 @@ fn even_pairs(t: &[u8]) -> bool
     ensures { λ r. ⌜ r ≡ evenPairs (now (t .entry)) ⌝ }
 {
     let mut i = 1;
-    while i < t.len() {
-        let e = long_end(i, t.len());
+    while t.len() - i >= 128 {
+        let e = i + 128;
         if odd_pairs(&t[i - 1..e]) != 0 {
             return false;
         }
         i = e;
     }
-    true
+    odd_pairs(&t[i - 1..]) == 0
 }
 
 // The length of the text, run by run.

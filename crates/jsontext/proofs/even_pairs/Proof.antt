@@ -4,10 +4,10 @@ use Prim.Native.Nat.{_-_, _≤_}
 use mathlib.Core.Path.{_≡_, refl}
 use native.Mathlib.Omega.{arith}
 use borrow.Author.Needs.{needs}
-use lib.ListN.{length, getD, drop}
+use lib.ListN.{length, getD, drop, length-take, length-drop}
 use Rattle.jsontext.specs.Block.{neighbours}
 use Rattle.jsontext.specs.Short.{oddOf}
-use Rattle.jsontext.proofs.ShortLaws.{pairs-again, pairs-odd, pairs-left}
+use Rattle.jsontext.proofs.ShortLaws.{pairs-again, pairs-odd, pairs-rest}
 use Rattle.jsontext.proofs.even_pairs.Statement.{statement}
 use Rattle.jsontext.proofs.even_pairs.Tie as tie
 
@@ -19,16 +19,22 @@ abbrev μ-loop : tie.MeasureT-loop
 
 returns : tie.Need-returns Inv-loop μ-loop
 returns c =
-    let q = c .before .before .before .before .before .loop in
-    pairs-odd (c .before .before .before .before .before .before .before .args .t .now) (q .i) (q .inv .2) _ (q .inv .0) (omega arith) (omega arith) (c .before .odd-pairs .ensures) (c .if1 .taken)
+    let q = c .before .before .before .before .loop in
+    pairs-odd (c .before .before .before .before .before .before .args .t .now) (q .i) (q .inv .2) _ (q .inv .0) (omega arith) (omega arith) (c .before .odd-pairs .ensures) (c .if1 .taken)
 
 again : tie.Need-loop-again Inv-loop μ-loop
 again c =
-    let q = c .before .before .before .before .before .loop in (
+    let q = c .before .before .before .before .loop in (
       omega arith,
       omega arith,
-      pairs-again (c .before .before .before .before .before .before .before .args .t .now) (q .i) (q .inv .2) _ (q .inv .0) (omega arith) (omega arith) (c .before .odd-pairs .ensures) (c .if1 .left),
+      pairs-again (c .before .before .before .before .before .before .args .t .now) (q .i) (q .inv .2) _ (q .inv .0) (omega arith) (omega arith) (c .before .odd-pairs .ensures) (c .if1 .left),
     )
+
+-- the rest is a block up to the end
+rest : tie.Need-returns-2 Inv-loop μ-loop
+rest c =
+    let q = c .before .before .before .loop in
+    pairs-rest (c .before .before .before .before .before .args .t .now) (q .i) (q .inv .2) (q .inv .0) (omega arith) (c .odd-pairs2 .ensures)
 
 pub even-pairs-spec : {M : Type 1} → statement M
 even-pairs-spec =
@@ -37,13 +43,19 @@ even-pairs-spec =
     Inv-loop
     μ-loop
     (λ c. (omega arith, omega arith, refl))
-    (λ c κs. search needs)
     (λ c. omega arith)
     (λ c. omega arith)
     (λ c. omega arith)
     (λ c. omega arith)
-    (λ c κs. search needs)
+    (λ c. omega arith)
+    (λ c. omega arith)
+    (λ c κs. (simp (length-take, length-drop) (omega arith), simp (length-take, length-drop) (omega arith)))
     returns
     (λ c. omega arith)
     again
-    (λ c. pairs-left (c .before .before .before .args .t .now) (c .before .loop .i) (c .before .loop .inv .2) (c .loop-test .left)))
+    (λ c. omega arith)
+    (λ c. omega arith)
+    (λ c. omega arith)
+    (λ c. omega arith)
+    (λ c κs. (simp (length-take, length-drop) (omega arith), simp (length-take, length-drop) (omega arith)))
+    rest)

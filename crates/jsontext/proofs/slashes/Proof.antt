@@ -4,7 +4,7 @@ use Prim.Native.Nat.{_+_, _-_, _≤_}
 use mathlib.Core.Path.{_≡_}
 use native.Mathlib.Omega.{arith}
 use borrow.Author.Needs.{needs}
-use lib.ListN.{length, drop}
+use lib.ListN.{length, drop, length-take, length-drop}
 use Rattle.jsontext.specs.Block.{isSlash, sumOf}
 use Rattle.jsontext.proofs.BlockLaws.{sum-left}
 use Rattle.jsontext.proofs.ShortLaws.{sum-block}
@@ -19,8 +19,18 @@ abbrev μ-loop : tie.MeasureT-loop
 
 again : tie.Need-loop-again Inv-loop μ-loop
 again c =
-    let q = c .before .before .before .before .loop in
-    (omega arith, omega arith, sum-block isSlash _ (q .i) _ (q .n) (q .inv .2) (omega arith) (c .backslashes .ensures .0))
+    let q = c .before .before .before .loop in
+    let t = c .before .before .before .before .before .args .t .now in
+    let b = c .backslashes .ensures in
+    (omega arith, omega (arith, b .1, length-take (q .i + 128 - q .i) (drop (q .i) t)), sum-block isSlash _ (q .i) _ (q .n) (q .inv .2) (omega arith) (c .backslashes .ensures .0))
+
+returns : tie.Need-returns Inv-loop μ-loop
+returns c =
+    let q = c .before .before .before .loop in
+    let t = c .before .before .before .before .before .args .t .now in
+    let b = c .backslashes2 .ensures in
+    let whole = sum-block isSlash t (q .i) (length t) (q .n) (q .inv .2) (omega arith) (b .0) in
+    (sum-left isSlash t (length t) _ _ whole (omega arith), omega (arith, b .1, length-take (length t - q .i) (drop (q .i) t), length-drop (q .i) t))
 
 pub slashes-spec : {M : Type 1} → statement M
 slashes-spec =
@@ -29,13 +39,26 @@ slashes-spec =
     Inv-loop
     μ-loop
     (λ c. (omega arith, omega arith, omega arith))
-    (λ c κs. search needs)
     (λ c. omega arith)
     (λ c. omega arith)
     (λ c. omega arith)
-    (λ c κs. search needs)
     (λ c. omega arith)
     (λ c. omega arith)
+    (λ c κs. simp (length-take, length-drop) (omega arith))
+    (λ c. omega arith)
+    (λ c.
+    let q = c .before .before .before .loop in
+    let t = c .before .before .before .before .before .args .t .now in
+    omega (arith, c .backslashes .ensures .1, length-take (q .i + 128 - q .i) (drop (q .i) t)))
     (λ c. omega arith)
     again
-    (λ c. let q = c .before .loop .inv in (sum-left isSlash _ _ _ _ (q .2) (c .loop-test .left), omega arith)))
+    (λ c. omega arith)
+    (λ c. omega arith)
+    (λ c. omega arith)
+    (λ c κs. simp (length-take, length-drop) (omega arith))
+    (λ c. omega arith)
+    (λ c.
+    let q = c .before .before .before .loop in
+    let t = c .before .before .before .before .before .args .t .now in
+    omega (arith, c .backslashes2 .ensures .1, length-take (length t - q .i) (drop (q .i) t), length-drop (q .i) t))
+    returns)
