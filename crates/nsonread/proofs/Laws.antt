@@ -1,10 +1,12 @@
 -- Small laws that several functions share: what fits behind a piece, tests of a range, and reads taken apart.
 -- Each is a case or a line of arithmetic.
-use Prim.Native.Nat.{ℕ, _+_, _*_, _-_, _%_, _<_, _≤_}
+use Prim.Native.Nat.{ℕ, zero, suc, _+_, _*_, _-_, _%_, _<_, _≤_}
 use mathlib.Core.Path.{_≡_, refl, sym, ap, _∙_}
 use mathlib.Core.Bool.{Bool, true, false}
 use mathlib.Core.List.{List}
+use mathlib.Core.Logic.{dite}
 use native.Mathlib.Omega.{arith}
+use native.Mathlib.Decide.{decLt}
 use lib.ListN.{length, getD, take, drop, length-take, length-drop}
 use lib.Seq.{getD-take, getD-drop}
 use lib.Dec.{leb}
@@ -15,8 +17,10 @@ use Rattle.scan.proofs.PlaceLaws.{stands-span}
 use Rattle.scan.proofs.SpanLaws.{span-fits}
 use Rattle.scan.proofs.Reading.{read-same}
 use Rattle.hex.specs.Hex.{valueOf}
-use Rattle.nson.specs.Read.{byteHere, wordHere}
-use Rattle.nsonread.specs.Walk.{nextOf, sized}
+use Rattle.jsontext.specs.Escape.{unescape, orItself, escapeAt, plainAt}
+use Rattle.jsontext.proofs.Unescape.{run-onward, run-inside, run-slash, length-run, unescape-end, taken, length-escape}
+use Rattle.nson.specs.Read.{partAt, textAt, byteHere, wordHere}
+use Rattle.nsonread.specs.Walk.{nextOf, sized, textSizeAt}
 
 -- ---- what fits
 
@@ -30,6 +34,33 @@ part-fits n s at {l} e h =
     let k : length (take n (drop at s)) ≤ length s - at = simp (length-take, length-drop) (omega arith) in
     let m = ap length e in
     omega arith
+
+-- ---- how long a text is
+
+-- a text is no longer than it is spelled
+unescape-most : (t : List ℕ) → length (unescape t) ≤ length t
+unescape-most t = omega (arith, go (length t) 0 (omega arith) (omega arith))
+  where
+    go : (k i : ℕ) → length t ≤ i + k → i ≤ length t → length (unescape (drop i t)) ≤ length t - i
+    go zero i h l = rw (unescape-end t i (omega arith)) (omega arith)
+    go (suc k) i h l =
+        let e = plainAt t i in
+        let run = length-run t i {e = e} refl l in
+        let on = run-onward t i {e = e} refl in
+        dite (decLt e (length t))
+        (λ q.
+        let f = run-slash t i refl q in
+        let x = orItself (escapeAt t e) in
+        let y = taken t e q f refl in
+        omega (arith, run, length-escape t e q f refl, y .shorter, y .some, on, go k (e + x .width) (omega (arith, h, on, y .some)) (y .inside)))
+        (λ q. omega (arith, q, run, ap length (unescape-end t e (omega (arith, q))), on, run-inside t i {e = e} refl l))
+
+-- so the text of a part is no longer than the part is to be
+pub text-most : (n : ℕ) (s : List ℕ) (at : ℕ) {l : List ℕ} {m : ℕ} → l ≡ take n (drop at s) → m ≡ length (unescape l) → m ≤ n
+text-most n s at {l} e q =
+    let k : length (take n (drop at s)) ≤ n = simp (length-take) (omega arith) in
+    let d = ap length e in
+    omega (arith, q, unescape-most l)
 
 -- ---- whether a descriptor passes the end
 
@@ -111,7 +142,18 @@ module _ {A : Type 0} where
   sized-refused f t (shown x) e = let z : _≡_ {A = ℕ} 0 1 = cc in absurd (omega arith)
   sized-refused f t (refused n p) e = cc
 
-  -- a check whose place is then read as a value
-  pub same-next : (x : A) (t : Answer ℕ) → nextOf (andThen t (λ p. read x p)) ≡ t
-  same-next x (shown p) = refl
-  same-next x (refused n p) = refl
+  -- a check whose place is then read with a value is that check
+  check-shown : (x : A) (t : Answer ℕ) {y : A} {p : ℕ} → andThen t (λ p. read x p) ≡ read y p → (t ≡ shown p) × (y ≡ x)
+  check-shown x (shown q) e = let g = read-same e in (ap shown (g .1), sym (g .0))
+  check-shown x (refused n p) e = let z : _≡_ {A = ℕ} 0 1 = cc in absurd (omega arith)
+
+  check-refused : (x : A) (t : Answer ℕ) {n p : ℕ} → andThen t (λ p. read x p) ≡ refused n p → t ≡ refused n p
+  check-refused x (shown q) e = let z : _≡_ {A = ℕ} 0 1 = cc in absurd (omega arith)
+  check-refused x (refused n p) e = cc
+
+-- a counted text whose length was told was read
+pub text-shown : (n : ℕ) (s : List ℕ) (at : ℕ) {m p : ℕ} → textSizeAt n s at ≡ read m p → (textAt n s at ≡ shown p) × (m ≡ length (unescape (partAt n s at)))
+text-shown n s at e = check-shown (length (unescape (partAt n s at))) (textAt n s at) e
+
+pub text-refused : (n : ℕ) (s : List ℕ) (at : ℕ) {k p : ℕ} → textSizeAt n s at ≡ refused k p → textAt n s at ≡ refused k p
+text-refused n s at e = check-refused (length (unescape (partAt n s at))) (textAt n s at) e

@@ -10,10 +10,10 @@ ghost use Rattle.store.specs.Store.{Wrote};
 ghost use Rattle.store.specs.Entry.{writes, leaves};
 ghost use Rattle.varint.specs.Uleb.{uleb};
 ghost use Rattle.notepack.specs.Strict.{packElement, packElements, packTag, packTags, pack};
-ghost use Rattle.nson.specs.Read.{pieceAt, hexAt, labelledAt, decimalAt, textAt, keysAt, timeAt, headAt, byteHere, wordHere, descriptorAt, wordCountAt, kindCountAt, itemCountAt, tagCountsAt, countsTo, countsAt, kindAt, commaAt, itemsAt, itemAt, tagAt, tagsAt, kindPartAt, contentPartAt, tagsPartAt, bodyAt, readNson};
-ghost use Rattle.nsonread.specs.Walk.{nextOf, sized, itemSizes, tagSizes, sizesOf, countsOf, bodySize, kept, walkAt};
+ghost use Rattle.nson.specs.Read.{pieceAt, hexAt, labelledAt, decimalAt, keysAt, timeAt, headAt, byteHere, wordHere, descriptorAt, wordCountAt, kindCountAt, itemCountAt, tagCountsAt, countsTo, countsAt, kindAt, commaAt, itemsAt, itemAt, tagAt, tagsAt, kindPartAt, contentPartAt, tagsPartAt, bodyAt, readNson};
+ghost use Rattle.nsonread.specs.Walk.{nextOf, sized, textSizeAt, itemSizes, tagSizes, sizesOf, countsOf, bodySize, kept, walkAt};
 ghost use Rattle.nsonread.specs.Copy.{itemsText, itemsEnd, tagsText, contentPlace, tagsPlace, frontText, wholeText};
-ghost use Rattle.nsonread.specs.Answers.{nsonRead, skip, numberRead, sizesRead, bodyRead, walk, numberIn, sizesIn, placeIn, tagsIn, sizesOfWalk, tagsPlaceOf};
+ghost use Rattle.nsonread.specs.Answers.{nsonRead, skip, numberRead, sizesRead, bodyRead, walk, numberIn, sizesIn, placeIn, contentIn, tagsIn, sizesOfWalk, tagsPlaceOf};
 
 pub enum NsonRead {
     Written(usize),
@@ -61,9 +61,10 @@ struct Measured {
     next: Cursor,
 }
 
-// The kind, and the length of the tags' strict form.
+// The kind, the length of the content's text, and the length of the tags' strict form.
 struct Body {
     kind: usize,
+    content_len: usize,
     tags_len: usize,
 }
 
@@ -78,6 +79,7 @@ struct Walked {
     kind: usize,
     sizes: Sizes,
     body_at: usize,
+    content_len: usize,
     len: usize,
 }
 
@@ -163,24 +165,25 @@ impl Cursor {
         }
     }
 
-    // A text that is counted.
-    fn text(self, s: &[u8], n: usize) -> Skip
-        ensures { λ r. ⌜ skip r ≡ textAt n (now (s .entry)) (self .at) ⌝ }
+    // A text that is counted, and the length of what it spells.
+    fn text(self, s: &[u8], n: usize) -> NumberRead
+        ensures { λ r. ⌜ numberRead r ≡ textSizeAt n (now (s .entry)) (self .at) ⌝ }
+        ensures { λ r. ⌜ numberIn r ≤ n ⌝ }
     {
         let at = self.at;
         let l = scan::part(s, at, n);
-        let fault = counted::fault_in(l);
-        if fault == 0 {
+        let seen = counted::look(l);
+        if seen.fault == 0 {
             if l.len() == n {
-                return Skip::Past(Cursor { at: at + n });
+                return NumberRead::Number(seen.len, Cursor { at: at + n });
             }
-            return Skip::Refused(Refusal {
+            return NumberRead::Refused(Refusal {
                 number: event::COUNT_DISAGREES,
                 place: at,
             });
         }
-        Skip::Refused(Refusal {
-            number: fault,
+        NumberRead::Refused(Refusal {
+            number: seen.fault,
             place: at,
         })
     }
@@ -486,8 +489,8 @@ impl Cursor {
         };
         let text = first.text(s, n);
         let behind = match text {
-            Skip::Past(c) => c,
-            Skip::Refused(r) => return NumberRead::Refused(r),
+            NumberRead::Number(_, c) => c,
+            NumberRead::Refused(r) => return NumberRead::Refused(r),
         };
         let closing = behind.piece(s, b"\"", event::COUNT_DISAGREES);
         match closing {
@@ -628,14 +631,15 @@ impl Cursor {
         }
     }
 
-    // The label and the content.
-    fn content_part(self, s: &[u8], n: usize) -> Skip
-        ensures { λ r. ⌜ skip r ≡ nextOf (contentPartAt n (now (s .entry)) (self .at)) ⌝ }
+    // The label and the content, and the length of its text.
+    fn content_part(self, s: &[u8], n: usize) -> NumberRead
+        ensures { λ r. ⌜ numberRead r ≡ sized (λ t. t) 0 (contentPartAt n (now (s .entry)) (self .at)) ⌝ }
+        ensures { λ r. ⌜ numberIn r ≤ n ⌝ }
     {
         let label = self.piece(s, b",\"content\":\"", event::COUNT_DISAGREES);
         match label {
             Skip::Past(c) => c.text(s, n),
-            Skip::Refused(r) => Skip::Refused(r),
+            Skip::Refused(r) => NumberRead::Refused(r),
         }
     }
 
@@ -666,8 +670,10 @@ impl Cursor {
     // All behind the descriptors.
     fn body(self, s: &[u8], z: Sizes) -> BodyRead
         requires { ⌜ z .kind ≤ 5 ⌝ }
+        requires { ⌜ z .content ≤ 65535 ⌝ }
         requires { ⌜ z .tags ≤ 255 ⌝ }
         ensures { λ r. ⌜ bodyRead r ≡ andThen (bodyAt (countsOf (now (s .entry)) z) (now (s .entry)) (self .at)) (λ b. read (bodySize (b .value)) (b .next)) ⌝ }
+        ensures { λ r. ⌜ contentIn r ≤ 65535 ⌝ }
         ensures { λ r. ⌜ tagsIn r ≤ 16713985 * 255 ⌝ }
     {
         let kind = self.kind_part(s, z.kind);
@@ -677,14 +683,15 @@ impl Cursor {
         };
         let content = first.next.content_part(s, z.content);
         let second = match content {
-            Skip::Past(c) => c,
-            Skip::Refused(r) => return BodyRead::Refused(r),
+            NumberRead::Number(n, next) => Numbered { n, next },
+            NumberRead::Refused(r) => return BodyRead::Refused(r),
         };
-        let tags = second.tags_part(s, z.tags);
+        let tags = second.next.tags_part(s, z.tags);
         match tags {
             NumberRead::Number(tags_len, end) => BodyRead::Found(
                 Body {
                     kind: first.n,
+                    content_len: second.n,
                     tags_len,
                 },
                 end,
@@ -695,14 +702,12 @@ impl Cursor {
 }
 
 // What is kept of an accepted text, with the length of its strict form.
-fn keep(s: &[u8], time: usize, z: Sizes, from: usize, b: Body) -> Walked
-    requires { ⌜ z .kind ≤ 5 ⌝ }
-    requires { ⌜ z .content ≤ 65535 ⌝ }
-    requires { ⌜ from ≤ 575 ⌝ }
+fn keep(time: usize, z: Sizes, from: usize, b: Body) -> Walked
+    requires { ⌜ b .«content_len» ≤ 65535 ⌝ }
     requires { ⌜ b .«tags_len» ≤ 16713985 * 255 ⌝ }
-    ensures { λ r. ⌜ r ≡ kept (now (s .entry)) time z from b ⌝ }
+    ensures { λ r. ⌜ r ≡ kept time z from b ⌝ }
 {
-    let content = jsontext::unescaped_len(s, from + 21 + z.kind, z.content);
+    let content = b.content_len;
     let numbers = varint::varint_len(time as u64) + varint::varint_len(b.kind as u64);
     let counts = varint::varint_len(content as u64) + varint::varint_len(z.tags as u64);
     Walked {
@@ -710,6 +715,7 @@ fn keep(s: &[u8], time: usize, z: Sizes, from: usize, b: Body) -> Walked
         kind: b.kind,
         sizes: z,
         body_at: from,
+        content_len: content,
         len: 128 + numbers + counts + content + b.tags_len,
     }
 }
@@ -740,7 +746,7 @@ fn walk_text(s: &[u8]) -> Walk
     match rest {
         BodyRead::Found(body, end) => {
             if end.at == s.len() {
-                return Walk::Done(keep(s, created_at, first.sizes, first.next.at, body));
+                return Walk::Done(keep(created_at, first.sizes, first.next.at, body));
             }
             Walk::Refused(Refusal {
                 number: event::AFTER_THE_END,
@@ -814,11 +820,7 @@ fn put_front(out: &mut [u8], at: usize, s: &[u8], w: Walked) -> usize
     let c = hex::put_unhex(out, b, scan::part(s, 156, 128));
     let d = varint::put_varint(out, c, w.created_at as u64);
     let e = varint::put_varint(out, d, w.kind as u64);
-    let f = varint::put_varint(
-        out,
-        e,
-        jsontext::unescaped_len(s, content_at, z.content) as u64,
-    );
+    let f = varint::put_varint(out, e, w.content_len as u64);
     let g = jsontext::put_unescaped(out, f, s, content_at, z.content);
     varint::put_varint(out, g, z.tags as u64)
 }
