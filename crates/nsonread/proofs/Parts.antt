@@ -72,6 +72,7 @@ module _ (n : ℕ) (s : List ℕ) (at : ℕ) where
     where
       t : Text
       t = unescape (partAt n s a)
+
       go : (r : Answer ℕ) → sized (λ t. t) 0 (andThen r (λ p. read t p)) ≡ andThen r (λ p. read (length t) p)
       go (shown p) = let z : 0 + length t ≡ length t = omega arith in ap (λ (i : ℕ). read i p) z
       go (refused n p) = refl

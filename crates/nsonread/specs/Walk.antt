@@ -1,10 +1,12 @@
 -- What the first pass keeps of NSON's reading: places, counts and the length of the strict form. Assumes nothing.
-use Prim.Native.Nat.{ℕ, zero, suc, _+_, _*_}
+use Prim.Native.Nat.{ℕ, zero, suc, _+_, _*_, _-_}
+use mathlib.Core.Bool.{Bool, false}
 use mathlib.Core.List.{List, [], _∷_}
 use lib.ListN.{length}
 use lib.Dec.{leb, eqb}
 use Rattle.scan.specs.Choice.{pick, Answer, shown, refused, Read, read, andThen}
 use Rattle.varint.specs.Uleb.{uleb}
+use Rattle.hex.specs.Hex.{allDigits}
 use Rattle.jsontext.specs.Escape.{unescape}
 use Rattle.notepack.specs.Strict.{packTags, pack}
 use Rattle.nson.specs.Nson.{Counts}
@@ -24,6 +26,11 @@ sized f total r = andThen r λ x. read (total + length (f (x .value))) (x .next)
 -- a counted text, with the length of what it spells
 abbrev pub textSizeAt : ℕ → List ℕ → ℕ → Answer (Read ℕ)
 textSizeAt n s at = andThen (nson.textAt n s at) λ p. read (length (unescape (nson.partAt n s at))) p
+
+-- whether all from 320 up to a place is there and is hex digits
+unfoldable pub fieldDigits : List ℕ → ℕ → Bool
+fieldDigits s end =
+    pick (eqb (length (nson.partAt (end - 320) s 320)) (end - 320)) (allDigits (nson.partAt (end - 320) s 320)) false
 
 -- the counts of n items and of n tags, as they stand from place d on
 unfoldable pub itemSizes : ℕ → List ℕ → ℕ → List ℕ

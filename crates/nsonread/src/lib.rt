@@ -11,7 +11,7 @@ ghost use Rattle.store.specs.Entry.{writes, leaves};
 ghost use Rattle.varint.specs.Uleb.{uleb};
 ghost use Rattle.notepack.specs.Strict.{packElement, packElements, packTag, packTags, pack};
 ghost use Rattle.nson.specs.Read.{pieceAt, hexAt, labelledAt, decimalAt, keysAt, timeAt, headAt, byteHere, wordHere, descriptorAt, wordCountAt, kindCountAt, itemCountAt, tagCountsAt, countsTo, countsAt, kindAt, commaAt, itemsAt, itemAt, tagAt, tagsAt, kindPartAt, contentPartAt, tagsPartAt, bodyAt, readNson};
-ghost use Rattle.nsonread.specs.Walk.{nextOf, sized, textSizeAt, itemSizes, tagSizes, sizesOf, countsOf, bodySize, kept, walkAt};
+ghost use Rattle.nsonread.specs.Walk.{nextOf, sized, textSizeAt, fieldDigits, itemSizes, tagSizes, sizesOf, countsOf, bodySize, kept, walkAt};
 ghost use Rattle.nsonread.specs.Copy.{itemsText, itemsEnd, tagsText, contentPlace, tagsPlace, frontText, wholeText};
 ghost use Rattle.nsonread.specs.Answers.{nsonRead, skip, numberRead, sizesRead, bodyRead, walk, numberIn, sizesIn, placeIn, contentIn, tagsIn, sizesOfWalk, tagsPlaceOf};
 
@@ -265,13 +265,31 @@ fn word_here(s: &[u8], at: usize) -> usize
     256 * byte_here(l, 0) + byte_here(l, 2)
 }
 
+// Whether all from 320 up to the end that the size says is there and is hex digits: then no descriptor's own digits need a look.
+fn field_digits(s: &[u8], end: usize) -> bool
+    requires { ⌜ 320 ≤ end ⌝ }
+    ensures { λ r. ⌜ r ≡ fieldDigits (now (s .entry)) end ⌝ }
+{
+    let n = end - 320;
+    let l = scan::part(s, 320, n);
+    if l.len() == n {
+        return hex::all_digits(l);
+    }
+    false
+}
+
 impl Cursor {
     // A descriptor of n hex digits that ends at `end` or before.
-    fn descriptor(self, s: &[u8], n: usize, end: usize) -> Skip
+    fn descriptor(self, s: &[u8], n: usize, end: usize, digits: bool) -> Skip
+        requires { ⌜ 320 ≤ self .at ⌝ }
+        requires { ⌜ digits ≡ fieldDigits (now s) end ⌝ }
         ensures { λ r. ⌜ skip r ≡ descriptorAt n end (now (s .entry)) (self .at) ⌝ }
     {
         if n <= end {
             if self.at <= end - n {
+                if digits {
+                    return Skip::Past(Cursor { at: self.at + n });
+                }
                 return self.hex(s, n);
             }
             return Skip::Refused(Refusal {
@@ -286,12 +304,14 @@ impl Cursor {
     }
 
     // Kind characters: 1 to 5.
-    fn kind_count(self, s: &[u8], end: usize) -> NumberRead
+    fn kind_count(self, s: &[u8], end: usize, digits: bool) -> NumberRead
+        requires { ⌜ 320 ≤ self .at ⌝ }
+        requires { ⌜ digits ≡ fieldDigits (now s) end ⌝ }
         ensures { λ r. ⌜ numberRead r ≡ kindCountAt end (now (s .entry)) (self .at) ⌝ }
         ensures { λ r. ⌜ numberIn r ≤ 5 ⌝ }
     {
         let at = self.at;
-        let found = self.descriptor(s, 2, end);
+        let found = self.descriptor(s, 2, end, digits);
         match found {
             Skip::Past(next) => {
                 let n = byte_here(s, at);
@@ -310,11 +330,13 @@ impl Cursor {
     }
 
     // A tag's number of items: none is an empty tag.
-    fn item_count(self, s: &[u8], end: usize) -> NumberRead
+    fn item_count(self, s: &[u8], end: usize, digits: bool) -> NumberRead
+        requires { ⌜ 320 ≤ self .at ⌝ }
+        requires { ⌜ digits ≡ fieldDigits (now s) end ⌝ }
         ensures { λ r. ⌜ numberRead r ≡ itemCountAt end (now (s .entry)) (self .at) ⌝ }
     {
         let at = self.at;
-        let found = self.descriptor(s, 2, end);
+        let found = self.descriptor(s, 2, end, digits);
         match found {
             Skip::Past(next) => {
                 let n = byte_here(s, at);
@@ -331,13 +353,15 @@ impl Cursor {
     }
 
     // n counts of two bytes.
-    fn item_sizes(self, s: &[u8], n: usize, end: usize) -> Skip
+    fn item_sizes(self, s: &[u8], n: usize, end: usize, digits: bool) -> Skip
+        requires { ⌜ 320 ≤ self .at ⌝ }
+        requires { ⌜ digits ≡ fieldDigits (now s) end ⌝ }
         ensures { λ r. ⌜ skip r ≡ nextOf (many (wordCountAt end (now (s .entry))) n (self .at)) ⌝ }
     {
         let mut c = self;
         let mut left = n;
         while 0 < left {
-            let found = c.descriptor(s, 4, end);
+            let found = c.descriptor(s, 4, end, digits);
             match found {
                 Skip::Past(next) => {
                     c = next;
@@ -350,24 +374,28 @@ impl Cursor {
     }
 
     // A tag's counts.
-    fn tag_counts(self, s: &[u8], end: usize) -> Skip
+    fn tag_counts(self, s: &[u8], end: usize, digits: bool) -> Skip
+        requires { ⌜ 320 ≤ self .at ⌝ }
+        requires { ⌜ digits ≡ fieldDigits (now s) end ⌝ }
         ensures { λ r. ⌜ skip r ≡ nextOf (tagCountsAt end (now (s .entry)) (self .at)) ⌝ }
     {
-        let found = self.item_count(s, end);
+        let found = self.item_count(s, end, digits);
         match found {
-            NumberRead::Number(n, next) => next.item_sizes(s, n, end),
+            NumberRead::Number(n, next) => next.item_sizes(s, n, end, digits),
             NumberRead::Refused(r) => Skip::Refused(r),
         }
     }
 
     // The counts of n tags.
-    fn all_tag_counts(self, s: &[u8], n: usize, end: usize) -> Skip
+    fn all_tag_counts(self, s: &[u8], n: usize, end: usize, digits: bool) -> Skip
+        requires { ⌜ 320 ≤ self .at ⌝ }
+        requires { ⌜ digits ≡ fieldDigits (now s) end ⌝ }
         ensures { λ r. ⌜ skip r ≡ nextOf (many (tagCountsAt end (now (s .entry))) n (self .at)) ⌝ }
     {
         let mut c = self;
         let mut left = n;
         while 0 < left {
-            let found = c.tag_counts(s, end);
+            let found = c.tag_counts(s, end, digits);
             match found {
                 Skip::Past(next) => {
                     c = next;
@@ -381,30 +409,33 @@ impl Cursor {
 
     // The counts that end where the size says.
     fn counts_to(self, s: &[u8], end: usize) -> SizesRead
+        requires { ⌜ 320 ≤ self .at ⌝ }
+        requires { ⌜ 320 ≤ end ⌝ }
         ensures { λ r. ⌜ sizesRead r ≡ andThen (countsTo end (now (s .entry)) (self .at)) (λ n. read (sizesOf (n .value)) (n .next)) ⌝ }
         ensures { λ r. ⌜ sizesIn r .kind ≤ 5 ⌝ }
         ensures { λ r. ⌜ sizesIn r .content ≤ 65535 ⌝ }
         ensures { λ r. ⌜ sizesIn r .tags ≤ 255 ⌝ }
         ensures { λ r. ⌜ placeIn r ≤ end ⌝ }
     {
-        let found = self.kind_count(s, end);
+        let digits = field_digits(s, end);
+        let found = self.kind_count(s, end, digits);
         let first = match found {
             NumberRead::Number(n, next) => Numbered { n, next },
             NumberRead::Refused(r) => return SizesRead::Refused(r),
         };
         let content_at = first.next;
-        let content = content_at.descriptor(s, 4, end);
+        let content = content_at.descriptor(s, 4, end, digits);
         let tags_at = match content {
             Skip::Past(c) => c,
             Skip::Refused(r) => return SizesRead::Refused(r),
         };
-        let tags = tags_at.descriptor(s, 2, end);
+        let tags = tags_at.descriptor(s, 2, end, digits);
         let second = match tags {
             Skip::Past(c) => c,
             Skip::Refused(r) => return SizesRead::Refused(r),
         };
         let count = byte_here(s, tags_at.at);
-        let all = second.all_tag_counts(s, count, end);
+        let all = second.all_tag_counts(s, count, end, digits);
         match all {
             Skip::Past(c) => {
                 if c.at == end {
