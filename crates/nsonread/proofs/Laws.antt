@@ -1,12 +1,10 @@
 -- Small laws that several functions share: what fits behind a piece, tests of a range, and reads taken apart.
 -- Each is a case or a line of arithmetic.
-use Prim.Native.Nat.{ℕ, zero, suc, _+_, _*_, _-_, _%_, _<_, _≤_}
+use Prim.Native.Nat.{ℕ, _+_, _*_, _-_, _%_, _<_, _≤_}
 use mathlib.Core.Path.{_≡_, refl, sym, ap, _∙_}
 use mathlib.Core.Bool.{Bool, true, false}
 use mathlib.Core.List.{List}
-use mathlib.Core.Logic.{dite}
 use native.Mathlib.Omega.{arith}
-use native.Mathlib.Decide.{decLt}
 use lib.ListN.{length, getD, take, drop, length-take, length-drop}
 use lib.Seq.{getD-take, getD-drop}
 use lib.Dec.{leb}
@@ -17,8 +15,7 @@ use Rattle.scan.proofs.PlaceLaws.{stands-span}
 use Rattle.scan.proofs.SpanLaws.{span-fits}
 use Rattle.scan.proofs.Reading.{read-same}
 use Rattle.hex.specs.Hex.{valueOf}
-use Rattle.jsontext.specs.Escape.{unescape, orItself, escapeAt, plainAt}
-use Rattle.jsontext.proofs.Unescape.{run-onward, run-inside, run-slash, length-run, unescape-end, taken, length-escape}
+use Rattle.jsontext.specs.Escape.{unescape}
 use Rattle.nson.specs.Read.{partAt, textAt, byteHere, wordHere}
 use Rattle.nsonread.specs.Walk.{nextOf, sized, textSizeAt}
 
@@ -35,32 +32,12 @@ part-fits n s at {l} e h =
     let m = ap length e in
     omega arith
 
--- ---- how long a text is
-
--- a text is no longer than it is spelled
-unescape-most : (t : List ℕ) → length (unescape t) ≤ length t
-unescape-most t = omega (arith, go (length t) 0 (omega arith) (omega arith))
-  where
-    go : (k i : ℕ) → length t ≤ i + k → i ≤ length t → length (unescape (drop i t)) ≤ length t - i
-    go zero i h l = rw (unescape-end t i (omega arith)) (omega arith)
-    go (suc k) i h l =
-        let e = plainAt t i in
-        let run = length-run t i {e = e} refl l in
-        let on = run-onward t i {e = e} refl in
-        dite (decLt e (length t))
-        (λ q.
-        let f = run-slash t i refl q in
-        let x = orItself (escapeAt t e) in
-        let y = taken t e q f refl in
-        omega (arith, run, length-escape t e q f refl, y .shorter, y .some, on, go k (e + x .width) (omega (arith, h, on, y .some)) (y .inside)))
-        (λ q. omega (arith, q, run, ap length (unescape-end t e (omega (arith, q))), on, run-inside t i {e = e} refl l))
-
--- so the text of a part is no longer than the part is to be
-pub text-most : (n : ℕ) (s : List ℕ) (at : ℕ) {l : List ℕ} {m : ℕ} → l ≡ take n (drop at s) → m ≡ length (unescape l) → m ≤ n
-text-most n s at {l} e q =
+-- a part is no longer than asked for
+pub part-most : (n : ℕ) (s : List ℕ) (at : ℕ) {l : List ℕ} → l ≡ take n (drop at s) → length l ≤ n
+part-most n s at e =
     let k : length (take n (drop at s)) ≤ n = simp (length-take) (omega arith) in
     let d = ap length e in
-    omega (arith, q, unescape-most l)
+    omega arith
 
 -- ---- whether a descriptor passes the end
 

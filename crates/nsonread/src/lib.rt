@@ -9,8 +9,9 @@ ghost use Rattle.scan.specs.Choice.{shown, andThen, read, many};
 ghost use Rattle.store.specs.Store.{Wrote};
 ghost use Rattle.store.specs.Entry.{writes, leaves};
 ghost use Rattle.varint.specs.Uleb.{uleb};
+ghost use Rattle.jsontext.specs.Escape.{unescape};
 ghost use Rattle.notepack.specs.Strict.{packElement, packElements, packTag, packTags, pack};
-ghost use Rattle.nson.specs.Read.{pieceAt, hexAt, labelledAt, decimalAt, keysAt, timeAt, headAt, byteHere, wordHere, descriptorAt, wordCountAt, kindCountAt, itemCountAt, tagCountsAt, countsTo, countsAt, kindAt, commaAt, itemsAt, itemAt, tagAt, tagsAt, kindPartAt, contentPartAt, tagsPartAt, bodyAt, readNson};
+ghost use Rattle.nson.specs.Read.{partAt, pieceAt, hexAt, labelledAt, decimalAt, keysAt, timeAt, headAt, byteHere, wordHere, descriptorAt, wordCountAt, kindCountAt, itemCountAt, tagCountsAt, countsTo, countsAt, kindAt, commaAt, itemsAt, itemAt, tagAt, tagsAt, kindPartAt, contentPartAt, tagsPartAt, bodyAt, readNson};
 ghost use Rattle.nsonread.specs.Walk.{nextOf, sized, textSizeAt, fieldDigits, itemSizes, tagSizes, sizesOf, countsOf, bodySize, kept, walkAt};
 ghost use Rattle.nsonread.specs.Copy.{itemsText, itemsEnd, tagsText, contentPlace, tagsPlace, frontText, wholeText};
 ghost use Rattle.nsonread.specs.Answers.{nsonRead, skip, numberRead, sizesRead, bodyRead, walk, numberIn, sizesIn, placeIn, contentIn, tagsIn, sizesOfWalk, tagsPlaceOf};
@@ -475,6 +476,18 @@ fn counts(s: &[u8]) -> SizesRead
 
 // ---- the text that is counted
 
+// The length of the strict element whose text n bytes spell. A text of n bytes has no escape and is taken as it stands.
+fn element_len(s: &[u8], from: usize, n: usize, len: usize) -> usize
+    requires { ⌜ (len ≡ n → unescape (partAt n (now s) from) ≡ partAt n (now s) from) ⌝ }
+    ensures { λ r. ⌜ r ≡ length (packElement (unescape (partAt n (now (s .entry)) from))) ⌝ }
+    ensures { λ r. ⌜ r ≤ n + 10 ⌝ }
+{
+    if len == n {
+        return notepack::text_len(scan::part(s, from, n));
+    }
+    spelled::element_len(s, from, n)
+}
+
 impl Cursor {
     // The kind, and its range.
     fn kind(self, s: &[u8], n: usize) -> NumberRead
@@ -520,12 +533,12 @@ impl Cursor {
         };
         let text = first.text(s, n);
         let behind = match text {
-            NumberRead::Number(_, c) => c,
+            NumberRead::Number(len, next) => Numbered { n: len, next },
             NumberRead::Refused(r) => return NumberRead::Refused(r),
         };
-        let closing = behind.piece(s, b"\"", event::COUNT_DISAGREES);
+        let closing = behind.next.piece(s, b"\"", event::COUNT_DISAGREES);
         match closing {
-            Skip::Past(c) => NumberRead::Number(spelled::element_len(s, first.at, n), c),
+            Skip::Past(c) => NumberRead::Number(element_len(s, first.at, n, behind.n), c),
             Skip::Refused(r) => NumberRead::Refused(r),
         }
     }

@@ -4,6 +4,7 @@ use mathlib.Core.Path.{sym, ap, _∙_}
 use native.Mathlib.Omega.{arith}
 use Rattle.nsonread.specs.Answers.{skip, numberRead}
 use Rattle.nsonread.proofs.Sizing.{quote-stops, text-stops, end-stops, item-sized}
+use Rattle.nsonread.proofs.Spelling.{no-escape}
 use borrow.Author.Needs.{needs}
 use Rattle.nsonread.proofs.Cursor.item.Statement.{statement}
 use Rattle.nsonread.proofs.Cursor.item.Tie as tie
@@ -21,6 +22,15 @@ returns-2 c =
     let at-piece = at-quote .before .before in
     let entry = at-piece .before .before .before in
     (sym (text-stops (entry .args .s .now) (entry .args .n) (entry .args .self .at) (sym (at-piece .piece .ensures) ∙ ap skip (at-quote .quote .given .1)) (sym (at-text .text .ensures .0) ∙ ap numberRead (c .before .text3 .given .1))), omega arith)
+
+element-len-requires : tie.Need-element-len-requires
+element-len-requires c κs =
+    let at-piece2 = c .before .before .before in
+    let at-text2 = at-piece2 .before .before .before in
+    let at-text = at-text2 .before .before in
+    let at-quote = at-text .before .before in
+    let entry = at-quote .before .before .before .before .before in
+    λ q. no-escape (entry .args .n) (entry .args .s .now) _ (sym (at-text .text .ensures .0) ∙ ap numberRead (at-text2 .text2 .given .1)) q
 
 returns-3 : tie.Need-returns-3
 returns-3 c =
@@ -58,7 +68,7 @@ item-spec =
     (λ c. search needs)
     (λ c κs. search needs)
     (λ c. search needs)
-    (λ c κs. search needs)
+    element-len-requires
     (λ c. search needs)
     returns-3
     returns-4)

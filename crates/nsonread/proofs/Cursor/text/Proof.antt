@@ -2,7 +2,8 @@
 -- By the definition's two tests; a part of full length is within the input, and its text is no longer.
 use mathlib.Core.Path.{refl}
 use native.Mathlib.Omega.{arith}
-use Rattle.nsonread.proofs.Laws.{part-fits, text-most}
+use Rattle.nsonread.proofs.Laws.{part-fits}
+use Rattle.nsonread.proofs.Spelling.{text-most}
 use Rattle.nson.specs.Read.{textAt}
 use borrow.Author.Tests.{eq-eqb, ne-eqb}
 use borrow.Author.Needs.{needs}
@@ -22,7 +23,7 @@ returns c =
     let at-part = at-look .before in
     let entry = at-part .before .before in
     let seen = at-look .look .ensures in
-    (simp (← at-part .part .ensures, ← seen .0, eq-eqb _ _ (c .before .if1 .taken), eq-eqb _ _ (c .if2 .taken), ← seen .1) refl, text-most (entry .args .n) (entry .args .s .now) (entry .args .self .at) (at-part .part .ensures) (seen .1))
+    (simp (← at-part .part .ensures, ← seen .0, eq-eqb _ _ (c .before .if1 .taken), eq-eqb _ _ (c .if2 .taken), ← seen .1) refl, text-most (entry .args .n) (entry .args .s .now) (entry .args .self .at) (at-part .part .ensures) (seen .0) (c .before .if1 .taken) (seen .1))
 
 returns-2 : tie.Need-returns-2
 unfolding textAt
