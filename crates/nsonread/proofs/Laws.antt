@@ -15,8 +15,9 @@ use Rattle.scan.proofs.PlaceLaws.{stands-span}
 use Rattle.scan.proofs.SpanLaws.{span-fits}
 use Rattle.scan.proofs.Reading.{read-same}
 use Rattle.hex.specs.Hex.{valueOf}
-use Rattle.nson.specs.Read.{byteHere, wordHere}
-use Rattle.nsonread.specs.Walk.{nextOf, sized}
+use Rattle.jsontext.specs.Escape.{unescape}
+use Rattle.nson.specs.Read.{partAt, textAt, byteHere, wordHere}
+use Rattle.nsonread.specs.Walk.{nextOf, sized, textSizeAt}
 
 -- ---- what fits
 
@@ -29,6 +30,13 @@ pub part-fits : (n : ℕ) (s : List ℕ) (at : ℕ) {l : List ℕ} → l ≡ tak
 part-fits n s at {l} e h =
     let k : length (take n (drop at s)) ≤ length s - at = simp (length-take, length-drop) (omega arith) in
     let m = ap length e in
+    omega arith
+
+-- a part is no longer than asked for
+pub part-most : (n : ℕ) (s : List ℕ) (at : ℕ) {l : List ℕ} → l ≡ take n (drop at s) → length l ≤ n
+part-most n s at e =
+    let k : length (take n (drop at s)) ≤ n = simp (length-take) (omega arith) in
+    let d = ap length e in
     omega arith
 
 -- ---- whether a descriptor passes the end
@@ -111,7 +119,18 @@ module _ {A : Type 0} where
   sized-refused f t (shown x) e = let z : _≡_ {A = ℕ} 0 1 = cc in absurd (omega arith)
   sized-refused f t (refused n p) e = cc
 
-  -- a check whose place is then read as a value
-  pub same-next : (x : A) (t : Answer ℕ) → nextOf (andThen t (λ p. read x p)) ≡ t
-  same-next x (shown p) = refl
-  same-next x (refused n p) = refl
+  -- a check whose place is then read with a value is that check
+  check-shown : (x : A) (t : Answer ℕ) {y : A} {p : ℕ} → andThen t (λ p. read x p) ≡ read y p → (t ≡ shown p) × (y ≡ x)
+  check-shown x (shown q) e = let g = read-same e in (ap shown (g .1), sym (g .0))
+  check-shown x (refused n p) e = let z : _≡_ {A = ℕ} 0 1 = cc in absurd (omega arith)
+
+  check-refused : (x : A) (t : Answer ℕ) {n p : ℕ} → andThen t (λ p. read x p) ≡ refused n p → t ≡ refused n p
+  check-refused x (shown q) e = let z : _≡_ {A = ℕ} 0 1 = cc in absurd (omega arith)
+  check-refused x (refused n p) e = cc
+
+-- a counted text whose length was told was read
+pub text-shown : (n : ℕ) (s : List ℕ) (at : ℕ) {m p : ℕ} → textSizeAt n s at ≡ read m p → (textAt n s at ≡ shown p) × (m ≡ length (unescape (partAt n s at)))
+text-shown n s at e = check-shown (length (unescape (partAt n s at))) (textAt n s at) e
+
+pub text-refused : (n : ℕ) (s : List ℕ) (at : ℕ) {k p : ℕ} → textSizeAt n s at ≡ refused k p → textAt n s at ≡ refused k p
+text-refused n s at e = check-refused (length (unescape (partAt n s at))) (textAt n s at) e

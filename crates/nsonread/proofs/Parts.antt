@@ -8,13 +8,14 @@ use native.Mathlib.Nat.{zero-add}
 use native.Mathlib.Omega.{arith}
 use lib.ListN.{length}
 use Rattle.scan.specs.Choice.{Answer, shown, refused, Read, read, andThen}
-use Rattle.event.specs.Event.{Tag}
+use Rattle.event.specs.Event.{Text, Tag}
+use Rattle.jsontext.specs.Escape.{unescape}
 use Rattle.notepack.specs.Strict.{packTags}
-use Rattle.nson.specs.Nson.{tagsLabel, endLabel, Counts}
-use Rattle.nson.specs.Read.{pieceAt, itemsAt, tagAt, tagsAt, kindPartAt, contentPartAt, tagsPartAt, bodyAt}
+use Rattle.nson.specs.Nson.{contentLabel, tagsLabel, endLabel, Counts}
+use Rattle.nson.specs.Read.{partAt, pieceAt, textAt, itemsAt, tagAt, tagsAt, kindPartAt, contentPartAt, tagsPartAt, bodyAt}
 use Rattle.nsonread.specs.declared.Body.{Body}
-use Rattle.nsonread.specs.Walk.{nextOf, sized, bodySize}
-use Rattle.nsonread.proofs.Laws.{next-shown, next-refused, sized-shown, sized-refused}
+use Rattle.nsonread.specs.Walk.{sized, textSizeAt, bodySize}
+use Rattle.nsonread.proofs.Laws.{sized-shown, sized-refused}
 use Rattle.nsonread.proofs.Sizing.{array-sized}
 
 -- the tags are as long as their list
@@ -54,6 +55,28 @@ module _ (l : List (List ℕ)) (s : List ℕ) (at : ℕ) where
       let x = sized-shown packTags 0 (tagsAt l s a) q in
       part-read (x .0) e (x .1) h ∙ ap (λ (i : ℕ). read i c) (sym (x .2))
 
+-- ---- the label and the content
+
+abbrev Content : ℕ → List ℕ → ℕ → Answer (Read ℕ)
+Content n s at = sized (λ t. t) 0 (contentPartAt n s at)
+
+module _ (n : ℕ) (s : List ℕ) (at : ℕ) where
+  pub mark-stops : {k p : ℕ} → pieceAt 13 contentLabel s at ≡ refused k p → Content n s at ≡ refused k p
+  unfolding contentPartAt
+  mark-stops e = rw e refl
+
+  -- the length of the content is that of its text
+  pub content-sized : {a : ℕ} → pieceAt 13 contentLabel s at ≡ shown a → Content n s at ≡ textSizeAt n s a
+  unfolding contentPartAt
+  content-sized {a} e = rw e (go (textAt n s a))
+    where
+      t : Text
+      t = unescape (partAt n s a)
+
+      go : (r : Answer ℕ) → sized (λ t. t) 0 (andThen r (λ p. read t p)) ≡ andThen r (λ p. read (length t) p)
+      go (shown p) = let z : 0 + length t ≡ length t = omega arith in ap (λ (i : ℕ). read i p) z
+      go (refused n p) = refl
+
 -- ---- the body
 
 abbrev Whole : Counts → List ℕ → ℕ → Answer (Read Body)
@@ -65,21 +88,26 @@ module _ (n : Counts) (s : List ℕ) (at : ℕ) where
   kind-stops e = rw e refl
 
   module _ {v a : ℕ} (e : kindPartAt (n .kind) s at ≡ read v a) where
-    pub content-stops : {k p : ℕ} → nextOf (contentPartAt (n .content) s a) ≡ refused k p → Whole n s at ≡ refused k p
+    pub content-stops : {k p : ℕ} → Content (n .content) s a ≡ refused k p → Whole n s at ≡ refused k p
     unfolding bodyAt
-    content-stops q = rw (e, next-refused (contentPartAt (n .content) s a) q) refl
+    content-stops q = rw (e, sized-refused (λ t. t) 0 (contentPartAt (n .content) s a) q) refl
 
-    module _ {b : ℕ} (q : nextOf (contentPartAt (n .content) s a) ≡ shown b) where
+    module _ {u b : ℕ} (q : Content (n .content) s a ≡ read u b) where
       pub tags-stop : {k p : ℕ} → Part (n .tags) s b ≡ refused k p → Whole n s at ≡ refused k p
       unfolding bodyAt
-      tags-stop h = let x = next-shown (contentPartAt (n .content) s a) q in rw (e, x .1, sized-refused packTags 0 (tagsPartAt (n .tags) s b) h) refl
+      tags-stop h = let x = sized-shown (λ t. t) 0 (contentPartAt (n .content) s a) q in rw (e, x .1, sized-refused packTags 0 (tagsPartAt (n .tags) s b) h) refl
 
-      body-read : {c : ℕ} (t : List Tag) → tagsPartAt (n .tags) s b ≡ read t c → Whole n s at ≡ read (record { kind = v; «tags_len» = length (packTags t) }) c
+      body-read : {c : ℕ} (x : Text) (t : List Tag) → contentPartAt (n .content) s a ≡ read x b → tagsPartAt (n .tags) s b ≡ read t c
+          → Whole n s at ≡ read (record { kind = v; «content_len» = length x; «tags_len» = length (packTags t) }) c
       unfolding bodyAt
-      body-read t h = let x = next-shown (contentPartAt (n .content) s a) q in rw (e, x .1, h) refl
+      body-read x t g h = rw (e, g, h) refl
 
-      pub body-found : {m c : ℕ} → Part (n .tags) s b ≡ read m c → Whole n s at ≡ read (record { kind = v; «tags_len» = m }) c
+      pub body-found : {m c : ℕ} → Part (n .tags) s b ≡ read m c → Whole n s at ≡ read (record { kind = v; «content_len» = u; «tags_len» = m }) c
       body-found {m} {c} h =
+          let x = sized-shown (λ t. t) 0 (contentPartAt (n .content) s a) q in
           let y = sized-shown packTags 0 (tagsPartAt (n .tags) s b) h in
+          let w : length (x .0) ≡ u = omega (arith, x .2) in
           let z : length (packTags (y .0)) ≡ m = omega (arith, y .2) in
-          body-read (y .0) (y .1) ∙ ap (λ (i : ℕ). read (record { kind = v; «tags_len» = i }) c) z
+          body-read (x .0) (y .0) (x .1) (y .1)
+          ∙ ap (λ (i : ℕ). read (record { kind = v; «content_len» = i; «tags_len» = length (packTags (y .0)) }) c) w
+          ∙ ap (λ (i : ℕ). read (record { kind = v; «content_len» = u; «tags_len» = i }) c) z

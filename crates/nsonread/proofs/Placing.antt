@@ -1,6 +1,6 @@
 -- The counts that were read are those that stand at their places: `counts-placed`. Each read ends where its digits do.
 -- Along the reads; n counts by induction on n.
-use Prim.Native.Nat.{ℕ, zero, suc, _+_, _*_}
+use Prim.Native.Nat.{ℕ, zero, suc, _+_, _*_, _≤_}
 use mathlib.Core.Path.{_≡_, refl, sym, ap, _∙_}
 use mathlib.Core.Bool.{Bool, true, false}
 use mathlib.Core.List.{List, [], _∷_}
@@ -15,7 +15,8 @@ use Rattle.scan.proofs.Many.{many-apart, many-count}
 use Rattle.nson.specs.Nson.{Counts}
 use Rattle.nson.specs.Read.{hexAt, byteHere, wordHere, descriptorAt, byteCountAt, wordCountAt, kindCountAt, itemCountAt, tagCountsAt, countsTo, countsAt}
 use Rattle.nson.proofs.Pieces.{pick-shown, after, shown-same}
-use Rattle.nsonread.specs.Walk.{itemSizes, tagSizes, sizesOf, countsOf}
+use Rattle.nsonread.specs.Walk.{nextOf, itemSizes, tagSizes, sizesOf, countsOf}
+use Rattle.nsonread.proofs.Laws.{next-shown}
 use Rattle.nsonread.proofs.Counting.{hex-next}
 
 descriptor-next : (n end : ℕ) (s : List ℕ) (at p : ℕ) → descriptorAt n end s at ≡ shown p → p ≡ at + n
@@ -88,6 +89,23 @@ tag-placed end s at v e =
     let r = items-placed end s (n .value) (n .next) v f in
     let z = r .1 in
     (r .0 ∙ rw (x, y) refl, omega arith, i .1))
+
+-- ---- places only grow
+
+pub descriptor-on : (n end : ℕ) (s : List ℕ) (at : ℕ) {p : ℕ} → 320 ≤ at → descriptorAt n end s at ≡ shown p → 320 ≤ p
+descriptor-on n end s at {p} h e = let k = descriptor-next n end s at p e in omega arith
+
+pub kind-on : (end : ℕ) (s : List ℕ) (at : ℕ) {k p : ℕ} → 320 ≤ at → kindCountAt end s at ≡ read k p → 320 ≤ p
+kind-on end s at {k} {p} h e = let g : p ≡ at + 2 = kind-says end s at (record { value = k; next = p }) e in omega arith
+
+pub item-on : (end : ℕ) (s : List ℕ) (at : ℕ) {k p : ℕ} → 320 ≤ at → itemCountAt end s at ≡ read k p → 320 ≤ p
+item-on end s at {k} {p} h e = let g : p ≡ at + 2 = item-says end s at (record { value = k; next = p }) e .0 .ends in omega arith
+
+pub tag-on : (end : ℕ) (s : List ℕ) (at : ℕ) {p : ℕ} → 320 ≤ at → nextOf (tagCountsAt end s at) ≡ shown p → 320 ≤ p
+tag-on end s at {p} h e =
+    let x = next-shown (tagCountsAt end s at) e in
+    let g : p ≡ at + (2 + 4 * byteHere s at) = tag-placed end s at (record { value = x .0; next = p }) (x .1) .1 in
+    omega arith
 
 -- no tag is empty
 pub data Filled (s : List ℕ) : ℕ → ℕ → Type 0 where

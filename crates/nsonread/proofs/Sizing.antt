@@ -12,12 +12,40 @@ use Rattle.scan.proofs.Many.{then-shown}
 use Rattle.scan.proofs.Reading.{read-same}
 use Rattle.varint.specs.Uleb.{uleb}
 use Rattle.event.specs.Event.{Text, Tag}
-use Rattle.notepack.specs.Strict.{packElements, packTag, packTags}
+use Rattle.jsontext.specs.Escape.{unescape}
+use Rattle.notepack.specs.Strict.{packElement, packElements, packTag, packTags}
 use Rattle.notepack.proofs.Lengths.{tag-form}
-use Rattle.nson.specs.Read.{pieceAt, commaAt, itemsAt, arrayAt, itemAt, tagAt, tagsAt, tagsPartAt, wordHere, byteHere}
+use Rattle.nson.specs.Read.{partAt, pieceAt, commaAt, itemsAt, arrayAt, itemAt, tagAt, tagsAt, tagsPartAt, wordHere, byteHere}
 use Rattle.nson.specs.Nson.{tagsLabel, endLabel}
-use Rattle.nsonread.specs.Walk.{sized, itemSizes, tagSizes}
-use Rattle.nsonread.proofs.Laws.{sized-shown, sized-refused}
+use Rattle.nsonread.specs.Walk.{sized, textSizeAt, itemSizes, tagSizes}
+use Rattle.nsonread.proofs.Laws.{sized-shown, sized-refused, text-shown, text-refused}
+
+-- ---- an item
+
+module _ (s : List ℕ) (n at : ℕ) where
+  pub quote-stops : {k p : ℕ} → pieceAt 13 (0x22 ∷ []) s at ≡ refused k p → sized packElement 0 (itemAt s n at) ≡ refused k p
+  unfolding itemAt
+  quote-stops e = rw e refl
+
+  module _ {a : ℕ} (e : pieceAt 13 (0x22 ∷ []) s at ≡ shown a) where
+    pub text-stops : {k p : ℕ} → textSizeAt n s a ≡ refused k p → sized packElement 0 (itemAt s n at) ≡ refused k p
+    unfolding itemAt
+    text-stops q = rw (e, text-refused n s a q) refl
+
+    module _ {m b : ℕ} (q : textSizeAt n s a ≡ read m b) where
+      pub end-stops : {k p : ℕ} → pieceAt 13 (0x22 ∷ []) s b ≡ refused k p → sized packElement 0 (itemAt s n at) ≡ refused k p
+      unfolding itemAt
+      end-stops h = let x = text-shown n s a q in rw (e, x .0, h) refl
+
+      item-read : {c : ℕ} → pieceAt 13 (0x22 ∷ []) s b ≡ shown c → sized packElement 0 (itemAt s n at) ≡ read (0 + length (packElement (unescape (partAt n s a)))) c
+      unfolding itemAt
+      item-read h = let x = text-shown n s a q in rw (e, x .0, h) refl
+
+      pub item-sized : {c w : ℕ} → pieceAt 13 (0x22 ∷ []) s b ≡ shown c → w ≡ length (packElement (unescape (partAt n s a)))
+          → sized packElement 0 (itemAt s n at) ≡ read w c
+      item-sized {c} {w} h g =
+          let z : 0 + length (packElement (unescape (partAt n s a))) ≡ w = omega arith in
+          item-read h ∙ ap (λ (i : ℕ). read i c) z
 
 -- ---- one item more
 

@@ -82,14 +82,14 @@ module _ (s : List ℕ) (h : length s ≤ 65_536) where
             go : (c : Counts) (x : nson.Body) → nson.countsAt s ≡ read c at → nson.bodyAt c s at ≡ read x end → refused 10 end ≡ walkAt s
             go c x q r = sym (rw (le-leb (length s) 65_536 h, e, q, r, ne-eqb end (length s) k) refl)
 
-        pub walk-done : {w : Walked} → end ≡ length s → w ≡ kept s time z at b → shown w ≡ walkAt s
+        pub walk-done : {w : Walked} → end ≡ length s → w ≡ kept time z at b → shown w ≡ walkAt s
         unfolding walkAt
         walk-done {w} k o =
             let c = counted g in
             let x = turned-shown bodySize (nson.bodyAt (c .0) s at) (c .3) in
-            go (c .0) (x .0) (c .1) (x .1) (o ∙ ap (λ (z : Sizes). kept s time z at b) (c .2) ∙ ap (kept s time (sizesOf (c .0)) at) (x .2))
+            go (c .0) (x .0) (c .1) (x .1) (o ∙ ap (λ (z : Sizes). kept time z at b) (c .2) ∙ ap (kept time (sizesOf (c .0)) at) (x .2))
           where
-            go : (c : Counts) (x : nson.Body) → nson.countsAt s ≡ read c at → nson.bodyAt c s at ≡ read x end → w ≡ kept s time (sizesOf c) at (bodySize x) → shown w ≡ walkAt s
+            go : (c : Counts) (x : nson.Body) → nson.countsAt s ≡ read c at → nson.bodyAt c s at ≡ read x end → w ≡ kept time (sizesOf c) at (bodySize x) → shown w ≡ walkAt s
             go c x q r u =
                 let n : Read Counts = record { value = c; next = at } in
                 let v = kept-is s time n x (head-shown s _ e) (counts-placed s n q) (body-stands c s at _ r) in

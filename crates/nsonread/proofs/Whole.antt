@@ -122,21 +122,19 @@ pack-length e = simp (length-append)
 
 -- what is kept, with a length
 abbrev walked : List ℕ → ℕ → Read Counts → nson.Body → ℕ → Walked
-walked s time n b len = record { «created_at» = time; kind = b .kind; sizes = sizesOf (n .value); «body_at» = n .next; len = len }
+walked s time n b len = record { «created_at» = time; kind = b .kind; sizes = sizesOf (n .value); «body_at» = n .next; «content_len» = length (b .content); len = len }
 
 module _ (s : List ℕ) (time : ℕ) (n : Read Counts) (b : nson.Body) (h : Head s time) (p : Placed s (n .value)) (d : Stands (n .value) s (n .next) b) where
   tag-count : length (b .tags) ≡ length (n .value .tags)
   tag-count = sym (ap length (d .tags .same)) ∙ items-count (nson.tagAt s) false (n .value .tags) s _ (d .tags .is)
 
   -- the length by what was measured is that of the strict form
-  pub kept-is : kept s time (sizesOf (n .value)) (n .next) (bodySize b) ≡ walkedOf s time n b
+  pub kept-is : kept time (sizesOf (n .value)) (n .next) (bodySize b) ≡ walkedOf s time n b
   unfolding nson.eventOf
   kept-is =
       let i = h .id .count in
       let k = h .pubkey .count in
       let g = h .sig .count in
-      let c = ap length (d .content) in
-      let u = ap (λ (l : Text). length (uleb (length l))) (d .content) in
       let v = ap (λ (m : ℕ). length (uleb m)) tag-count in
       let e = pack-length (nson.eventOf s time b) in
       ap (walked s time n b) (omega arith)

@@ -59,6 +59,10 @@ abbrev pub placeIn : SizesRead → ℕ
 placeIn (sizes-by.Found z c) = c .at
 placeIn (sizes-by.Refused r) = 0
 
+abbrev pub contentIn : BodyRead → ℕ
+contentIn (body-by.Found b c) = b .«content_len»
+contentIn (body-by.Refused r) = 0
+
 abbrev pub tagsIn : BodyRead → ℕ
 tagsIn (body-by.Found b c) = b .«tags_len»
 tagsIn (body-by.Refused r) = 0

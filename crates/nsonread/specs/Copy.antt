@@ -1,7 +1,6 @@
 -- What the second pass writes as it follows the counts: the strict form, by places. Total: nothing is asked again. Assumes nothing.
 use Prim.Native.Nat.{ℕ, zero, suc, _+_, _*_}
 use mathlib.Core.List.{List, [], _++_}
-use lib.ListN.{length}
 use Rattle.varint.specs.Uleb.{uleb}
 use Rattle.hex.specs.Hex.{unhex}
 use Rattle.jsontext.specs.Escape.{unescape}
@@ -43,7 +42,7 @@ frontText s w =
     unhex (partAt 64 s 7)
     ++ (unhex (partAt 64 s 83)
     ++ (unhex (partAt 128 s 156)
-    ++ (uleb (w .«created_at») ++ (uleb (w .kind) ++ (uleb (length (contentText s w)) ++ (contentText s w ++ uleb (w .sizes .tags)))))))
+    ++ (uleb (w .«created_at») ++ (uleb (w .kind) ++ (uleb (w .«content_len») ++ (contentText s w ++ uleb (w .sizes .tags)))))))
 
 unfoldable pub wholeText : List ℕ → Walked → List ℕ
 wholeText s w = frontText s w ++ tagsText (w .sizes .tags) s 328 (tagsPlace w)

@@ -1,10 +1,12 @@
 -- What the first pass keeps of NSON's reading: places, counts and the length of the strict form. Assumes nothing.
-use Prim.Native.Nat.{ℕ, zero, suc, _+_, _*_}
+use Prim.Native.Nat.{ℕ, zero, suc, _+_, _*_, _-_}
+use mathlib.Core.Bool.{Bool, false}
 use mathlib.Core.List.{List, [], _∷_}
 use lib.ListN.{length}
 use lib.Dec.{leb, eqb}
 use Rattle.scan.specs.Choice.{pick, Answer, shown, refused, Read, read, andThen}
 use Rattle.varint.specs.Uleb.{uleb}
+use Rattle.hex.specs.Hex.{allDigits}
 use Rattle.jsontext.specs.Escape.{unescape}
 use Rattle.notepack.specs.Strict.{packTags, pack}
 use Rattle.nson.specs.Nson.{Counts}
@@ -20,6 +22,15 @@ nextOf r = andThen r λ x. shown (x .next)
 -- a read, with the length of its value's strict form put to a total
 abbrev pub sized : {A : Type 0} → (A → List ℕ) → ℕ → Answer (Read A) → Answer (Read ℕ)
 sized f total r = andThen r λ x. read (total + length (f (x .value))) (x .next)
+
+-- a counted text, with the length of what it spells
+abbrev pub textSizeAt : ℕ → List ℕ → ℕ → Answer (Read ℕ)
+textSizeAt n s at = andThen (nson.textAt n s at) λ p. read (length (unescape (nson.partAt n s at))) p
+
+-- whether all from 320 up to a place is there and is hex digits
+unfoldable pub fieldDigits : List ℕ → ℕ → Bool
+fieldDigits s end =
+    pick (eqb (length (nson.partAt (end - 320) s 320)) (end - 320)) (allDigits (nson.partAt (end - 320) s 320)) false
 
 -- the counts of n items and of n tags, as they stand from place d on
 unfoldable pub itemSizes : ℕ → List ℕ → ℕ → List ℕ
@@ -38,20 +49,20 @@ sizesOf n = record { kind = n .kind; content = n .content; tags = length (n .tag
 abbrev pub countsOf : List ℕ → Sizes → Counts
 countsOf s z = record { kind = z .kind; content = z .content; tags = tagSizes (z .tags) s 328 }
 
--- of what stands behind the descriptors: the kind, and the length of the tags' strict form
+-- of what stands behind the descriptors: the kind, and the lengths of the content and of the tags' strict form
 abbrev pub bodySize : nson.Body → Body
-bodySize b = record { kind = b .kind; «tags_len» = length (packTags (b .tags)) }
+bodySize b = record { kind = b .kind; «content_len» = length (b .content); «tags_len» = length (packTags (b .tags)) }
 
 -- what the code keeps of an accepted text: the length by what it measured
-abbrev pub kept : List ℕ → ℕ → Sizes → ℕ → Body → Walked
-kept s time z at b =
-    let content = length (unescape (nson.partAt (z .content) s (at + 21 + z .kind))) in record {
-      «created_at» = time;
-      kind = b .kind;
-      sizes = z;
-      «body_at» = at;
-      len = 128 + (length (uleb time) + length (uleb (b .kind))) + (length (uleb content) + length (uleb (z .tags))) + content + b .«tags_len»;
-    }
+abbrev pub kept : ℕ → Sizes → ℕ → Body → Walked
+kept time z at b = record {
+  «created_at» = time;
+  kind = b .kind;
+  sizes = z;
+  «body_at» = at;
+  «content_len» = b .«content_len»;
+  len = 128 + (length (uleb time) + length (uleb (b .kind))) + (length (uleb (b .«content_len»)) + length (uleb (z .tags))) + b .«content_len» + b .«tags_len»;
+}
 
 -- what is kept of the whole: the length is that of the event's strict form
 abbrev pub walkedOf : List ℕ → ℕ → Read Counts → nson.Body → Walked
@@ -60,6 +71,7 @@ walkedOf s time n b = record {
   kind = b .kind;
   sizes = sizesOf (n .value);
   «body_at» = n .next;
+  «content_len» = length (b .content);
   len = length (pack (nson.eventOf s time b));
 }
 

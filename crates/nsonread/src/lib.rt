@@ -9,11 +9,12 @@ ghost use Rattle.scan.specs.Choice.{shown, andThen, read, many};
 ghost use Rattle.store.specs.Store.{Wrote};
 ghost use Rattle.store.specs.Entry.{writes, leaves};
 ghost use Rattle.varint.specs.Uleb.{uleb};
+ghost use Rattle.jsontext.specs.Escape.{unescape};
 ghost use Rattle.notepack.specs.Strict.{packElement, packElements, packTag, packTags, pack};
-ghost use Rattle.nson.specs.Read.{pieceAt, hexAt, labelledAt, decimalAt, textAt, keysAt, timeAt, headAt, byteHere, wordHere, descriptorAt, wordCountAt, kindCountAt, itemCountAt, tagCountsAt, countsTo, countsAt, kindAt, commaAt, itemsAt, itemAt, tagAt, tagsAt, kindPartAt, contentPartAt, tagsPartAt, bodyAt, readNson};
-ghost use Rattle.nsonread.specs.Walk.{nextOf, sized, itemSizes, tagSizes, sizesOf, countsOf, bodySize, kept, walkAt};
+ghost use Rattle.nson.specs.Read.{partAt, pieceAt, hexAt, labelledAt, decimalAt, keysAt, timeAt, headAt, byteHere, wordHere, descriptorAt, wordCountAt, kindCountAt, itemCountAt, tagCountsAt, countsTo, countsAt, kindAt, commaAt, itemsAt, itemAt, tagAt, tagsAt, kindPartAt, contentPartAt, tagsPartAt, bodyAt, readNson};
+ghost use Rattle.nsonread.specs.Walk.{nextOf, sized, textSizeAt, fieldDigits, itemSizes, tagSizes, sizesOf, countsOf, bodySize, kept, walkAt};
 ghost use Rattle.nsonread.specs.Copy.{itemsText, itemsEnd, tagsText, contentPlace, tagsPlace, frontText, wholeText};
-ghost use Rattle.nsonread.specs.Answers.{nsonRead, skip, numberRead, sizesRead, bodyRead, walk, numberIn, sizesIn, placeIn, tagsIn, sizesOfWalk, tagsPlaceOf};
+ghost use Rattle.nsonread.specs.Answers.{nsonRead, skip, numberRead, sizesRead, bodyRead, walk, numberIn, sizesIn, placeIn, contentIn, tagsIn, sizesOfWalk, tagsPlaceOf};
 
 pub enum NsonRead {
     Written(usize),
@@ -61,9 +62,10 @@ struct Measured {
     next: Cursor,
 }
 
-// The kind, and the length of the tags' strict form.
+// The kind, the length of the content's text, and the length of the tags' strict form.
 struct Body {
     kind: usize,
+    content_len: usize,
     tags_len: usize,
 }
 
@@ -78,6 +80,7 @@ struct Walked {
     kind: usize,
     sizes: Sizes,
     body_at: usize,
+    content_len: usize,
     len: usize,
 }
 
@@ -163,24 +166,25 @@ impl Cursor {
         }
     }
 
-    // A text that is counted.
-    fn text(self, s: &[u8], n: usize) -> Skip
-        ensures { λ r. ⌜ skip r ≡ textAt n (now (s .entry)) (self .at) ⌝ }
+    // A text that is counted, and the length of what it spells.
+    fn text(self, s: &[u8], n: usize) -> NumberRead
+        ensures { λ r. ⌜ numberRead r ≡ textSizeAt n (now (s .entry)) (self .at) ⌝ }
+        ensures { λ r. ⌜ numberIn r ≤ n ⌝ }
     {
         let at = self.at;
         let l = scan::part(s, at, n);
-        let fault = counted::fault_in(l);
-        if fault == 0 {
+        let seen = counted::look(l);
+        if seen.fault == 0 {
             if l.len() == n {
-                return Skip::Past(Cursor { at: at + n });
+                return NumberRead::Number(seen.len, Cursor { at: at + n });
             }
-            return Skip::Refused(Refusal {
+            return NumberRead::Refused(Refusal {
                 number: event::COUNT_DISAGREES,
                 place: at,
             });
         }
-        Skip::Refused(Refusal {
-            number: fault,
+        NumberRead::Refused(Refusal {
+            number: seen.fault,
             place: at,
         })
     }
@@ -262,13 +266,31 @@ fn word_here(s: &[u8], at: usize) -> usize
     256 * byte_here(l, 0) + byte_here(l, 2)
 }
 
+// Whether all from 320 up to the end that the size says is there and is hex digits: then no descriptor's own digits need a look.
+fn field_digits(s: &[u8], end: usize) -> bool
+    requires { ⌜ 320 ≤ end ⌝ }
+    ensures { λ r. ⌜ r ≡ fieldDigits (now (s .entry)) end ⌝ }
+{
+    let n = end - 320;
+    let l = scan::part(s, 320, n);
+    if l.len() == n {
+        return hex::all_digits(l);
+    }
+    false
+}
+
 impl Cursor {
     // A descriptor of n hex digits that ends at `end` or before.
-    fn descriptor(self, s: &[u8], n: usize, end: usize) -> Skip
+    fn descriptor(self, s: &[u8], n: usize, end: usize, digits: bool) -> Skip
+        requires { ⌜ 320 ≤ self .at ⌝ }
+        requires { ⌜ digits ≡ fieldDigits (now s) end ⌝ }
         ensures { λ r. ⌜ skip r ≡ descriptorAt n end (now (s .entry)) (self .at) ⌝ }
     {
         if n <= end {
             if self.at <= end - n {
+                if digits {
+                    return Skip::Past(Cursor { at: self.at + n });
+                }
                 return self.hex(s, n);
             }
             return Skip::Refused(Refusal {
@@ -283,12 +305,14 @@ impl Cursor {
     }
 
     // Kind characters: 1 to 5.
-    fn kind_count(self, s: &[u8], end: usize) -> NumberRead
+    fn kind_count(self, s: &[u8], end: usize, digits: bool) -> NumberRead
+        requires { ⌜ 320 ≤ self .at ⌝ }
+        requires { ⌜ digits ≡ fieldDigits (now s) end ⌝ }
         ensures { λ r. ⌜ numberRead r ≡ kindCountAt end (now (s .entry)) (self .at) ⌝ }
         ensures { λ r. ⌜ numberIn r ≤ 5 ⌝ }
     {
         let at = self.at;
-        let found = self.descriptor(s, 2, end);
+        let found = self.descriptor(s, 2, end, digits);
         match found {
             Skip::Past(next) => {
                 let n = byte_here(s, at);
@@ -307,11 +331,13 @@ impl Cursor {
     }
 
     // A tag's number of items: none is an empty tag.
-    fn item_count(self, s: &[u8], end: usize) -> NumberRead
+    fn item_count(self, s: &[u8], end: usize, digits: bool) -> NumberRead
+        requires { ⌜ 320 ≤ self .at ⌝ }
+        requires { ⌜ digits ≡ fieldDigits (now s) end ⌝ }
         ensures { λ r. ⌜ numberRead r ≡ itemCountAt end (now (s .entry)) (self .at) ⌝ }
     {
         let at = self.at;
-        let found = self.descriptor(s, 2, end);
+        let found = self.descriptor(s, 2, end, digits);
         match found {
             Skip::Past(next) => {
                 let n = byte_here(s, at);
@@ -328,13 +354,15 @@ impl Cursor {
     }
 
     // n counts of two bytes.
-    fn item_sizes(self, s: &[u8], n: usize, end: usize) -> Skip
+    fn item_sizes(self, s: &[u8], n: usize, end: usize, digits: bool) -> Skip
+        requires { ⌜ 320 ≤ self .at ⌝ }
+        requires { ⌜ digits ≡ fieldDigits (now s) end ⌝ }
         ensures { λ r. ⌜ skip r ≡ nextOf (many (wordCountAt end (now (s .entry))) n (self .at)) ⌝ }
     {
         let mut c = self;
         let mut left = n;
         while 0 < left {
-            let found = c.descriptor(s, 4, end);
+            let found = c.descriptor(s, 4, end, digits);
             match found {
                 Skip::Past(next) => {
                     c = next;
@@ -347,24 +375,28 @@ impl Cursor {
     }
 
     // A tag's counts.
-    fn tag_counts(self, s: &[u8], end: usize) -> Skip
+    fn tag_counts(self, s: &[u8], end: usize, digits: bool) -> Skip
+        requires { ⌜ 320 ≤ self .at ⌝ }
+        requires { ⌜ digits ≡ fieldDigits (now s) end ⌝ }
         ensures { λ r. ⌜ skip r ≡ nextOf (tagCountsAt end (now (s .entry)) (self .at)) ⌝ }
     {
-        let found = self.item_count(s, end);
+        let found = self.item_count(s, end, digits);
         match found {
-            NumberRead::Number(n, next) => next.item_sizes(s, n, end),
+            NumberRead::Number(n, next) => next.item_sizes(s, n, end, digits),
             NumberRead::Refused(r) => Skip::Refused(r),
         }
     }
 
     // The counts of n tags.
-    fn all_tag_counts(self, s: &[u8], n: usize, end: usize) -> Skip
+    fn all_tag_counts(self, s: &[u8], n: usize, end: usize, digits: bool) -> Skip
+        requires { ⌜ 320 ≤ self .at ⌝ }
+        requires { ⌜ digits ≡ fieldDigits (now s) end ⌝ }
         ensures { λ r. ⌜ skip r ≡ nextOf (many (tagCountsAt end (now (s .entry))) n (self .at)) ⌝ }
     {
         let mut c = self;
         let mut left = n;
         while 0 < left {
-            let found = c.tag_counts(s, end);
+            let found = c.tag_counts(s, end, digits);
             match found {
                 Skip::Past(next) => {
                     c = next;
@@ -378,30 +410,33 @@ impl Cursor {
 
     // The counts that end where the size says.
     fn counts_to(self, s: &[u8], end: usize) -> SizesRead
+        requires { ⌜ 320 ≤ self .at ⌝ }
+        requires { ⌜ 320 ≤ end ⌝ }
         ensures { λ r. ⌜ sizesRead r ≡ andThen (countsTo end (now (s .entry)) (self .at)) (λ n. read (sizesOf (n .value)) (n .next)) ⌝ }
         ensures { λ r. ⌜ sizesIn r .kind ≤ 5 ⌝ }
         ensures { λ r. ⌜ sizesIn r .content ≤ 65535 ⌝ }
         ensures { λ r. ⌜ sizesIn r .tags ≤ 255 ⌝ }
         ensures { λ r. ⌜ placeIn r ≤ end ⌝ }
     {
-        let found = self.kind_count(s, end);
+        let digits = field_digits(s, end);
+        let found = self.kind_count(s, end, digits);
         let first = match found {
             NumberRead::Number(n, next) => Numbered { n, next },
             NumberRead::Refused(r) => return SizesRead::Refused(r),
         };
         let content_at = first.next;
-        let content = content_at.descriptor(s, 4, end);
+        let content = content_at.descriptor(s, 4, end, digits);
         let tags_at = match content {
             Skip::Past(c) => c,
             Skip::Refused(r) => return SizesRead::Refused(r),
         };
-        let tags = tags_at.descriptor(s, 2, end);
+        let tags = tags_at.descriptor(s, 2, end, digits);
         let second = match tags {
             Skip::Past(c) => c,
             Skip::Refused(r) => return SizesRead::Refused(r),
         };
         let count = byte_here(s, tags_at.at);
-        let all = second.all_tag_counts(s, count, end);
+        let all = second.all_tag_counts(s, count, end, digits);
         match all {
             Skip::Past(c) => {
                 if c.at == end {
@@ -440,6 +475,18 @@ fn counts(s: &[u8]) -> SizesRead
 }
 
 // ---- the text that is counted
+
+// The length of the strict element whose text n bytes spell. A text of n bytes has no escape and is taken as it stands.
+fn element_len(s: &[u8], from: usize, n: usize, len: usize) -> usize
+    requires { ⌜ (len ≡ n → unescape (partAt n (now s) from) ≡ partAt n (now s) from) ⌝ }
+    ensures { λ r. ⌜ r ≡ length (packElement (unescape (partAt n (now (s .entry)) from))) ⌝ }
+    ensures { λ r. ⌜ r ≤ n + 10 ⌝ }
+{
+    if len == n {
+        return notepack::text_len(scan::part(s, from, n));
+    }
+    spelled::element_len(s, from, n)
+}
 
 impl Cursor {
     // The kind, and its range.
@@ -486,12 +533,12 @@ impl Cursor {
         };
         let text = first.text(s, n);
         let behind = match text {
-            Skip::Past(c) => c,
-            Skip::Refused(r) => return NumberRead::Refused(r),
+            NumberRead::Number(len, next) => Numbered { n: len, next },
+            NumberRead::Refused(r) => return NumberRead::Refused(r),
         };
-        let closing = behind.piece(s, b"\"", event::COUNT_DISAGREES);
+        let closing = behind.next.piece(s, b"\"", event::COUNT_DISAGREES);
         match closing {
-            Skip::Past(c) => NumberRead::Number(spelled::element_len(s, first.at, n), c),
+            Skip::Past(c) => NumberRead::Number(element_len(s, first.at, n, behind.n), c),
             Skip::Refused(r) => NumberRead::Refused(r),
         }
     }
@@ -628,14 +675,15 @@ impl Cursor {
         }
     }
 
-    // The label and the content.
-    fn content_part(self, s: &[u8], n: usize) -> Skip
-        ensures { λ r. ⌜ skip r ≡ nextOf (contentPartAt n (now (s .entry)) (self .at)) ⌝ }
+    // The label and the content, and the length of its text.
+    fn content_part(self, s: &[u8], n: usize) -> NumberRead
+        ensures { λ r. ⌜ numberRead r ≡ sized (λ t. t) 0 (contentPartAt n (now (s .entry)) (self .at)) ⌝ }
+        ensures { λ r. ⌜ numberIn r ≤ n ⌝ }
     {
         let label = self.piece(s, b",\"content\":\"", event::COUNT_DISAGREES);
         match label {
             Skip::Past(c) => c.text(s, n),
-            Skip::Refused(r) => Skip::Refused(r),
+            Skip::Refused(r) => NumberRead::Refused(r),
         }
     }
 
@@ -666,8 +714,10 @@ impl Cursor {
     // All behind the descriptors.
     fn body(self, s: &[u8], z: Sizes) -> BodyRead
         requires { ⌜ z .kind ≤ 5 ⌝ }
+        requires { ⌜ z .content ≤ 65535 ⌝ }
         requires { ⌜ z .tags ≤ 255 ⌝ }
         ensures { λ r. ⌜ bodyRead r ≡ andThen (bodyAt (countsOf (now (s .entry)) z) (now (s .entry)) (self .at)) (λ b. read (bodySize (b .value)) (b .next)) ⌝ }
+        ensures { λ r. ⌜ contentIn r ≤ 65535 ⌝ }
         ensures { λ r. ⌜ tagsIn r ≤ 16713985 * 255 ⌝ }
     {
         let kind = self.kind_part(s, z.kind);
@@ -677,14 +727,15 @@ impl Cursor {
         };
         let content = first.next.content_part(s, z.content);
         let second = match content {
-            Skip::Past(c) => c,
-            Skip::Refused(r) => return BodyRead::Refused(r),
+            NumberRead::Number(n, next) => Numbered { n, next },
+            NumberRead::Refused(r) => return BodyRead::Refused(r),
         };
-        let tags = second.tags_part(s, z.tags);
+        let tags = second.next.tags_part(s, z.tags);
         match tags {
             NumberRead::Number(tags_len, end) => BodyRead::Found(
                 Body {
                     kind: first.n,
+                    content_len: second.n,
                     tags_len,
                 },
                 end,
@@ -695,14 +746,12 @@ impl Cursor {
 }
 
 // What is kept of an accepted text, with the length of its strict form.
-fn keep(s: &[u8], time: usize, z: Sizes, from: usize, b: Body) -> Walked
-    requires { ⌜ z .kind ≤ 5 ⌝ }
-    requires { ⌜ z .content ≤ 65535 ⌝ }
-    requires { ⌜ from ≤ 575 ⌝ }
+fn keep(time: usize, z: Sizes, from: usize, b: Body) -> Walked
+    requires { ⌜ b .«content_len» ≤ 65535 ⌝ }
     requires { ⌜ b .«tags_len» ≤ 16713985 * 255 ⌝ }
-    ensures { λ r. ⌜ r ≡ kept (now (s .entry)) time z from b ⌝ }
+    ensures { λ r. ⌜ r ≡ kept time z from b ⌝ }
 {
-    let content = jsontext::unescaped_len(s, from + 21 + z.kind, z.content);
+    let content = b.content_len;
     let numbers = varint::varint_len(time as u64) + varint::varint_len(b.kind as u64);
     let counts = varint::varint_len(content as u64) + varint::varint_len(z.tags as u64);
     Walked {
@@ -710,6 +759,7 @@ fn keep(s: &[u8], time: usize, z: Sizes, from: usize, b: Body) -> Walked
         kind: b.kind,
         sizes: z,
         body_at: from,
+        content_len: content,
         len: 128 + numbers + counts + content + b.tags_len,
     }
 }
@@ -740,7 +790,7 @@ fn walk_text(s: &[u8]) -> Walk
     match rest {
         BodyRead::Found(body, end) => {
             if end.at == s.len() {
-                return Walk::Done(keep(s, created_at, first.sizes, first.next.at, body));
+                return Walk::Done(keep(created_at, first.sizes, first.next.at, body));
             }
             Walk::Refused(Refusal {
                 number: event::AFTER_THE_END,
@@ -814,11 +864,7 @@ fn put_front(out: &mut [u8], at: usize, s: &[u8], w: Walked) -> usize
     let c = hex::put_unhex(out, b, scan::part(s, 156, 128));
     let d = varint::put_varint(out, c, w.created_at as u64);
     let e = varint::put_varint(out, d, w.kind as u64);
-    let f = varint::put_varint(
-        out,
-        e,
-        jsontext::unescaped_len(s, content_at, z.content) as u64,
-    );
+    let f = varint::put_varint(out, e, w.content_len as u64);
     let g = jsontext::put_unescaped(out, f, s, content_at, z.content);
     varint::put_varint(out, g, z.tags as u64)
 }

@@ -10,8 +10,7 @@ same-length : tie.Need-same-length
 same-length c =
     let at-put-unescaped = c .before .before .before .before .before .before in
     let at-put-varint3 = at-put-unescaped .before .before .before .before in
-    let at-unescaped-len = at-put-varint3 .before in
-    let at-put-varint2 = at-unescaped-len .before .before .before .before in
+    let at-put-varint2 = at-put-varint3 .before .before .before .before in
     let at-put-varint = at-put-varint2 .before .before .before .before in
     let at-put-unhex3 = at-put-varint .before .before .before .before in
     let at-part3 = at-put-unhex3 .before in
@@ -22,16 +21,14 @@ same-length c =
     let u = rw (at-part .part .ensures) at (at-put-unhex .put-unhex .ensures) in
     let v = rw (at-part2 .part2 .ensures) at (at-put-unhex2 .put-unhex2 .ensures) in
     let w = rw (at-part3 .part3 .ensures) at (at-put-unhex3 .put-unhex3 .ensures) in
-    let n = rw (at-unescaped-len .unescaped-len .ensures .0) at (at-put-varint3 .put-varint3 .ensures) in
-    kept (then u (then v (then w (then (at-put-varint .put-varint .ensures) (then (at-put-varint2 .put-varint2 .ensures) (then n (then (at-put-unescaped .put-unescaped .ensures) (c .before .before .put-varint4 .ensures))))))))
+    kept (then u (then v (then w (then (at-put-varint .put-varint .ensures) (then (at-put-varint2 .put-varint2 .ensures) (then (at-put-varint3 .put-varint3 .ensures) (then (at-put-unescaped .put-unescaped .ensures) (c .before .before .put-varint4 .ensures))))))))
 
 returns : tie.Need-returns
 unfolding frontText
 returns c =
     let at-put-unescaped = c .before .before .before .before .before .before in
     let at-put-varint3 = at-put-unescaped .before .before .before .before in
-    let at-unescaped-len = at-put-varint3 .before in
-    let at-put-varint2 = at-unescaped-len .before .before .before .before in
+    let at-put-varint2 = at-put-varint3 .before .before .before .before in
     let at-put-varint = at-put-varint2 .before .before .before .before in
     let at-put-unhex3 = at-put-varint .before .before .before .before in
     let at-part3 = at-put-unhex3 .before in
@@ -42,8 +39,7 @@ returns c =
     let u = rw (at-part .part .ensures) at (at-put-unhex .put-unhex .ensures) in
     let v = rw (at-part2 .part2 .ensures) at (at-put-unhex2 .put-unhex2 .ensures) in
     let w = rw (at-part3 .part3 .ensures) at (at-put-unhex3 .put-unhex3 .ensures) in
-    let n = rw (at-unescaped-len .unescaped-len .ensures .0) at (at-put-varint3 .put-varint3 .ensures) in
-    then u (then v (then w (then (at-put-varint .put-varint .ensures) (then (at-put-varint2 .put-varint2 .ensures) (then n (then (at-put-unescaped .put-unescaped .ensures) (c .before .before .put-varint4 .ensures)))))))
+    then u (then v (then w (then (at-put-varint .put-varint .ensures) (then (at-put-varint2 .put-varint2 .ensures) (then (at-put-varint3 .put-varint3 .ensures) (then (at-put-unescaped .put-unescaped .ensures) (c .before .before .put-varint4 .ensures)))))))
 
 pub put-front-spec : {M : Type 1} → statement M
 put-front-spec =
@@ -51,7 +47,6 @@ put-front-spec =
     (tie.spec
     (λ c. search needs)
     (λ c. search needs)
-    (λ c κs. search needs)
     (λ c κs. search needs)
     (λ c κs. search needs)
     (λ c κs. search needs)

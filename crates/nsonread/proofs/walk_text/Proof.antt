@@ -30,15 +30,13 @@ returns-3 c =
 body-requires : tie.Need-body-requires
 body-requires c κs =
     let at-counts = c .before .before .before in
-    (rw (c .before .found .given .1) at (at-counts .counts .ensures .1 .0), rw (c .before .found .given .1) at (at-counts .counts .ensures .1 .1 .1 .0))
+    (rw (c .before .found .given .1) at (at-counts .counts .ensures .1 .0), (rw (c .before .found .given .1) at (at-counts .counts .ensures .1 .1 .0), rw (c .before .found .given .1) at (at-counts .counts .ensures .1 .1 .1 .0)))
 
 keep-requires : tie.Need-keep-requires
 keep-requires c κs =
     let at-rest = c .before .before .before in
     let at-body = at-rest .before .before in
-    let at-found = at-body .before .before in
-    let at-counts = at-found .before .before in
-    (rw (at-found .found .given .1) at (at-counts .counts .ensures .1 .0), (rw (at-found .found .given .1) at (at-counts .counts .ensures .1 .1 .0), (rw (at-found .found .given .1) at (at-counts .counts .ensures .1 .1 .1 .1), rw (at-rest .rest .given .1) at (at-body .body .ensures .1))))
+    (rw (at-rest .rest .given .1) at (at-body .body .ensures .1 .0), rw (at-rest .rest .given .1) at (at-body .body .ensures .1 .1))
 
 returns-4 : tie.Need-returns-4
 returns-4 c =

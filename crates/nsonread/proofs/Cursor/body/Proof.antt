@@ -3,7 +3,7 @@
 use mathlib.Core.Path.{sym, ap, _∙_}
 use native.Mathlib.Omega.{arith}
 use Rattle.nsonread.specs.Walk.{countsOf}
-use Rattle.nsonread.specs.Answers.{skip, numberRead}
+use Rattle.nsonread.specs.Answers.{numberRead}
 use Rattle.nsonread.proofs.Parts.{kind-stops, content-stops, tags-stop, body-found}
 use borrow.Author.Needs.{needs}
 use Rattle.nsonread.proofs.Cursor.body.Statement.{statement}
@@ -13,7 +13,7 @@ returns : tie.Need-returns
 returns c =
     let at-kind-part = c .before .before .before in
     let entry = at-kind-part .before .before in
-    (sym (kind-stops (countsOf (entry .args .s .now) (entry .args .z)) (entry .args .s .now) _ (sym (at-kind-part .kind-part .ensures) ∙ ap numberRead (c .before .kind2 .given .1))), omega arith)
+    (sym (kind-stops (countsOf (entry .args .s .now) (entry .args .z)) (entry .args .s .now) _ (sym (at-kind-part .kind-part .ensures) ∙ ap numberRead (c .before .kind2 .given .1))), (omega arith, omega arith))
 
 returns-2 : tie.Need-returns-2
 returns-2 c =
@@ -21,7 +21,7 @@ returns-2 c =
     let at-kind = at-content-part .before .before in
     let at-kind-part = at-kind .before .before in
     let entry = at-kind-part .before .before in
-    (sym (content-stops (countsOf (entry .args .s .now) (entry .args .z)) (entry .args .s .now) _ (sym (at-kind-part .kind-part .ensures) ∙ ap numberRead (at-kind .kind .given .1)) (sym (at-content-part .content-part .ensures) ∙ ap skip (c .before .content2 .given .1))), omega arith)
+    (sym (content-stops (countsOf (entry .args .s .now) (entry .args .z)) (entry .args .s .now) _ (sym (at-kind-part .kind-part .ensures) ∙ ap numberRead (at-kind .kind .given .1)) (sym (at-content-part .content-part .ensures .0) ∙ ap numberRead (c .before .content2 .given .1))), (omega arith, omega arith))
 
 returns-3 : tie.Need-returns-3
 returns-3 c =
@@ -31,8 +31,9 @@ returns-3 c =
     let at-kind = at-content-part .before .before in
     let at-kind-part = at-kind .before .before in
     let entry = at-kind-part .before .before in
+    let k = rw (at-content .content .given .1) at (at-content-part .content-part .ensures .1) in
     let m = rw (c .before .tags .given .1) at (at-tags-part .tags-part .ensures .1) in
-    (sym (body-found (countsOf (entry .args .s .now) (entry .args .z)) (entry .args .s .now) _ (sym (at-kind-part .kind-part .ensures) ∙ ap numberRead (at-kind .kind .given .1)) (sym (at-content-part .content-part .ensures) ∙ ap skip (at-content .content .given .1)) (sym (at-tags-part .tags-part .ensures .0) ∙ ap numberRead (c .before .tags .given .1))), omega (arith, m, entry .pre))
+    (sym (body-found (countsOf (entry .args .s .now) (entry .args .z)) (entry .args .s .now) _ (sym (at-kind-part .kind-part .ensures) ∙ ap numberRead (at-kind .kind .given .1)) (sym (at-content-part .content-part .ensures .0) ∙ ap numberRead (at-content .content .given .1)) (sym (at-tags-part .tags-part .ensures .0) ∙ ap numberRead (c .before .tags .given .1))), (omega (arith, k, entry .pre), omega (arith, m, entry .pre)))
 
 returns-4 : tie.Need-returns-4
 returns-4 c =
@@ -42,7 +43,7 @@ returns-4 c =
     let at-kind = at-content-part .before .before in
     let at-kind-part = at-kind .before .before in
     let entry = at-kind-part .before .before in
-    (sym (tags-stop (countsOf (entry .args .s .now) (entry .args .z)) (entry .args .s .now) _ (sym (at-kind-part .kind-part .ensures) ∙ ap numberRead (at-kind .kind .given .1)) (sym (at-content-part .content-part .ensures) ∙ ap skip (at-content .content .given .1)) (sym (at-tags-part .tags-part .ensures .0) ∙ ap numberRead (c .before .tags2 .given .1))), omega arith)
+    (sym (tags-stop (countsOf (entry .args .s .now) (entry .args .z)) (entry .args .s .now) _ (sym (at-kind-part .kind-part .ensures) ∙ ap numberRead (at-kind .kind .given .1)) (sym (at-content-part .content-part .ensures .0) ∙ ap numberRead (at-content .content .given .1)) (sym (at-tags-part .tags-part .ensures .0) ∙ ap numberRead (c .before .tags2 .given .1))), (omega arith, omega arith))
 
 pub body-spec : {M : Type 1} → statement M
 body-spec =

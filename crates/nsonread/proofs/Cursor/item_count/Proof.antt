@@ -30,7 +30,7 @@ pub item-count-spec : {M : Type 1} → statement M
 item-count-spec =
     tie.close
     (tie.spec
-    (λ c κs. search needs)
+    (λ c κs. c .before .pre)
     (λ c. search needs)
     (λ c κs. search needs)
     returns

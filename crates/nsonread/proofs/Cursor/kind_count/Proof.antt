@@ -39,7 +39,7 @@ pub kind-count-spec : {M : Type 1} → statement M
 kind-count-spec =
     tie.close
     (tie.spec
-    (λ c κs. search needs)
+    (λ c κs. c .before .pre)
     (λ c. search needs)
     (λ c κs. search needs)
     returns
