@@ -748,6 +748,43 @@ fn pass_stops(t: &[u8], at: usize) -> usize
     i
 }
 
+// Whether none of the four bytes from a place on is a backslash.
+fn four_plain(t: &[u8], at: usize) -> bool
+    requires { ⌜ at + 4 ≤ length (now t) ⌝ }
+    ensures { λ r. ⌜ (r ≡ true → plainAt (now (t .entry)) at ≡ plainAt (now (t .entry)) (at + 4)) ⌝ }
+{
+    if t[at] == 0x5C {
+        return false;
+    }
+    if t[at + 1] == 0x5C {
+        return false;
+    }
+    if t[at + 2] == 0x5C {
+        return false;
+    }
+    if t[at + 3] == 0x5C {
+        return false;
+    }
+    true
+}
+
+// Passes four bytes a turn while none of them is a backslash.
+fn pass_fours(t: &[u8], at: usize) -> usize
+    requires { ⌜ at ≤ length (now t) ⌝ }
+    ensures { λ r. ⌜ plainAt (now (t .entry)) at ≡ plainAt (now (t .entry)) r ⌝ }
+    ensures { λ r. ⌜ at ≤ r ⌝ }
+    ensures { λ r. ⌜ r ≤ length (now (t .entry)) ⌝ }
+{
+    let mut i = at;
+    while t.len() - i >= 4 {
+        if !four_plain(t, i) {
+            return i;
+        }
+        i += 4;
+    }
+    i
+}
+
 // The place of the next backslash from a place on, or the end.
 pub fn next_backslash(t: &[u8], at: usize) -> usize
     ensures { λ r. ⌜ r ≡ plainAt (now (t .entry)) at ⌝ }
@@ -755,7 +792,8 @@ pub fn next_backslash(t: &[u8], at: usize) -> usize
     if t.len() <= at {
         return at;
     }
-    let mut i = pass_stops(t, at);
+    let blocks = pass_stops(t, at);
+    let mut i = pass_fours(t, blocks);
     while i < t.len() {
         let b = t[i];
         if b == 0x5C {
@@ -894,26 +932,6 @@ fn text_len(t: &[u8]) -> usize
 struct Copied {
     out: usize,
     next: usize,
-}
-
-// Whether none of the four bytes from a place on is a backslash.
-fn four_plain(t: &[u8], at: usize) -> bool
-    requires { ⌜ at + 4 ≤ length (now t) ⌝ }
-    ensures { λ r. ⌜ (r ≡ true → plainAt (now (t .entry)) at ≡ plainAt (now (t .entry)) (at + 4)) ⌝ }
-{
-    if t[at] == 0x5C {
-        return false;
-    }
-    if t[at + 1] == 0x5C {
-        return false;
-    }
-    if t[at + 2] == 0x5C {
-        return false;
-    }
-    if t[at + 3] == 0x5C {
-        return false;
-    }
-    true
 }
 
 // Four bytes from a place on, where there is room for them.

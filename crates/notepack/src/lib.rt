@@ -229,7 +229,7 @@ impl Cursor {
         match found {
             NumberRead::Number(n, next) => {
                 let sum = t.more(varint::varint_len(n), false);
-                next.pass_elements(s, n, sum)
+                next.pass_elements(&s[..], n, sum)
             }
             NumberRead::Refused(r) => Pass::Refused(r),
         }

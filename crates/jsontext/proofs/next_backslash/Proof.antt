@@ -1,7 +1,7 @@
 -- `next_backslash` runs over the bytes that are no backslash, blocks first. The invariant is one equation: the run from the start ends where the run from here ends.
 -- Each turn is one law of `plains`.
 use Prim.Native.Nat.{_-_}
-use mathlib.Core.Path.{_≡_}
+use mathlib.Core.Path.{_≡_, _∙_}
 use borrow.Author.Needs.{needs}
 use lib.ListN.{length}
 use Rattle.jsontext.specs.Escape.{plainAt}
@@ -10,10 +10,10 @@ use Rattle.jsontext.proofs.next_backslash.Statement.{statement}
 use Rattle.jsontext.proofs.next_backslash.Tie as tie
 
 abbrev Inv-loop : tie.InvT-loop
-Inv-loop t at i₀ i = plainAt t at ≡ plainAt t i
+Inv-loop t at blocks i₀ i = plainAt t at ≡ plainAt t i
 
 abbrev μ-loop : tie.MeasureT-loop
-μ-loop t at i₀ i = length t - i
+μ-loop t at blocks i₀ i = length t - i
 
 pub next-backslash-spec : {M : Type 1} → statement M
 next-backslash-spec =
@@ -23,7 +23,8 @@ next-backslash-spec =
     μ-loop
     (λ c. search plains)
     (λ c κs. search needs)
-    (λ c. c .pass-stops .ensures .0)
+    (λ c κs. search needs)
+    (λ c. c .before .pass-stops .ensures .0 ∙ c .pass-fours .ensures .0)
     (λ c. search needs)
     (λ c. search needs)
     (λ c. search needs)
