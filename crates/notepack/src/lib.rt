@@ -85,13 +85,6 @@ pub enum Walk {
     Refused(Refusal),
 }
 
-// How many bytes stand from a place on.
-fn rest(s: &[u8], at: usize) -> usize
-    ensures { λ r. ⌜ r ≡ length (now (s .entry)) - at ⌝ }
-{
-    if at < s.len() { s.len() - at } else { 0 }
-}
-
 impl Cursor {
     // n bytes. A length beyond the rest is refused at the place of that length.
     pub fn payload(self, s: &[u8], place: usize, raw: bool, n: u64) -> PartRead
@@ -99,7 +92,7 @@ impl Cursor {
     {
         let at = self.at;
         let len = n as usize;
-        if len <= rest(s, at) {
+        if len <= scan::rest(s, at) {
             return PartRead::Found(Part { at, len, raw }, Cursor { at: at + len });
         }
         PartRead::Refused(Refusal {

@@ -1,6 +1,6 @@
 -- A fixed byte string stands at a place exactly where it is a span, and a run is the longest span of bytes that pass.
--- The loops of the code cite the rulesets `stands` and `runs`; a grammar cites the four laws that speak of `Span`.
-use Prim.Native.Nat.{ℕ, _+_, _<_, _≤_}
+-- The loops of the code cite the laws of each turn and the ruleset `runs`; a grammar cites the four laws that speak of `Span`.
+use Prim.Native.Nat.{ℕ, _+_, _-_, _<_, _≤_}
 use mathlib.Core.Path.{_≡_, refl, sym, ap, _∙_}
 use mathlib.Core.Bool.{Bool, true, false}
 use mathlib.Core.List.{List, [], _∷_, _++_}
@@ -14,7 +14,7 @@ use Rattle.scan.specs.Choice.{pick}
 use Rattle.scan.specs.Place.{begins, standsAt, run, runAt}
 use Rattle.scan.specs.Span.{Span, here, step, All, none, also}
 use Rattle.scan.proofs.Step.{rest-none, rest-more, pick-by, pick-true, false-true}
-use Rattle.scan.proofs.SpanLaws.{from-span, to-span, place}
+use Rattle.scan.proofs.SpanLaws.{from-span, to-span, place, span-fits}
 
 -- ---- a fixed byte string: where the loop stands
 
@@ -24,10 +24,6 @@ module _ (w s : List ℕ) (at i j : ℕ) where
   unfolding begins
   stands-again v h l e = v ∙ rw (rest-more w j, rest-more s i, eq-eqb _ _ e)
 
-  pub stands-ended : standsAt w s at ≡ begins (drop j w) (drop i s) → j < length w → length s ≤ i → false ≡ standsAt w s at
-  unfolding begins
-  stands-ended v h l = sym (v ∙ rw (rest-more w j, rest-none s i))
-
   pub stands-other : standsAt w s at ≡ begins (drop j w) (drop i s) → j < length w → i < length s → (getD w j 0 ≡ getD s i 0 → ⊥)
       → false ≡ standsAt w s at
   unfolding begins
@@ -36,8 +32,6 @@ module _ (w s : List ℕ) (at i j : ℕ) where
   pub stands-whole : standsAt w s at ≡ begins (drop j w) (drop i s) → length w ≤ j → true ≡ standsAt w s at
   unfolding begins
   stands-whole v h = sym (v ∙ rw (rest-none w j))
-
-pub ruleset stands = (stands-again, stands-ended, stands-other, stands-whole)
 
 pub stands-start : (w s : List ℕ) (at : ℕ) → standsAt w s at ≡ begins (drop 0 w) (drop at s)
 unfolding standsAt
@@ -70,6 +64,14 @@ begins-rest (b ∷ w) (c ∷ l) h =
 pub stands-span : (w s : List ℕ) (at : ℕ) → standsAt w s at ≡ true → Span s at w (at + length w)
 unfolding standsAt
 stands-span w s at h = let r = begins-rest w (drop at s) h in to-span s w (r .0) at (r .1)
+
+-- it does not stand where too few bytes are left
+pub stands-short : (w s : List ℕ) (at : ℕ) → length s - at < length w → false ≡ standsAt w s at
+stands-short w s at h = go (standsAt w s at) refl
+  where
+    go : (t : Bool) → standsAt w s at ≡ t → false ≡ standsAt w s at
+    go true e = absurd (omega (arith, h, span-fits (stands-span w s at e)))
+    go false e = sym e
 
 -- ---- a run: where the loop stands
 

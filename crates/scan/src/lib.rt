@@ -1,6 +1,7 @@
 // Bytes at a place of a lent input. Every function is total: a place past the end reads as the end.
+ghost use Prim.Native.Nat.{_-_};
 ghost use mathlib.Core.Path.{_≡_};
-ghost use lib.ListN.{take, drop};
+ghost use lib.ListN.{length, take, drop};
 ghost use Rattle.scan.specs.Place.{byteAt, standsAt, within, runAt};
 
 // The byte at a place, and 0 past the end.
@@ -24,20 +25,25 @@ pub fn part<'a>(s: &'a [u8], from: usize, n: usize) -> &'a [u8]
     &s[from..end]
 }
 
-// Whether the byte string w stands at a place.
+// How many bytes stand from a place on.
+pub fn rest(s: &[u8], at: usize) -> usize
+    ensures { λ r. ⌜ r ≡ length (now (s .entry)) - at ⌝ }
+{
+    if at < s.len() { s.len() - at } else { 0 }
+}
+
+// Whether the byte string w stands at a place. Where there are bytes enough, none is asked whether it is there.
 pub fn stands_at(w: &[u8], s: &[u8], at: usize) -> bool
     ensures { λ r. ⌜ r ≡ standsAt (now (w .entry)) (now (s .entry)) at ⌝ }
 {
-    let mut i = at;
+    if rest(s, at) < w.len() {
+        return false;
+    }
     let mut j = 0;
     while j < w.len() {
-        if s.len() <= i {
+        if w[j] != s[at + j] {
             return false;
         }
-        if w[j] != s[i] {
-            return false;
-        }
-        i += 1;
         j += 1;
     }
     true
