@@ -13,7 +13,8 @@ use Rattle.json.specs.Object.{readJson}
 use Rattle.nson.specs.Nson.{Counts, nson}
 use Rattle.nson.specs.Carries.{Carries}
 use Rattle.nson.specs.Read.{byteHere, countsAt, readNson}
-use Rattle.agreement.specs.Entries.{nsonReads, nsonLeaves, jsonReads, jsonLeaves, nsonWrites, writerLeaves}
+use Rattle.json.specs.Entries.{jsonReads, jsonLeaves}
+use Rattle.nson.specs.Entries.{nsonReads, nsonLeaves, nsonWrites, writerLeaves}
 use Rattle.agreement.specs.Counted.{OtherField, TrueCounts, FieldHolds}
 
 -- ---- the readers
