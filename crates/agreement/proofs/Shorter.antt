@@ -1,7 +1,7 @@
 -- The strict form of the event of a JSON text is no longer than the text: a reader that is lent as many bytes as the text has never lacks room.
 -- Piece by piece: a text is no longer than its spelling, an element than its string with a comma, a field than its member; then over the members.
 use Prim.Native.Nat.{ℕ, zero, suc, _+_, _*_, _-_, _/_, _^_, _<_, _≤_}
-use mathlib.Core.Path.{_≡_, refl, sym, ap, _∙_}
+use mathlib.Core.Path.{_≡_, refl, sym, ap, _∙_, subst}
 use mathlib.Core.Bool.{Bool, true, false}
 use mathlib.Core.List.{List, [], _∷_, _++_}
 use native.Mathlib.Omega.{arith}
@@ -41,7 +41,7 @@ char-shorter (json.unescaped g) = omega arith
 char-shorter (json.letter g) = omega arith
 char-shorter (json.unicode g s) = omega (arith, unit-length g, encode-length s .1)
 char-shorter (json.pair {l = l} {m = m} {u = u} {v = v} g (utf8.octet a b) h (utf8.octet c d)) =
-    let e : Scalar (json.paired u v) = above (omega arith) (omega arith) in
+    let e : Scalar (json.paired u v) = above {n = json.paired u v} (omega arith) (omega arith) in
     omega (arith, unit-length g, unit-length h, length-append l m, encode-length e .1)
 
 pub chars-shorter : {l t : List ℕ} → json.Chars l t → length t ≤ length l
@@ -64,7 +64,7 @@ length-uleb (suc k) n h =
     omega (arith, length-more n (omega (arith, q)), length-uleb k (n / 128) t))
 
 digits-below : (k n : ℕ) {l : List ℕ} → All json.Digit l → n < 128 ^ k → behind n l < 128 ^ (k + length l)
-digits-below k n span.none h = h
+digits-below k n span.none h = subst (λ (j : ℕ). n < 128 ^ j) (omega arith) h
 digits-below k n (span.also {b = b} {l = l} (json.digit p q) g) h =
     let m : n * 10 + (b - 48) < 128 ^ suc k = omega (arith, h, p, q, pow-succ' 128 k) in
     let r = digits-below (suc k) (n * 10 + (b - 48)) g m in
@@ -72,12 +72,14 @@ digits-below k n (span.also {b = b} {l = l} (json.digit p q) g) h =
     rw e at r
 
 number-shorter : {b : ℕ} {l : List ℕ} → All json.Digit (b ∷ l) → length (uleb (numberOf (b ∷ l))) ≤ suc (length l)
-number-shorter {b} {l} g = length-uleb (length l) (numberOf (b ∷ l)) (digits-below 0 0 g (omega arith))
+number-shorter {b} {l} g =
+    let e : 0 + length (b ∷ l) ≡ suc (length l) = omega arith in
+    length-uleb (length l) (numberOf (b ∷ l)) (subst (λ (j : ℕ). numberOf (b ∷ l) < 128 ^ j) e (digits-below 0 0 g (omega arith)))
 
 -- ---- an item with the comma or the bracket behind it
 
 -- the sum over a list
-total : {A : Type 0} → (A → ℕ) → List A → ℕ
+abbrev total : {A : Type 0} → (A → ℕ) → List A → ℕ
 total w [] = 0
 total w (x ∷ l) = w x + total w l
 
@@ -125,7 +127,7 @@ elements-shorter (t ∷ ts) (also h k) = omega (arith, element-shorter t h, elem
 
 total-short : (ts : Tag) (n : ℕ) → total (λ (t : Text). length t + 3) ts ≤ n → n ≤ 65_536 → Short ts
 total-short [] n h k = none
-total-short (t ∷ ts) n h k = also (omega arith) (total-short ts n (omega arith) k)
+total-short (t ∷ ts) n h k = also {t = t} (omega arith) (total-short ts n (omega arith) k)
 
 text-item : {v : json.Json} {t : Text} {l : List ℕ} → IsText v t → json.Spells v l → length t + 3 ≤ length l + 1
 text-item (is-text g) (json.is-string q) = omega (arith, chars-shorter g, quoted-shorter q)
@@ -206,8 +208,8 @@ found-item (y ∷ f) (suc k) x h = omega (arith, found-item f k x h)
 
 members-shorter : {m : json.Members} {l : List ℕ} {f g : Fields} → json.SpellsMembers m l → Tracks f m g → length l ≤ 65_536
     → total taken g ≤ total taken f + length l
-members-shorter {f = f} (json.last-member h) (then {x = x} i y no-more) n = omega (arith, member-item y h n, found-item f _ x i)
-members-shorter {f = f} (json.more-members {l = l} {r = r} h (json.separator {w = w} {x = z} p q) hs) (then {x = x} i y t) n =
+members-shorter {f = f} (json.last-member h) (then {x = x} c i y no-more) n = omega (arith, member-item y h n, found-item f _ x i)
+members-shorter {f = f} (json.more-members {l = l} {r = r} h (json.separator {w = w} {x = z} p q) hs) (then {x = x} d i y t) n =
     let a = length-append l ((w ++ (0x2C ∷ z)) ++ r) in
     let b = length-append (w ++ (0x2C ∷ z)) r in
     omega (arith, member-item y h (omega (arith, a, n)), found-item f _ x i, members-shorter hs t (omega (arith, a, b, n)), a, b)
@@ -226,11 +228,11 @@ object-shorter {e = e} (json.is-object {w = w} {l = l} {x = x} p h q) i n =
     omega (arith, pack-taken e, members-shorter h (event-tracks i) (omega (arith, a, b, n)), a, b)
 
 -- THE room: the strict form is no longer than the text
-pub shorter : {s : List ℕ} {e : Event} → readJson s ≡ shown e → length (pack e) ≤ length s
-shorter {s} {e} r = let u = sound r in go (u .text) (u .event) (u .short)
+pub shorter : (s : List ℕ) (e : Event) → readJson s ≡ shown e → length (pack e) ≤ length s
+shorter s e r = let u = sound r in go (u .text) (u .event) (u .short)
   where
     go : {v : json.Json} {s : List ℕ} → json.Text v s → IsEvent v e → length s ≤ 65_536 → length (pack e) ≤ length s
     go (json.text {w = w} {l = l} {x = x} p h q) i n = let a = length-append w (l ++ x) in let b = length-append l x in omega (arith, object-shorter h i (omega (arith, a, b, n)), a, b)
 
-pub nson-shorter : {s : List ℕ} {e : Event} → readNson s ≡ shown e → length (pack e) ≤ length s
-nson-shorter {s} {e} r = shorter (both-accept s e r)
+pub nson-shorter : (s : List ℕ) (e : Event) → readNson s ≡ shown e → length (pack e) ≤ length s
+nson-shorter s e r = shorter s e (both-accept s e r)

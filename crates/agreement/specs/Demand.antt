@@ -28,7 +28,7 @@ NeverTwo = (s : List ℕ) (a b : Event) → readNson s ≡ shown a → readJson 
 abbrev pub BothAccept : Type 0
 BothAccept = (s : List ℕ) (e : Event) → readNson s ≡ shown e → readJson s ≡ shown e
 
--- "the plain JSON reader, which ignores that field": another value in the nson field, and it shows the same event
+-- "the plain JSON reader, which ignores that field": with another value there, with the field added or without it, it shows the same event
 abbrev pub FieldIgnored : Type 0
 FieldIgnored =
     (s t : List ℕ) (m k : json.Members) (e : Event) → json.Text (json.object m) s → json.Text (json.object k) t → OtherField m k → length t ≤ 65_536

@@ -68,7 +68,7 @@ module _ {A : Type 0} {Is : json.Json → A → Type 0} (one : (v : json.Json) (
   array-one (is-array g) (is-array h) = each-one g h
 
 -- a name has one list of values
-values-one : {t : Text} {m : json.Members} {k l : List json.Json} → Values t m k → Values t m l → k ≡ l
+pub values-one : {t : Text} {m : json.Members} {k l : List json.Json} → Values t m k → Values t m l → k ≡ l
 values-one no-value no-value = refl
 values-one (named {v = v} c p) (named d q) = ap (λ (r : List json.Json). v ∷ r) (values-one p q)
 values-one (named c p) (other d x q) = absurd (x (chars-one d c))

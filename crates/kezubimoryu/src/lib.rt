@@ -197,7 +197,12 @@ pub extern "C" fn kez_json_read(text: &[u8], out: &mut [u8]) -> KezAnswer
 
 // The plain JSON reader's refusal; else 1 where it alone shows the event, 2 where the NSON reader shows it too.
 #[no_mangle]
-pub extern "C" fn kez_read_both(text: &[u8], first: &mut [u8], second: &mut [u8], written: &mut u64) -> KezAnswer
+pub extern "C" fn kez_read_both(
+    text: &[u8],
+    first: &mut [u8],
+    second: &mut [u8],
+    written: &mut u64,
+) -> KezAnswer
     ensures { λ a. ⌜ (a .refusal, a .value) ≡ twoNumbers (andThen (both (now (text .entry)) (now (first .entry)) (now (second .entry))) (λ c. shown (c .which))) ⌝ }
     ensures { λ _. ⌜ now (written .exit) ≡ told (both (now (text .entry)) (now (first .entry)) (now (second .entry))) (λ c. c .len) (now (written .entry)) ⌝ }
     ensures { λ _. ⌜ now (first .exit) ≡ bothFirst (now (text .entry)) (now (first .entry)) (now (second .entry)) ⌝ }
