@@ -8,8 +8,6 @@ pub mod Entries
 pub mod Agree
 pub mod Shorter
 pub mod Ignored
-pub mod Numbers
-pub mod NumbersWhole
 pub mod Room
 pub mod Writer
 pub mod OneField

@@ -31,7 +31,7 @@ use Rattle.json.specs.Object.{Fields, noFields, isMissing, field, readJson}
 use Rattle.json.proofs.Says.{FieldSays, id-says, pubkey-says, sig-says, time-says, kind-says, tags-says, content-says, ignored-says, fieldsOf}
 use Rattle.json.proofs.Tracks.{Tracks, no-more, then, event-tracks, no-event}
 use Rattle.json.proofs.Whole.{Shows, sound}
-use Rattle.nson.specs.Read.{readNson}
+use Rattle.agreement.specs.Demand.{TextEnough}
 use Rattle.agreement.proofs.Agree.{both-accept}
 
 -- ---- a text is no longer than its spelling. General: belongs to crate jsontext
@@ -227,12 +227,13 @@ object-shorter {e = e} (json.is-object {w = w} {l = l} {x = x} p h q) i n =
     let b = length-append l (x ++ (0x7D ∷ [])) in
     omega (arith, pack-taken e, members-shorter h (event-tracks i) (omega (arith, a, b, n)), a, b)
 
--- THE room: the strict form is no longer than the text
-pub shorter : (s : List ℕ) (e : Event) → readJson s ≡ shown e → length (pack e) ≤ length s
+-- the strict form is no longer than the text
+shorter : (s : List ℕ) (e : Event) → readJson s ≡ shown e → length (pack e) ≤ length s
 shorter s e r = let u = sound r in go (u .text) (u .event) (u .short)
   where
     go : {v : json.Json} {s : List ℕ} → json.Text v s → IsEvent v e → length s ≤ 65_536 → length (pack e) ≤ length s
     go (json.text {w = w} {l = l} {x = x} p h q) i n = let a = length-append w (l ++ x) in let b = length-append l x in omega (arith, object-shorter h i (omega (arith, a, b, n)), a, b)
 
-pub nson-shorter : (s : List ℕ) (e : Event) → readNson s ≡ shown e → length (pack e) ≤ length s
-nson-shorter s e r = shorter s e (both-accept s e r)
+-- THE room: nor where the NSON reader shows it, since then the plain JSON reader does
+pub text-enough : TextEnough
+text-enough s e = ((λ r. shorter s e r), (λ r. shorter s e (both-accept s e r)))

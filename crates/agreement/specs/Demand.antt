@@ -62,6 +62,10 @@ SameNeed = (s : List ℕ) (n : ℕ) → OnlyRoom s n → (d : List ℕ) → leng
 abbrev pub NeedEnough : Type 0
 NeedEnough = (s : List ℕ) (n : ℕ) → OnlyRoom s n → (d : List ℕ) → n ≤ length d → (nsonReads s d ≡ shown n) × (jsonReads s d ≡ shown n)
 
+-- "Room is enough when the lent buffer is no shorter than the bytes to be written" (document 01): a buffer as long as the text always is
+abbrev pub TextEnough : Type 0
+TextEnough = (s : List ℕ) (e : Event) → (readJson s ≡ shown e → length (pack e) ≤ length s) × (readNson s ≡ shown e → length (pack e) ≤ length s)
+
 -- ---- the counts
 
 -- "The NSON reader accepts no string whose nson field holds a count that lies": whatever size and counts the nson field of the accepted
@@ -141,6 +145,7 @@ pub record Demand3 : Type 0 where
   pub given-room : GivenRoom
   pub same-need : SameNeed
   pub need-enough : NeedEnough
+  pub text-enough : TextEnough
   pub no-lie : NoLie
   pub counts-followed : CountsFollowed
   pub writer-writes : WriterWrites
