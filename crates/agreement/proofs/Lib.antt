@@ -13,4 +13,5 @@ pub mod Writer
 pub mod OneField
 pub mod Counts
 pub mod Demand
+pub mod Demand2
 pub mod Example

@@ -1,2 +1,3 @@
 pub mod Counted
 pub mod Demand
+pub mod Demand2
