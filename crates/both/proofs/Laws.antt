@@ -104,9 +104,9 @@ module _ (d₁ d₂ : List ℕ) where
       (rw (v, u) refl, (rw v (short (pack a) d₁ refl h .1), rw u refl))
 
   -- JSON alone
-  alone : {m q : ℕ} (e : Event) → length (pack e) ≤ length d₂
+  alone : (m q : ℕ) (e : Event) → length (pack e) ≤ length d₂
       → Outcome (refused m q) (shown e) d₁ d₂ (shown (record { which = 1; len = length (pack e) })) d₁ (filled (pack e) d₂)
-  alone e l = rw (le-leb (length (pack e)) (length d₂) l) (refl, (refl, refl))
+  alone m q e l = rw (le-leb (length (pack e)) (length d₂) l) (refl, (refl, refl))
 
   -- both write: what they wrote decides
   fitting : (a e : Event) (t : Bool) → length (pack a) ≤ length d₁ → length (pack e) ≤ length d₂
@@ -146,7 +146,7 @@ module _ (s d₁ d₂ : List ℕ) {j : Answer ℕ} (e : j ≡ jsonNeeds s) where
         go : (z : Event) → readJson s ≡ shown z → n ≡ length (pack z) → readNson s ≡ refused m p → y ≡ jsonLeaves s d₂
             → (shown (record { which = 1; len = n }) ≡ both s d₁ d₂) × ((d₁ ≡ bothFirst s d₁ d₂) × (y ≡ bothSecond s d₁ d₂))
         go z shows len u w =
-            let v = alone d₁ d₂ {m = m} {q = p} z (omega arith) in
+            let v = alone d₁ d₂ m p z (omega arith) in
             (rw (u, shows, len) (v .0), (rw (u, shows) (v .1 .0), w ∙ rw (u, shows) (v .1 .1)))
 
     module _ {m : ℕ} (h : x ≡ shown m) where
@@ -174,7 +174,7 @@ module _ (s d₁ d₂ : List ℕ) {j : Answer ℕ} (e : j ≡ jsonNeeds s) where
           go : (b a : Event) → readJson s ≡ shown b → readNson s ≡ shown a → n ≡ length (pack b) → m ≡ length (pack a)
               → (shown (record { which = pick t 2 1; len = n }) ≡ both s d₁ d₂) × ((y ≡ bothFirst s d₁ d₂) × (z ≡ bothSecond s d₁ d₂))
           go b a by-json by-nson len size =
-              let v = fitting d₁ d₂ a b t (omega arith) (omega arith) (rw (← size, ← len, ← by-nson, ← by-json) c) in
+              let v = fitting d₁ d₂ a b t (omega arith) (omega arith) (rw (size, len, by-nson, by-json) at c) in
               (rw (by-nson, by-json, len) (v .0), (w ∙ rw (by-nson, by-json) (v .1 .0), q ∙ rw (by-nson, by-json) (v .1 .1)))
 
 -- ---- which answers there are, by demand 3
@@ -194,12 +194,12 @@ both-or-refused s d₁ d₂ {a} {c} h k =
 
 -- where it refuses, the answer is 1 or a refusal
 pub alone-or-refused : (s d₁ d₂ : List ℕ) {n p : ℕ} {c : Compared} → readNson s ≡ refused n p → both s d₁ d₂ ≡ shown c → c .which ≡ 1
-alone-or-refused s d₁ d₂ {c = c} h k = by (readJson s) (rw h at k)
+alone-or-refused s d₁ d₂ {n} {p} {c} h k = by n p (readJson s) (rw h at k)
   where
     go : (x : ℕ) (t : Bool) → pick t (shown (record { which = 1; len = x })) (refused 11 x) ≡ shown c → c .which ≡ 1
     go x true e = sym (ap (λ (x : Compared). x .which) (shown-same e))
     go x false e = clash e
 
-    by : (r : Answer Event) {m q : ℕ} → bothOf (refused m q) r d₁ d₂ ≡ shown c → c .which ≡ 1
-    by (shown z) e = go (length (pack z)) (leb (length (pack z)) (length d₂)) e
-    by (refused m q) e = clash e
+    by : (m q : ℕ) (r : Answer Event) → bothOf (refused m q) r d₁ d₂ ≡ shown c → c .which ≡ 1
+    by m q (shown z) e = go (length (pack z)) (leb (length (pack z)) (length d₂)) e
+    by m q (refused k x) e = clash e
