@@ -1,6 +1,7 @@
 pub mod Names
 pub mod Says
 pub mod Tracks
+pub mod Closing
 pub mod OneEvent
 pub mod FieldSound
 pub mod FieldComplete

@@ -7,11 +7,10 @@ use lib.ListN.{length, take, drop}
 use lib.Dec.{eqb}
 use Rattle.scan.specs.Choice.{pick}
 use Rattle.hex.specs.Hex.{unhex}
-use Rattle.event.specs.Event.{Tag}
+use Rattle.event.specs.Event.{Tag, Event}
 use Rattle.notepack.specs.Strict.{pack}
 use Rattle.strict.specs.Copy.{orElse}
 use Rattle.json.specs.Field.{textOf, insideAt, tagAt, Value, missing, bytes, number, tags, text}
-use Rattle.json.specs.Object.{eventOf}
 use Rattle.jsontext.specs.declared.Spelled.{Spelled}
 use Rattle.jsonread.specs.declared.Spot.{Spot}
 use Rattle.jsonread.specs.declared.TextRead.{TextRead}
@@ -58,6 +57,19 @@ fieldsOf s f =
     ∷ says 5 s (f .tags)
     ∷ says 6 s (f .content)
     ∷ []
+
+-- the event that seven found fields say: each part stands at its own spot
+unfoldable pub eventBy : List ℕ → Fields → Event
+eventBy s f =
+    record {
+      id = unhex (textOf s (partOf (f .id)));
+      pubkey = unhex (textOf s (partOf (f .pubkey)));
+      sig = unhex (textOf s (partOf (f .sig)));
+      createdAt = f .«created_at» .number;
+      kind = f .kind .number;
+      tags = tagsFrom s (f .tags .from);
+      content = textOf s (partOf (f .content));
+    }
 
 -- ---- fields by number
 
@@ -129,8 +141,8 @@ pub data FieldsGood (s : List ℕ) : FieldsRead → Type 0 where
 
 -- An object that was read: the second pass writes the strict form of the event that its fields say, and it has the length that was measured.
 pub record Packs (s : List ℕ) (f : Fields) : Type 0 where
-  pub writes : fieldsText s f ≡ pack (eventOf (fieldsOf s f))
-  pub len : measured f ≡ length (pack (eventOf (fieldsOf s f)))
+  pub writes : fieldsText s f ≡ pack (eventBy s f)
+  pub len : measured f ≡ length (pack (eventBy s f))
   pub most : measured f ≤ 7 * (length s + 2_560_010)
 
 pub data ObjectGood (s : List ℕ) : FieldsRead → Type 0 where
