@@ -152,7 +152,7 @@ not-first false x e = (refl, e)
 
 -- a field that is known and found
 weighed : {s : List ℕ} {k : ℕ} {p : Spot} → Known s k p → eqb (p .from) 0 ≡ false → Weighs s k p
-weighed {p = p} (not-yet z) e = absurd (eqb-false (p .from) 0 e z)
+weighed {p = p} (not-yet z) e = absurd (eqb-false (p .from) 0 e (ap (λ (q : Spot). q .from) z))
 weighed (known w) e = w
 
 pub record AllWeigh (s : List ℕ) (f : Fields) : Type 0 where
@@ -214,6 +214,8 @@ packs-all s f g e =
     seven-long (packValue (saysAs 0 s (f .id))) (packValue (saysAs 1 s (f .pubkey))) (packValue (saysAs 2 s (f .sig))) (packValue (saysAs 3 s (f .«created_at»)))
     (packValue (saysAs 4 s (f .kind))) (packValue (saysAs 6 s (f .content))) (packValue (saysAs 5 s (f .tags))) in
     record {
+      all = e;
+      each = g;
       writes = pack-said s f w;
       len =
           sym
