@@ -8,4 +8,5 @@ pub mod FieldComplete
 pub mod ObjectSound
 pub mod ObjectComplete
 pub mod Whole
+pub mod Telling
 pub mod Example

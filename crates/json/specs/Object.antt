@@ -109,3 +109,7 @@ wholeAt s =
 -- the event that a text shows, or the refusal: 1 first of all
 unfoldable pub readJson : List ℕ → Answer Event
 readJson s = pick (leb (length s) 65_536) (wholeAt s) (refused 1 0)
+
+-- the numbers that it refuses with (document 01, "Plain JSON reader")
+abbrev pub jsonNumbers : List ℕ
+jsonNumbers = 1 ∷ 5 ∷ 6 ∷ 7 ∷ 8 ∷ 9 ∷ 10 ∷ 12 ∷ 14 ∷ 15 ∷ 16 ∷ 18 ∷ []
