@@ -6,7 +6,7 @@ use mathlib.Core.Bool.{true}
 use mathlib.Core.List.{List, [], _∷_, _++_, append-assoc}
 use lib.ListN.{length, getD, set}
 use lib.Dec.{eqb}
-use Rattle.scan.specs.Choice.{pick, refused, read}
+use Rattle.scan.specs.Choice.{pick, Answer, refused, Read, read}
 use Rattle.scan.specs.Span.{Span, here}
 use Rattle.scan.proofs.SpanLaws.{join, bite}
 use Rattle.scan.proofs.Reading.{Reads, reads, fails, pick-reads, then-reads, from-reads}
@@ -17,9 +17,10 @@ use Rattle.jsontext.proofs.TokenLaws.{bind, space-consumes}
 use Rattle.jsontext.proofs.FirstByte.{begins-member, some-bytes}
 use Rattle.json.specs.Meaning.{IsEvent}
 use Rattle.json.specs.Field.{Value, fieldOf}
-use Rattle.json.specs.Object.{Fields, noFields, isMissing, field, colonAt, memberAt, noneMissing, eventOf, closeAt, afterMember, membersAt, insideAt, objectAt}
-use Rattle.json.proofs.Says.{FieldSays}
+use Rattle.json.specs.Object.{Fields, noFields, isMissing, field, colonAt, memberAt, afterMember, membersAt, insideAt, objectAt}
+use Rattle.json.proofs.Says.{FieldSays, Holds}
 use Rattle.json.proofs.Tracks.{Tracks, no-more, then, tracks-event}
+use Rattle.json.proofs.Closing.{Closes, closes, lacks, close-told}
 use Rattle.json.proofs.FieldSound.{Saying, saying, Quotes, quotes, text-consumes, field-says, says-bytes}
 
 -- ---- a member
@@ -64,15 +65,16 @@ member-some f s a q = go (rw q at (member-consumes f s a))
 
 -- ---- members up to the closing brace
 
--- members that are tracked from f on, behind which none of the seven is missing
+-- members that are tracked from f on, and leave the fields of an event
 data MembersTo (f : Fields) : Event → List ℕ → Type 0 where
-  members-to : {m : json.Members} {l w : List ℕ} {g : Fields} → json.SpellsMembers m l → json.Ws w → Tracks f m g → noneMissing g ≡ true
-      → MembersTo f (eventOf g) (l ++ (w ++ (0x7D ∷ [])))
+  members-to : {m : json.Members} {l w : List ℕ} {g : Fields} {e : Event} → json.SpellsMembers m l → json.Ws w → Tracks f m g → Holds g e
+      → MembersTo f e (l ++ (w ++ (0x7D ∷ [])))
 
 module _ (s : List ℕ) (a : ℕ) where
-  last-member : {f g : Fields} {l w : List ℕ} {e : ℕ} → MemberTo f g l → json.Ws w → Span s a (l ++ (w ++ (0x7D ∷ []))) e → noneMissing g ≡ true
-      → Reads (MembersTo f) s a (read (eventOf g) e)
-  last-member {e = e} (member-to g z i y) h r n = reads {e = e} (members-to (json.last-member g) h (then z i y no-more) n) r
+  last-member : {f g : Fields} {l w : List ℕ} {p : ℕ} {r : Answer (Read Event)} → MemberTo f g l → json.Ws w → Span s a (l ++ (w ++ (0x7D ∷ []))) (p + 1)
+      → Closes g p r → Reads (MembersTo f) s a r
+  last-member {p = p} (member-to g z i y) h r (closes n) = reads {e = p + 1} (members-to (json.last-member g) h (then z i y no-more) n) r
+  last-member y h r lacks = fails
 
   one-more : {f g : Fields} {l c m : List ℕ} {d : Event} {e : ℕ} → MemberTo f g l → json.Separator 0x2C c → MembersTo g d m → Span s a (l ++ (c ++ m)) e
       → Reads (MembersTo f) s a (read d e)
@@ -80,7 +82,7 @@ module _ (s : List ℕ) (a : ℕ) where
       reads {e = e} (members-to (json.more-members g k gs) h (then z i y t) n) (simp append-assoc r)
 
 members-consume : (fuel : ℕ) (f : Fields) (s : List ℕ) (a : ℕ) → Reads (MembersTo f) s a (membersAt fuel f s a)
-unfolding membersAt afterMember closeAt
+unfolding membersAt afterMember
 members-consume zero f s a = fails
 members-consume (suc fuel) f s a =
     then-reads (λ m. afterMember (membersAt fuel (m .value) s) (m .value) s (spaceAt s (m .next))) (member-consumes f s a)
@@ -89,7 +91,7 @@ members-consume (suc fuel) f s a =
     (λ w h q.
     let p = spaceAt s e in
     pick-reads (eqb (getD s p 0) 0x7D)
-    (λ t. pick-reads (noneMissing g) (last-member s a y h (join r (join q (bite 0x7D refl t here)))) (λ u. fails))
+    (λ t. last-member s a y h (join r (join q (bite 0x7D refl t here))) (close-told g p))
     (λ u.
     pick-reads (eqb (getD s p 0) 0x2C)
     (λ t.

@@ -1,24 +1,23 @@
 -- `Tracks f m g`: behind the members m the fields f have become g. So it is exactly if each of the seven stands once in m, having been missing, or not at all (`Found`).
 -- Both directions by induction over the members, for every field number at once.
-use Prim.Native.Nat.{ℕ, zero, suc, _<_, _≤_}
+use Prim.Native.Nat.{ℕ, _<_, _≤_}
 use mathlib.Core.Path.{_≡_, refl, sym, ap, _∙_}
-use mathlib.Core.Bool.{Bool, true, false}
+use mathlib.Core.Bool.{true, false}
 use mathlib.Core.List.{List, [], _∷_}
 use mathlib.Core.Logic.{dite}
 use native.Mathlib.Omega.{arith}
 use native.Mathlib.Decide.{decLt, ℕ-discrete}
 use lib.ListN.{length, set, length-set, List·getD-eq-default}
 use lib.Seq.{ext-getD, getD-set-same, getD-set-other}
-use Rattle.scan.specs.Choice.{pick}
 use Rattle.scan.proofs.Step.{false-true}
 use Rattle.event.specs.Event.{Text, Event}
 use Rattle.jsontext.specs.Grammar as json
 use Rattle.jsontext.proofs.Meaning.{unescape-chars}
 use Rattle.json.specs.Meaning.{Values, no-value, named, other, Once, once, Shallow, no-member, known, ignored, IsEvent, is-event}
 use Rattle.json.specs.Field.{Value, missing, fieldOf}
-use Rattle.json.specs.Object.{Fields, noFields, isMissing, field, noneMissing, eventOf}
+use Rattle.json.specs.Object.{Fields, noFields, isMissing, field}
 use Rattle.json.proofs.Names.{name, by-seven, name-number, number-name, known-number, number-known}
-use Rattle.json.proofs.Says.{FieldSays, ignored-says, says-some, says-shallow, fieldsOf, says-all, all-says}
+use Rattle.json.proofs.Says.{FieldSays, ignored-says, says-some, says-shallow, fieldsOf, Holds, holds, says-all, all-says}
 
 -- a name that was missing before its member, and what its value says
 pub data Tracks : Fields → json.Members → Fields → Type 0 where
@@ -165,40 +164,27 @@ found-tracks (json.member n v m) f g l l₂ w a =
 
 -- ---- from no field on to an event
 
--- general: belongs to crate scan (crate hex has it for itself)
-not-first : (t x : Bool) → pick t false x ≡ true → (t ≡ false) × (x ≡ true)
-not-first true x h = absurd (false-true h)
-not-first false x h = (refl, h)
-
-none-missing : (f : Fields) (k : ℕ) → noneMissing f ≡ true → k < length f → isMissing (field f k) ≡ false
-unfolding noneMissing
-none-missing [] k t h = absurd (omega arith)
-none-missing (x ∷ f) zero t h = not-first (isMissing x) (noneMissing f) t .0
-none-missing (x ∷ f) (suc k) t h = none-missing f k (not-first (isMissing x) (noneMissing f) t .1) (omega arith)
-
 no-field : (k : ℕ) → k < 7 → field noFields k ≡ missing
 no-field = by-seven (λ (k : ℕ). field noFields k ≡ missing) refl refl refl refl refl refl refl
 
--- members behind which no field is missing are an event
-pub tracks-event : {m : json.Members} {g : Fields} → Tracks noFields m g → noneMissing g ≡ true → IsEvent (json.Json.object m) (eventOf g)
-tracks-event {m} {g} t n =
-    let y = all-says g (λ k h. said h (tracks-found h refl t)) in
+-- the fields of an event are not missing
+some-field : (e : Event) (k : ℕ) → k < 7 → isMissing (field (fieldsOf e) k) ≡ false
+some-field e = by-seven (λ (k : ℕ). isMissing (field (fieldsOf e) k) ≡ false) refl refl refl refl refl refl refl
+
+-- members that leave an event's fields are that event
+pub tracks-event : {m : json.Members} {g : Fields} {e : Event} → Tracks noFields m g → Holds g e → IsEvent (json.Json.object m) e
+tracks-event {m} {g} {e} t (holds q) =
+    let y = all-says e (λ k h. rw (q k h) at (said h (tracks-found h refl t))) in
     is-event (y .0) (y .1) (tracks-shallow t)
   where
     said : {k : ℕ} → k < 7 → Found k noFields m g → Once m (name k) (FieldSays k) (field g k)
-    said {k} h (kept e q) =
-        let z = none-missing g k n (omega (arith, tracks-length t)) in
-        absurd (false-true (sym z ∙ ap isMissing (q ∙ no-field k h)))
+    said {k} h (kept v z) = absurd (false-true (sym (some-field e k h) ∙ ap isMissing (sym (q k h) ∙ z ∙ no-field k h)))
     said h (came z o) = o
 
 -- and the members of an event leave its fields
 pub event-tracks : {m : json.Members} {e : Event} → IsEvent (json.Json.object m) e → Tracks noFields m (fieldsOf e)
 event-tracks {m} {e} (is-event y v w) =
     found-tracks m noFields (fieldsOf e) refl refl w (λ k h. came (ap isMissing (no-field k h)) (says-all y v k h))
-
-pub fields-there : (e : Event) → noneMissing (fieldsOf e) ≡ true
-unfolding noneMissing
-fields-there e = refl
 
 -- an object with no member is no event
 pub no-event : {e : Event} → IsEvent (json.Json.object json.no-member) e → ⊥
