@@ -27,14 +27,8 @@ reads-layout : ReadsLayout
 reads-layout s bytes e =
     ((λ r. let h = sound s bytes e r in (h .lays, h .valid, h .short)), (λ h. complete s e (h .0) (h .1) (h .2)))
 
-one-laid-out : OneLaidOut
-one-laid-out s d e n g v h w = shown-same (sym (complete s d g v n) ∙ complete s e h w n)
-
 writes-strict : WritesStrict
 writes-strict s d e r h = fits pack d r h
-
-reads-again : ReadsAgain
-reads-again s bytes e r = let h = sound s bytes e r in reads-back e (h .valid) (omega (arith, h .least, h .short))
 
 -- six items between brackets, with all brackets to the right
 items-right : (key time kind tags content : List ℕ)
@@ -60,7 +54,8 @@ pub demand-2 : Demand2
 demand-2 =
     record {
       reads-layout = reads-layout;
-      one-laid-out = one-laid-out;
+      one-laid-out = λ s d e g h v w. one-event g h v w;
+      views-event = seen;
       writes-strict = writes-strict;
       one-strict = equal-exactly;
       reads-again = reads-again;

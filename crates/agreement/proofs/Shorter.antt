@@ -1,13 +1,11 @@
 -- The strict form of the event of a JSON text is no longer than the text: a reader that is lent as many bytes as the text has never lacks room.
 -- Piece by piece: a text is no longer than its spelling, an element than its string with a comma, a field than its member; then over the members.
-use Prim.Native.Nat.{ℕ, zero, suc, _+_, _*_, _-_, _/_, _^_, _<_, _≤_}
+use Prim.Native.Nat.{ℕ, zero, suc, _+_, _*_, _-_, _^_, _<_, _≤_}
 use mathlib.Core.Path.{_≡_, refl, sym, ap, _∙_, subst}
 use mathlib.Core.Bool.{Bool, true, false}
 use mathlib.Core.List.{List, [], _∷_, _++_}
 use native.Mathlib.Omega.{arith}
-use mathlib.Core.Logic.{dite}
 use native.Mathlib.Nat.{pow-succ'}
-use native.Mathlib.Decide.{decLt}
 use lib.ListN.{length, set, length-append}
 use Rattle.scan.specs.Choice.{pick, shown}
 use Rattle.scan.specs.Span.{All}
@@ -17,7 +15,7 @@ use Rattle.utf8.proofs.EncodeLaws.{encode-length}
 use Rattle.utf8.specs.Encode.{Scalar, above}
 use Rattle.utf8.specs.Utf8 as utf8
 use Rattle.varint.specs.Uleb.{uleb}
-use Rattle.varint.proofs.UlebLaws.{length-last, length-more}
+use Rattle.varint.proofs.UlebLaws.{length-uleb}
 use Rattle.hex.specs.Hex.{unhex, goesAsBytes, hexes}
 use Rattle.hex.proofs.Texts.{length-unhex, length-hexes}
 use Rattle.decimal.specs.Decimal.{behind, numberOf}
@@ -54,14 +52,6 @@ quoted-shorter : {l q : List ℕ} → json.Quoted l q → length q ≡ length l 
 quoted-shorter (json.quoted {l = l} g) = omega (arith, length-append l (0x22 ∷ []))
 
 -- ---- a number is no longer than its digits
-
-length-uleb : (k n : ℕ) → n < 128 ^ suc k → length (uleb n) ≤ suc k
-length-uleb zero n h = omega (arith, length-last n h)
-length-uleb (suc k) n h =
-    dite (decLt n 128) (λ p. omega (arith, length-last n p))
-    (λ q.
-    let t : n / 128 < 128 ^ suc k = omega (arith, h, pow-succ' 128 (suc k)) in
-    omega (arith, length-more n (omega (arith, q)), length-uleb k (n / 128) t))
 
 digits-below : (k n : ℕ) {l : List ℕ} → All json.Digit l → n < 128 ^ k → behind n l < 128 ^ (k + length l)
 digits-below k n span.none h = subst (λ (j : ℕ). n < 128 ^ j) (omega arith) h

@@ -16,6 +16,7 @@ use Rattle.jsontext.specs.Grammar as json
 use Rattle.notepack.specs.Layout.{Lays}
 use Rattle.notepack.specs.Strict.{pack}
 use Rattle.notepack.specs.Unpack.{unpack}
+use Rattle.notepack.specs.Seen.{Seen}
 use Rattle.strict.specs.Strict.{strict}
 use Rattle.tagtext.specs.TagText.{tagsText}
 use Rattle.canonical.specs.Canonical.{canonical}
@@ -31,7 +32,11 @@ ReadsLayout = (s : List ℕ) → IsBytes s → (e : Event) → (unpack s ≡ sho
 
 -- one byte string lays out at most one valid event
 abbrev pub OneLaidOut : Type 0
-OneLaidOut = (s : List ℕ) (d e : Event) → length s ≤ 65_536 → Lays d s → Valid d → Lays e s → Valid e → d ≡ e
+OneLaidOut = (s : List ℕ) (d e : Event) → Lays d s → Lays e s → Valid d → Valid e → d ≡ e
+
+-- what is asked of the bytes is what that event has: its numbers, its content, the texts of its tags
+abbrev pub ViewsEvent : Type 0
+ViewsEvent = (s : List ℕ) → IsBytes s → (e : Event) → unpack s ≡ shown e → Seen s e
 
 -- "and writing an event gives the one strict form": given room its length, its bytes from the start of d, and behind them d as it was
 abbrev pub WritesStrict : Type 0
@@ -95,6 +100,7 @@ OneMeaning = (v : json.Json) (d e : Event) → IsEvent v d → IsEvent v e → d
 pub record Demand2 : Type 0 where
   pub reads-layout : ReadsLayout
   pub one-laid-out : OneLaidOut
+  pub views-event : ViewsEvent
   pub writes-strict : WritesStrict
   pub one-strict : OneStrict
   pub reads-again : ReadsAgain

@@ -9,18 +9,18 @@ ghost use mathlib.Core.Path.{_≡_};
 ghost use mathlib.Core.List.{[]};
 ghost use lib.ListN.{length};
 ghost use lib.Dec.{eqb};
-ghost use Rattle.scan.specs.Choice.{pick, shown, andThen};
+ghost use Rattle.scan.specs.Choice.{pick};
 ghost use Rattle.store.specs.Store.{Wrote};
-ghost use Rattle.store.specs.Entry.{writes, leaves};
 ghost use Rattle.hex.specs.Hex.{unhex};
-ghost use Rattle.notepack.specs.Strict.{packElement, pack};
+ghost use Rattle.notepack.specs.Strict.{packElement};
 ghost use Rattle.jsontext.specs.Block.{specialOf, PlainTo};
 ghost use Rattle.jsontext.specs.Token.{spaceAt};
 ghost use Rattle.jsontext.specs.Text.{stringAt};
 ghost use Rattle.jsontext.specs.Value.{valueAt};
 ghost use Rattle.json.specs.Field.{missing, bytes, number, tags, text, under, textOf, textAt, isHexOf, hexAt, wholeOf, insideAt, tagAt, tagsAt, fieldOf, fieldAt};
 ghost use Rattle.json.specs.Field.{wholeAt};
-ghost use Rattle.json.specs.Object.{noFields, colonAt, memberAt, membersAt, objectAt, readJson};
+ghost use Rattle.json.specs.Object.{noFields, colonAt, memberAt, membersAt, objectAt};
+ghost use Rattle.json.specs.Entries.{jsonReads, jsonLeaves, jsonNeeds};
 ghost use Rattle.json.specs.Object as object;
 ghost use Rattle.jsonread.specs.Run.{plainRun};
 ghost use Rattle.jsonread.specs.Size.{elementSize, tagSize, sized};
@@ -1093,8 +1093,8 @@ fn whole_text(s: &[u8]) -> FieldsRead
 
 // The event that a plain JSON text shows, in strict form from the start of the lent buffer; or the refusal, 11 with the length needed.
 pub fn read_json(s: &[u8], out: &mut [u8]) -> JsonRead
-    ensures { λ r. ⌜ jsonRead r ≡ writes pack (readJson (now (s .entry))) (now (out .entry)) ⌝ }
-    ensures { λ _. ⌜ now (out .exit) ≡ leaves pack (readJson (now (s .entry))) (now (out .entry)) ⌝ }
+    ensures { λ r. ⌜ jsonRead r ≡ jsonReads (now (s .entry)) (now (out .entry)) ⌝ }
+    ensures { λ _. ⌜ now (out .exit) ≡ jsonLeaves (now (s .entry)) (now (out .entry)) ⌝ }
 {
     if s.len() > event::MAX_INPUT {
         return JsonRead::Refused(Refusal {
@@ -1120,7 +1120,7 @@ pub fn read_json(s: &[u8], out: &mut [u8]) -> JsonRead
 
 // The length that the event of a plain JSON text takes in strict form, or the refusal.
 pub fn json_len(s: &[u8]) -> JsonRead
-    ensures { λ r. ⌜ jsonRead r ≡ andThen (readJson (now (s .entry))) (λ e. shown (length (pack e))) ⌝ }
+    ensures { λ r. ⌜ jsonRead r ≡ jsonNeeds (now (s .entry)) ⌝ }
 {
     if s.len() > event::MAX_INPUT {
         return JsonRead::Refused(Refusal {
