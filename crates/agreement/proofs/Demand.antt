@@ -4,6 +4,7 @@ use Rattle.agreement.specs.Demand.{Demand3}
 use Rattle.agreement.proofs.Agree.{never-two, both-accept}
 use Rattle.agreement.proofs.Ignored.{field-ignored}
 use Rattle.agreement.proofs.Room.{given-room, same-need, need-enough}
+use Rattle.agreement.proofs.Shorter.{text-enough}
 use Rattle.agreement.proofs.Counts.{no-lie, counts-followed}
 use Rattle.agreement.proofs.Writer.{writer-writes, or-nothing, writer-refusals, read-back}
 
@@ -17,6 +18,7 @@ demand-3 =
       given-room = given-room;
       same-need = same-need;
       need-enough = need-enough;
+      text-enough = text-enough;
       no-lie = no-lie;
       counts-followed = counts-followed;
       writer-writes = writer-writes;

@@ -19,7 +19,8 @@ use Rattle.jsontext.specs.Token.{isSpace, spaceAt, wordAt, isDigit, digitsOr, m
 use Rattle.jsontext.specs.Text.{charsAt, stringAt}
 use Rattle.jsontext.specs.Value as value
 use Rattle.jsontext.specs.Grammar as json
-use Rattle.json.specs.Meaning.{contentName, valuesOf, Once, once}
+use Rattle.json.specs.Meaning.{contentName, Values, Once, once}
+use Rattle.json.proofs.OneEvent.{values-one}
 use Rattle.json.specs.Field.{textAt, isHexOf, hexAt, digitsOnly, wholeOf, wholeAt, afterItem, itemsAt, insideAt, arrayAt, oneOrMore, tagAt, tagsAt, indexIn, fieldOf, fieldAt}
 use Rattle.json.specs.Object as object
 use Rattle.nson.specs.Nson.{Counts, headText, bodyText, nson}
@@ -59,12 +60,12 @@ spelled = json.string (0x61 ∷ 0x5C ∷ 0x22 ∷ 0x62 ∷ [])
 string-long : {l : List ℕ} {n : ℕ} → StringOf (json.string l) n → length l ≡ n
 string-long string-of = refl
 
-pub example-false : (m : json.Members) (size : ℕ) (c : Counts) → valuesOf contentName m ≡ spelled ∷ [] → c .content ≡ 3 → TrueCounts m size c → ⊥
+pub example-false : (m : json.Members) (size : ℕ) (c : Counts) → Values contentName m (spelled ∷ []) → c .content ≡ 3 → TrueCounts m size c → ⊥
 example-false m size c h n t = go (t .content)
   where
     go : Once m contentName StringOf (c .content) → ⊥
     go (once {v = v} e g) =
-        let f : v ∷ [] ≡ spelled ∷ [] = sym e ∙ h in
+        let f : v ∷ [] ≡ spelled ∷ [] = values-one e h in
         let same : v ≡ spelled = cc in
         let k = string-long (rw same at g) in
         omega arith

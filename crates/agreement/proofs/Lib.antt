@@ -1,13 +1,13 @@
 pub mod Texts
+pub mod Naming
 pub mod Spelled
 pub mod Tree
 pub mod Written
 pub mod Means
 pub mod Entries
 pub mod Agree
+pub mod Shorter
 pub mod Ignored
-pub mod Numbers
-pub mod NumbersWhole
 pub mod Room
 pub mod Writer
 pub mod OneField

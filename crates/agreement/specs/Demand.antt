@@ -13,7 +13,8 @@ use Rattle.json.specs.Object.{readJson}
 use Rattle.nson.specs.Nson.{Counts, nson}
 use Rattle.nson.specs.Carries.{Carries}
 use Rattle.nson.specs.Read.{byteHere, countsAt, readNson}
-use Rattle.agreement.specs.Entries.{nsonReads, nsonLeaves, jsonReads, jsonLeaves, nsonWrites, writerLeaves}
+use Rattle.json.specs.Entries.{jsonReads, jsonLeaves}
+use Rattle.nson.specs.Entries.{nsonReads, nsonLeaves, nsonWrites, writerLeaves}
 use Rattle.agreement.specs.Counted.{OtherField, TrueCounts, FieldHolds}
 
 -- ---- the readers
@@ -27,7 +28,7 @@ NeverTwo = (s : List ℕ) (a b : Event) → readNson s ≡ shown a → readJson 
 abbrev pub BothAccept : Type 0
 BothAccept = (s : List ℕ) (e : Event) → readNson s ≡ shown e → readJson s ≡ shown e
 
--- "the plain JSON reader, which ignores that field": another value in the nson field, and it shows the same event
+-- "the plain JSON reader, which ignores that field": with another value there, with the field added or without it, it shows the same event
 abbrev pub FieldIgnored : Type 0
 FieldIgnored =
     (s t : List ℕ) (m k : json.Members) (e : Event) → json.Text (json.object m) s → json.Text (json.object k) t → OtherField m k → length t ≤ 65_536
@@ -60,6 +61,10 @@ SameNeed = (s : List ℕ) (n : ℕ) → OnlyRoom s n → (d : List ℕ) → leng
 -- and that length is enough for either
 abbrev pub NeedEnough : Type 0
 NeedEnough = (s : List ℕ) (n : ℕ) → OnlyRoom s n → (d : List ℕ) → n ≤ length d → (nsonReads s d ≡ shown n) × (jsonReads s d ≡ shown n)
+
+-- "Room is enough when the lent buffer is no shorter than the bytes to be written" (document 01): a buffer as long as the text always is
+abbrev pub TextEnough : Type 0
+TextEnough = (s : List ℕ) (e : Event) → (readJson s ≡ shown e → length (pack e) ≤ length s) × (readNson s ≡ shown e → length (pack e) ≤ length s)
 
 -- ---- the counts
 
@@ -140,6 +145,7 @@ pub record Demand3 : Type 0 where
   pub given-room : GivenRoom
   pub same-need : SameNeed
   pub need-enough : NeedEnough
+  pub text-enough : TextEnough
   pub no-lie : NoLie
   pub counts-followed : CountsFollowed
   pub writer-writes : WriterWrites

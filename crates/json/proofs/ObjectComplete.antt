@@ -12,7 +12,6 @@ use Rattle.scan.proofs.SpanLaws.{cut, close-span, span-length, span-fits}
 use Rattle.scan.proofs.Reading.{read-same}
 use Rattle.event.specs.Event.{Event}
 use Rattle.jsontext.specs.Grammar as json
-use Rattle.jsontext.specs.Escape.{unescape}
 use Rattle.jsontext.specs.Token.{spaceAt}
 use Rattle.jsontext.proofs.TokenLaws.{Stop, stop-brace, space-accepts}
 use Rattle.jsontext.proofs.FirstByte.{first-at, begins-value, begins-members}
@@ -25,14 +24,14 @@ use Rattle.json.proofs.Tracks.{Tracks, no-more, then, no-event, event-t
 use Rattle.json.proofs.FieldComplete.{quoted-accepts, field-accepts}
 
 -- a member whose name was missing is read, and its field is remembered
-member-accepts : (f : Fields) {n : List ℕ} {v : json.Json} {x : Value} {s l : List ℕ} {a c : ℕ} → json.SpellsMember n v l → isMissing (field f (fieldOf (unescape n))) ≡ true
-    → FieldSays (fieldOf (unescape n)) v x → Span s a l c → Stop (getD s c 0) → memberAt f s a ≡ read (set f (fieldOf (unescape n)) x) c
+member-accepts : (f : Fields) {n t : List ℕ} {v : json.Json} {x : Value} {s l : List ℕ} {a c : ℕ} → json.SpellsMember n v l → json.Chars n t
+    → isMissing (field f (fieldOf t)) ≡ true → FieldSays (fieldOf t) v x → Span s a l c → Stop (getD s c 0) → memberAt f s a ≡ read (set f (fieldOf t) x) c
 unfolding memberAt colonAt
-member-accepts f (json.is-member {q = q} {c = c} g k v) i y r st =
+member-accepts f (json.is-member {q = q} {c = c} g k v) d i y r st =
     let u = cut q r in
     let w = cut c (u .2) in
     let z = separator-accepts 0x3A colon-solid k (w .1) (first-at (begins-value v) (w .2) .solid) in
-    rw (quoted-accepts g (u .1), i, z .1, z .2, z .3, field-accepts y v (w .2) st)
+    rw (quoted-accepts g d (u .1), i, z .1, z .2, z .3, field-accepts y v (w .2) st)
 
 -- ---- members up to the closing brace
 
@@ -55,14 +54,14 @@ separator-some (json.separator {w = w} {x = x} g h) = simp length-append (omega 
 
 members-accept : {m : json.Members} {f g : Fields} {s l : List ℕ} {a b c : ℕ} (k : ℕ) → json.SpellsMembers m l → Tracks f m g → noneMissing g ≡ true → Span s a l b
     → Stop (getD s b 0) → spaceAt s b ≡ c → getD s c 0 ≡ 0x7D → length l < k → membersAt k f s a ≡ read (eventOf g) (c + 1)
-members-accept {f = f} {g = g} {s = s} {a = a} {b = b} {c = c} k (json.last-member y) (then i z no-more) n r st e o h =
-    member-last s f g k a b c (omega arith) (member-accepts f y i z r st) e o n
-members-accept {f = f} {g = g} {s = s} {a = a} {c = c} k (json.more-members {l = l} {c = m} {r = r} y q ys) (then {n = t} {x = x} i z p) n v st e o h =
+members-accept {f = f} {g = g} {s = s} {a = a} {b = b} {c = c} k (json.last-member y) (then d i z no-more) n r st e o h =
+    member-last s f g k a b c (omega arith) (member-accepts f y d i z r st) e o n
+members-accept {f = f} {g = g} {s = s} {a = a} {c = c} k (json.more-members {l = l} {c = m} {r = r} y q ys) (then {t = t} {x = x} j i z p) n v st e o h =
     let u = cut l v in
     let w = cut m (u .2) in
     let d = separator-accepts 0x2C comma-solid q (w .1) (first-at (begins-members ys) (w .2) .solid) in
-    member-more s f (set f (fieldOf (unescape t)) x) _ k (length r) a (u .0) (d .0) (w .0) (omega (arith, simp length-append at h, separator-some q))
-    (member-accepts f y i z (u .1) (separator-stop q (w .1))) (d .1) (d .2) (d .3)
+    member-more s f (set f (fieldOf t) x) _ k (length r) a (u .0) (d .0) (w .0) (omega (arith, simp length-append at h, separator-some q))
+    (member-accepts f y j i z (u .1) (separator-stop q (w .1))) (d .1) (d .2) (d .3)
     (λ j h. members-accept j ys p n (w .2) st e o h)
 
 -- ---- the object
