@@ -1,4 +1,5 @@
-//! The Rust declarations, linked and called: the sentences of all refusals are printed, to be compared with the header's.
+//! The Rust declarations, linked and called: the sentences of all refusals are printed, to be compared with the
+//! header's.
 #[path = "kezubimoryu.rs"]
 mod kezubimoryu;
 use kezubimoryu::*;

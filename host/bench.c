@@ -1,8 +1,9 @@
 /* Nanoseconds for a call of each entry on its records: the library as linked, host/reference by its shared library
- * (first word), a plain memcpy, the JSON parsers of the shared library of host/peers.cc (second word, `-`: none), and a program that takes
- * `--bench ENTRY FILE N` (third word, may be missing). The parsers take the text that kez_json_read takes, and only parse it.
- * The table is gone through several times and the best figure of each kept, so that a busy moment of the machine does
- * not count. It goes to standard output, and its figures line by line to target/host/bench.tsv. Built with -DKIND_.. as the driver. */
+ * (first word), a plain memcpy, the JSON parsers of the shared library of host/peers.cc (second word, `-`: none), and
+ * a program that takes `--bench ENTRY FILE N` (third word, may be missing). The parsers take the text that
+ * kez_json_read takes, and only parse it. The table is gone through several times and the best figure of each kept, so
+ * that a busy moment of the machine does not count. It goes to standard output, and its figures line by line to
+ * target/host/bench.tsv. Built with -DKIND_.. as the driver. */
 #define _GNU_SOURCE
 #include "kezubimoryu.h"
 

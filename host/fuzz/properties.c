@@ -1,6 +1,6 @@
 /* The properties, and the lent buffers that are watched. Built with -DKIND_.. for each kind of host/kinds.
- * Every buffer that is lent ends at a page that can't be touched, or starts behind one, by turns; on its other side stand bytes
- * that are looked at after the call, and so are the bytes of the buffer itself that the call must leave. */
+ * Every buffer that is lent ends at a page that can't be touched, or starts behind one, as the dice fall; on its other
+ * side stand bytes that are looked at after the call, and so are the bytes of the buffer that the call must leave. */
 #define _GNU_SOURCE
 #include "properties.h"
 
