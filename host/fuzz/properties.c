@@ -1,6 +1,6 @@
 /* The properties, and the lent buffers that are watched. Built with -DKIND_.. for each kind of host/kinds.
- * Every buffer that is lent ends at a page that can't be touched, or starts behind one, by turns; on its other side stand bytes
- * that are looked at after the call, and so are the bytes of the buffer itself that the call must leave. */
+ * Every buffer that is lent ends at a page that can't be touched, or starts behind one, as the dice fall; on its other
+ * side stand bytes that are looked at after the call, and so are the bytes of the buffer that the call must leave. */
 #define _GNU_SOURCE
 #include "properties.h"
 
@@ -268,6 +268,7 @@ static void as_packed(const uint8_t *data, size_t len)
 #ifdef KIND_canonical
     write_with(&canonical_text, CANONICAL, kez_canonical_write);
     must(!read.refusal || same(read, canonical_text.answer), "refuses otherwise than the reader");
+    must(read.refusal || canonical_text.answer.value <= 3 * len, "writes more than three times what was packed");
 #endif
 #ifdef KIND_nson_write
     static result text;
@@ -324,18 +325,23 @@ static void both_readers(void)
     current = READ_BOTH;
     lend_room(&out_first, rooms[0]);
     lend_room(&out_second, rooms[1]);
-    kez_answer a = checked(kez_read_both(lent(&in_first), in_first.len, lent(&out_first), rooms[0], lent(&out_second), rooms[1]));
-    kez_answer wanted = {0, (uint64_t)(json + nson)};
-    if (in_first.len > KEZ_MOST)
-        wanted = (kez_answer){1, 0};
-    else if ((json && rooms[1] < need) || (nson && rooms[0] < need))
+    lend_numbers(1);
+    kez_answer a = checked(kez_read_both(lent(&in_first), in_first.len, lent(&out_first), rooms[0], lent(&out_second), rooms[1],
+                                         number(0)));
+    kez_answer wanted = by_json.answer;
+    if (json && (rooms[1] < need || (nson && rooms[0] < need)))
         wanted = (kez_answer){11, need};
+    else if (json)
+        wanted = (kez_answer){0, nson ? 2 : 1};
     must(same(a, wanted), "disagrees with the readers");
-    unchanged(&out_first, !a.refusal && a.value == 2 ? need : 0, "changes what it must leave of the first buffer");
-    unchanged(&out_second, !a.refusal && a.value ? need : 0, "changes what it must leave of the second buffer");
-    if (!a.refusal && a.value)
-        must(!memcmp(out_second.at, by_json.bytes, need), "leaves another event than the JSON reader");
-    if (!a.refusal && a.value == 2)
+    unchanged(&out_first, !a.refusal && nson ? need : 0, "changes what it must leave of the first buffer");
+    unchanged(&out_second, !a.refusal ? need : 0, "changes what it must leave of the second buffer");
+    unchanged(&number_buffer, !a.refusal ? 8 : 0, "changes a number that it must leave");
+    if (a.refusal)
+        return;
+    must(*number(0) == need, "tells another length");
+    must(!memcmp(out_second.at, by_json.bytes, need), "leaves another event than the JSON reader");
+    if (nson)
         must(!memcmp(out_first.at, by_json.bytes, need), "leaves two events");
 }
 #endif
@@ -345,9 +351,11 @@ static void as_text(const uint8_t *data, size_t len)
     lend_input(&in_first, data, len, first_copy);
 #ifdef KIND_nson_read
     write_with(&by_nson, NSON_READ, kez_nson_read);
+    must(by_nson.answer.refusal || by_nson.answer.value <= len, "leaves a strict form that is longer than its text");
 #endif
 #ifdef KIND_json_read
     write_with(&by_json, JSON_READ, kez_json_read);
+    must(by_json.answer.refusal || by_json.answer.value <= len, "leaves a strict form that is longer than its text");
 #ifdef KIND_nson_read
     must(by_nson.answer.refusal || leaves(&by_json, by_nson.bytes, by_nson.answer.value), "shows another event than the NSON reader");
 #endif
