@@ -73,7 +73,8 @@ module _ {A : Type 0} (item : ℕ → Answer (Read A)) (s : List ℕ) where
   unfolding itemsAt afterItem
   item-more left a b c d e x xs i f g h r = rw (i, f, g, h, r)
 
-each-some : {A : Type 0} {Is : json.Json → A → Type 0} {i : json.Items} {xs : List A} {l : List ℕ} → json.SpellsItems i l → Each Is i xs → 1 ≤ length xs
+-- an array that has an item says something
+pub each-some : {A : Type 0} {Is : json.Json → A → Type 0} {i : json.Items} {xs : List A} {l : List ℕ} → json.SpellsItems i l → Each Is i xs → 1 ≤ length xs
 each-some (json.last-item g) (also y r) = omega arith
 each-some (json.more-items g c gs) (also y r) = omega arith
 

@@ -5,7 +5,7 @@ use mathlib.Core.Path.{_≡_, refl}
 use mathlib.Core.Bool.{true, false}
 use mathlib.Core.List.{List, [], _∷_, _++_, append-assoc}
 use native.Mathlib.Omega.{arith}
-use lib.ListN.{length, getD, take, drop}
+use lib.ListN.{length, getD, take, drop, length-append}
 use lib.Seq.{take-at}
 use lib.Dec.{leb, eqb}
 use borrow.Author.Tests.{leb-true, eqb-true, eqb-false}
@@ -28,7 +28,7 @@ use Rattle.jsontext.proofs.TokenLaws.{bind, space-consumes, number-consumes}
 use Rattle.jsontext.proofs.TextLaws.{StringAt, string-is, string-consumes, quoted-part}
 use Rattle.jsontext.proofs.FirstByte.{begins-value, some-bytes}
 use Rattle.jsontext.proofs.ValueSound.{Some, some, value-consumes}
-use Rattle.jsontext.proofs.Meaning.{unescape-chars, chars-utf8}
+use Rattle.jsontext.proofs.Meaning.{unescape-chars, chars-utf8, chars-same}
 use Rattle.json.specs.Meaning.{IsText, is-text, IsHex, is-hex, IsNumber, is-number, Each, none, also, IsArray, is-array, IsTag}
 use Rattle.json.specs.Field.{textOf, textAt, isHexOf, hexAt, digitsOnly, wholeOf, wholeAt, afterItem, itemsAt, insideAt, arrayAt, oneOrMore, tagAt, tagsAt, Value, missing, bytes, number, tags, text, under, fieldAt}
 use Rattle.json.proofs.Says.{FieldSays, id-says, pubkey-says, sig-says, time-says, kind-says, tags-says, content-says, ignored-says}
@@ -234,6 +234,13 @@ says-bytes (reads (saying g y) r) = some-bytes (begins-value g) r
 
 pub text-some : (s : List ℕ) (a : ℕ) {e : ℕ} {t : Text} → textAt s a ≡ read t e → (a < e) × (e ≤ length s)
 text-some s a f = says-bytes (rw f at (text-says s a))
+
+-- a text is at most as long as the bytes between its quotes
+pub text-shorter : (s : List ℕ) (a : ℕ) {e : ℕ} {t : Text} → textAt s a ≡ read t e → a + length t + 2 ≤ e
+text-shorter s a f = go (rw f at (text-consumes s a))
+  where
+    go : {e : ℕ} {t : Text} → Reads Quotes s a (read t e) → a + length t + 2 ≤ e
+    go (reads (quotes (json.quoted {l = l} d) c) r) = omega (arith, span-length r, length-append l (0x22 ∷ []), chars-same c .0)
 
 pub tag-some : (s : List ℕ) (a : ℕ) {e : ℕ} {t : Tag} → tagAt s a ≡ read t e → (a < e) × (e ≤ length s)
 tag-some s a f = says-bytes (rw f at (tag-says s a))

@@ -9,4 +9,5 @@ pub mod ObjectSound
 pub mod ObjectComplete
 pub mod Whole
 pub mod Telling
+pub mod Refusals
 pub mod Example

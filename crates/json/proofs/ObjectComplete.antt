@@ -53,7 +53,8 @@ module _ (s : List ℕ) (f g : Fields) where
 separator-some : {k : ℕ} {l : List ℕ} → json.Separator k l → 1 ≤ length l
 separator-some (json.separator {w = w} {x = x} g h) = simp length-append (omega arith)
 
-members-accept : {m : json.Members} {f g : Fields} {X : Answer (Read Event)} {s l : List ℕ} {a b c : ℕ} (k : ℕ) → json.SpellsMembers m l → Tracks f m g
+-- members that are tracked are read up to the closing brace, where the fields that they leave decide
+pub members-accept : {m : json.Members} {f g : Fields} {X : Answer (Read Event)} {s l : List ℕ} {a b c : ℕ} (k : ℕ) → json.SpellsMembers m l → Tracks f m g
     → closeAt g c ≡ X → Span s a l b → Stop (getD s b 0) → spaceAt s b ≡ c → getD s c 0 ≡ 0x7D → length l < k → membersAt k f s a ≡ X
 members-accept {f = f} {g = g} {s = s} {a = a} {b = b} {c = c} k (json.last-member y) (then d i z no-more) n r st e o h =
     member-last s f g _ k a b c (omega arith) (member-accepts f y d i z r st) e o n

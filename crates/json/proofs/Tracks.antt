@@ -168,7 +168,7 @@ no-field : (k : ℕ) → k < 7 → field noFields k ≡ missing
 no-field = by-seven (λ (k : ℕ). field noFields k ≡ missing) refl refl refl refl refl refl refl
 
 -- the fields of an event are not missing
-some-field : (e : Event) (k : ℕ) → k < 7 → isMissing (field (fieldsOf e) k) ≡ false
+pub some-field : (e : Event) (k : ℕ) → k < 7 → isMissing (field (fieldsOf e) k) ≡ false
 some-field e = by-seven (λ (k : ℕ). isMissing (field (fieldsOf e) k) ≡ false) refl refl refl refl refl refl refl
 
 -- members that leave an event's fields are that event
