@@ -19,7 +19,7 @@ use Rattle.nson.specs.Carries.{Carries}
 use Rattle.nson.specs.Read.{readNson}
 use Rattle.nson.proofs.Sound.{accepted, field-true, size-true}
 use Rattle.agreement.specs.Counted.{nsonName, StringOf, string-of, number-of, TrueCounts, FieldHolds}
-use Rattle.agreement.specs.Demand.{NoLie, CountsFollowed}
+use Rattle.agreement.specs.Demand3.{NoLie, CountsFollowed}
 use Rattle.agreement.proofs.Spelled.{items}
 use Rattle.agreement.proofs.Tree.{textTree, tagTree, members, tree}
 use Rattle.agreement.proofs.Naming.{plain-values}

@@ -12,7 +12,7 @@ use Rattle.json.proofs.Tracks.{chars-one}
 use Rattle.json.proofs.Whole.{sound, complete}
 use Rattle.json.proofs.OneEvent.{one-value}
 use Rattle.agreement.specs.Counted.{nsonName, OtherField, ended, kept, removed, added}
-use Rattle.agreement.specs.Demand.{FieldIgnored}
+use Rattle.agreement.specs.Demand3.{FieldIgnored}
 
 -- a name other than `nson` has the same values
 same-values : {m k : json.Members} {t : Text} {l : List json.Json} → (nsonName ≡ t → ⊥) → OtherField m k → Values t m l → Values t k l

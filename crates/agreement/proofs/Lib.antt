@@ -12,6 +12,6 @@ pub mod Room
 pub mod Writer
 pub mod OneField
 pub mod Counts
-pub mod Demand
+pub mod Demand3
 pub mod Demand2
 pub mod Example

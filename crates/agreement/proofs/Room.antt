@@ -9,7 +9,7 @@ use Rattle.scan.specs.Choice.{shown}
 use Rattle.event.specs.Event.{Event}
 use Rattle.notepack.specs.Strict.{pack}
 use Rattle.nson.specs.Read.{readNson}
-use Rattle.agreement.specs.Demand.{GivenRoom, OnlyRoom, had, SameNeed, NeedEnough}
+use Rattle.agreement.specs.Demand3.{GivenRoom, OnlyRoom, had, SameNeed, NeedEnough}
 use Rattle.agreement.proofs.Entries.{wrote, lacked, fits, lacks, left}
 use Rattle.agreement.proofs.Agree.{both-accept}
 use Rattle.nson.proofs.Telling.{nson-tells}

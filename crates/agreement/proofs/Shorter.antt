@@ -29,7 +29,7 @@ use Rattle.json.specs.Object.{Fields, noFields, isMissing, field, readJson}
 use Rattle.json.proofs.Says.{FieldSays, id-says, pubkey-says, sig-says, time-says, kind-says, tags-says, content-says, ignored-says, fieldsOf}
 use Rattle.json.proofs.Tracks.{Tracks, no-more, then, event-tracks, no-event}
 use Rattle.json.proofs.Whole.{Shows, sound}
-use Rattle.agreement.specs.Demand.{TextEnough}
+use Rattle.agreement.specs.Demand3.{TextEnough}
 use Rattle.agreement.proofs.Agree.{both-accept}
 
 -- ---- a text is no longer than its spelling. General: belongs to crate jsontext

@@ -238,8 +238,8 @@ impl Cursor {
             len: t.len,
             hollow: t.hollow,
         };
-        let mut left = count;
-        while 0 < left {
+        let mut tags = count;
+        while 0 < tags {
             let found = c.pass_tag(s, sum);
             match found {
                 Pass::Done(u, next) => {
@@ -248,7 +248,7 @@ impl Cursor {
                         hollow: u.hollow,
                     };
                     c = next;
-                    left -= 1;
+                    tags -= 1;
                 }
                 Pass::Refused(r) => return Pass::Refused(r),
             }

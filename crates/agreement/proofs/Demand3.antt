@@ -1,6 +1,6 @@
 -- Demand 3, whole.
 -- Each sentence by its own law.
-use Rattle.agreement.specs.Demand.{Demand3}
+use Rattle.agreement.specs.Demand3.{Demand3}
 use Rattle.agreement.proofs.Agree.{never-two, both-accept}
 use Rattle.agreement.proofs.Ignored.{field-ignored}
 use Rattle.agreement.proofs.Room.{given-room, same-need, need-enough}

@@ -1,4 +1,4 @@
--- Demand 3, sentence by sentence: each formal line stands under the words that it is of. `proofs/Demand` proves them all. Assumes nothing.
+-- Demand 3, sentence by sentence: each formal line stands under the words that it is of. `proofs/Demand3` proves them all. Assumes nothing.
 use Prim.Native.Nat.{ℕ, _<_, _≤_}
 use mathlib.Core.Path.{_≡_}
 use mathlib.Core.List.{List, _++_}
