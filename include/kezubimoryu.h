@@ -33,8 +33,9 @@ extern "C" {
 
 /* What every entry answers.
  * refusal is 0, and value is what the entry says below; or refusal is a number from 1 to 19, and value is its place.
- * On a refusal every lent buffer and number is as it was. After success the bytes behind the written length are as
- * they were. Refusal 11, a lent buffer is too short, comes after all others; its value is the length needed. */
+ * So refusal alone tells success. On a refusal every lent buffer and number is as it was. After success the bytes
+ * behind the written length are as they were. Refusal 11, a lent buffer is too short, comes after all others; its value
+ * is the length needed. Every other place lies in the input or at its end. */
 typedef struct {
     uint64_t refusal;
     uint64_t value;
@@ -42,6 +43,7 @@ typedef struct {
 
 /* Reads a packed event and leaves its five numbers: seconds, kind, where the content stands in packed, its length, and
  * the number of tags. Longer varints than needed are read too. An empty content stands just behind its length.
+ * Refusals: 1 to 10.
  * value: 0 */
 kez_answer kez_notepack_read(const uint8_t *packed, size_t packed_len,
                              uint64_t *created_at, uint64_t *kind,
@@ -92,15 +94,16 @@ kez_answer kez_nson_write(const uint8_t *packed, size_t packed_len,
                           uint8_t *out, size_t out_len);
 
 /* Reads NSON by the counts in its nson field, and leaves the event in out in strict form. A count that lies is refused.
- * What this reader accepts kez_json_read accepts too, with the same bytes and the same length needed. Room of text_len
- * bytes is always enough.
+ * What this reader accepts kez_json_read accepts too, with the same bytes and the same length needed.
+ * Refusals: 1, 5, 6, 9, 10, 12, 13, 14; then 11. Room of text_len bytes is always enough.
  * value: the length written */
 kez_answer kez_nson_read(const uint8_t *text, size_t text_len,
                          uint8_t *out, size_t out_len);
 
 /* Reads an event as plain JSON (RFC 8259), its seven fields in any order and once each, and leaves it in out in strict
  * form. A missing field is refused; nothing is filled in. Fields of other names are ignored, the nson field among them:
- * a count that lies there is no matter to this reader. Room of text_len bytes is always enough.
+ * a count that lies there is no matter to this reader.
+ * Refusals: 1, 5 to 10, 12, 14, 15, 16, 18; then 11. Room of text_len bytes is always enough.
  * value: the length written */
 kez_answer kez_json_read(const uint8_t *text, size_t text_len,
                          uint8_t *out, size_t out_len);

@@ -120,11 +120,30 @@ static void unchanged(const buffer *b, size_t written, const char *what)
     must(!memcmp(b->from, b->old, before) && !memcmp(b->from + behind, b->old + behind, b->len + BESIDE - behind), what);
 }
 
+/* The refusals that the header allows each entry, one bit for each number. */
+enum { PACKED_ONES = 0x7fe, ROOM = 1 << 11, NO_SUCH = 1 << 19, NOT_CARRIED = 1 << 17 };
+static const uint32_t allowed[ENTRIES] = {
+    [READ] = PACKED_ONES,
+    [STRICT] = PACKED_ONES,
+    [PACK] = PACKED_ONES | ROOM,
+    [TAG_LEN] = PACKED_ONES | NO_SUCH,
+    [ELEMENT] = PACKED_ONES | NO_SUCH,
+    [CANONICAL] = PACKED_ONES | ROOM,
+    [NSON_WRITE] = PACKED_ONES | NOT_CARRIED | ROOM,
+    [NSON_READ] = 1 << 1 | 1 << 5 | 1 << 6 | 1 << 9 | 1 << 10 | 1 << 12 | 1 << 13 | 1 << 14 | ROOM,
+    [JSON_READ] = 1 << 1 | 0x7e0 | 1 << 12 | 1 << 14 | 1 << 15 | 1 << 16 | 1 << 18 | ROOM,
+    [READ_BOTH] = 1 << 1 | 0x7e0 | 1 << 12 | 1 << 14 | 1 << 15 | 1 << 16 | 1 << 18 | ROOM,
+    [RIVALS] = PACKED_ONES,
+};
+
 /* What holds of every answer. */
 static kez_answer checked(kez_answer a)
 {
     unchanged(&in_first, 0, "changes its input");
     must(a.refusal <= 19, "has a refusal that does not exist");
+    must(!a.refusal || (allowed[current] >> a.refusal & 1), "has a refusal of another entry");
+    size_t longest = current == RIVALS && in_second.len > in_first.len ? in_second.len : in_first.len;
+    must(!a.refusal || a.refusal == 11 || a.value <= longest, "has a place that is not in the input");
     if (answered)
         answered(current, a.refusal, a.value);
     return a;
