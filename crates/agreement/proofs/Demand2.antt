@@ -1,11 +1,9 @@
 -- Demand 2, whole.
 -- Each sentence by the laws of the crate that it is about.
-use mathlib.Core.Path.{_≡_, sym, _∙_}
+use mathlib.Core.Path.{_≡_}
 use Prim.Native.Nat.{ℕ}
 use mathlib.Core.List.{List, [], _∷_, _++_, append-assoc}
 use mathlib.Core.Bool.{true}
-use native.Mathlib.Omega.{arith}
-use lib.ListN.{length}
 use Rattle.hex.specs.Hex.{hexes}
 use Rattle.decimal.specs.Decimal.{decimal}
 use Rattle.escape.specs.Escape.{canonicalByte, escaped}
@@ -14,13 +12,13 @@ use Rattle.tagtext.proofs.Texts.{hexes-stand}
 use Rattle.canonical.specs.Canonical.{canonical}
 use Rattle.notepack.specs.Strict.{pack}
 use Rattle.notepack.proofs.Sound.{sound}
-use Rattle.notepack.proofs.Complete.{complete}
-use Rattle.notepack.proofs.StrictLaws.{reads-back, equal-exactly}
+use Rattle.notepack.proofs.Complete.{complete, one-event}
+use Rattle.notepack.proofs.StrictLaws.{reads-again, equal-exactly}
+use Rattle.notepack.proofs.Seen.{seen}
 use Rattle.strict.proofs.Laws.{strict-exactly}
 use Rattle.json.proofs.Whole as whole
 use Rattle.json.proofs.OneEvent.{one-value, event-one}
-use Rattle.nson.proofs.Pieces.{shown-same}
-use Rattle.agreement.specs.Demand2.{ReadsLayout, OneLaidOut, WritesStrict, ReadsAgain, CanonicalText, WritesCanonical, ReadsJson, Demand2}
+use Rattle.agreement.specs.Demand2.{ReadsLayout, WritesStrict, CanonicalText, WritesCanonical, ReadsJson, Demand2}
 use Rattle.agreement.proofs.Entries.{fits}
 
 reads-layout : ReadsLayout
@@ -58,7 +56,7 @@ demand-2 =
       views-event = seen;
       writes-strict = writes-strict;
       one-strict = equal-exactly;
-      reads-again = reads-again;
+      reads-again = λ s bytes e r. reads-again s e r bytes;
       strict-question = strict-exactly;
       canonical-text = canonical-text;
       writes-canonical = writes-canonical;

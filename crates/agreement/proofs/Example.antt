@@ -50,7 +50,7 @@ abbrev lying : List ℕ
 lying = headText event ++ hexes (0x08 ∷ 0x01 ∷ 0x00 ∷ 0x03 ∷ 0x00 ∷ []) ++ bodyText event
 
 pub example-lying : (object.readJson lying ≡ shown event) × (readNson lying ≡ refused 13 353)
-unfolding headText bodyText escaped nsonByte decimal decimalIn tagsText object.readJson object.wholeAt object.objectAt object.insideAt object.membersAt object.afterMember object.closeAt object.eventOf object.noneMissing object.memberAt object.colonAt fieldAt fieldOf indexIn tagsAt tagAt oneOrMore arrayAt insideAt itemsAt afterItem wholeAt wholeOf digitsOnly hexAt isHexOf textAt value.valueAt value.walkAt value.walkBy value.valueBy charsAt stringAt isSpace spaceAt wordAt isDigit digitsOr minusAt signAt intAt fracAt isE expAt numberFrom unsignedFrom numberAt letterOf letterEscape escapeAt orItself unescaped unescape sameText valueOf unhex allDigits widthAt within run runAt standsAt begins encode
+unfolding headText bodyText escaped nsonByte decimal decimalIn tagsText object.readJson object.wholeAt object.objectAt object.insideAt object.membersAt object.afterMember object.closeAt object.memberAt object.colonAt fieldAt fieldOf indexIn tagsAt tagAt oneOrMore arrayAt insideAt itemsAt afterItem wholeAt wholeOf digitsOnly hexAt isHexOf textAt value.valueAt value.walkAt value.walkBy value.valueBy charsAt stringAt isSpace spaceAt wordAt isDigit digitsOr minusAt signAt intAt fracAt isE expAt numberFrom unsignedFrom numberAt letterOf letterEscape escapeAt orItself unescaped unescape sameText valueOf unhex allDigits widthAt within run runAt standsAt begins encode
 example-lying = (refl, example-refused .0)
 
 -- a\"b between its quotes has four bytes, so a count of three is not true of it
