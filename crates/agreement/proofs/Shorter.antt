@@ -11,9 +11,6 @@ use Rattle.scan.specs.Choice.{pick, shown}
 use Rattle.scan.specs.Span.{All}
 use Rattle.scan.specs.Span as span
 use Rattle.scan.proofs.Step.{false-true}
-use Rattle.utf8.proofs.EncodeLaws.{encode-length}
-use Rattle.utf8.specs.Encode.{Scalar, above}
-use Rattle.utf8.specs.Utf8 as utf8
 use Rattle.varint.specs.Uleb.{uleb}
 use Rattle.varint.proofs.UlebLaws.{length-uleb}
 use Rattle.hex.specs.Hex.{unhex, goesAsBytes, hexes}
@@ -21,7 +18,7 @@ use Rattle.hex.proofs.Texts.{length-unhex, length-hexes}
 use Rattle.decimal.specs.Decimal.{behind, numberOf}
 use Rattle.event.specs.Event.{Text, Tag, Event, ValidTag}
 use Rattle.jsontext.specs.Grammar as json
-use Rattle.jsontext.proofs.EscapeLaws.{unit-length}
+use Rattle.jsontext.proofs.Meaning.{chars-same}
 use Rattle.notepack.specs.Strict.{packElement, packElements, packTag, packTags, pack}
 use Rattle.json.specs.Meaning.{IsText, is-text, IsHex, is-hex, IsNumber, is-number, Each, IsArray, is-array, IsTag, IsEvent, is-event}
 use Rattle.json.specs.Field.{Value, missing, bytes, number, tags, text}
@@ -32,22 +29,9 @@ use Rattle.json.proofs.Whole.{Shows, sound}
 use Rattle.agreement.specs.Demand3.{TextEnough}
 use Rattle.agreement.proofs.Agree.{both-accept}
 
--- ---- a text is no longer than its spelling. General: belongs to crate jsontext
+-- ---- a string
 
-char-shorter : {l t : List ℕ} → json.Char l t → length t ≤ length l
-char-shorter (json.unescaped g) = omega arith
-char-shorter (json.letter g) = omega arith
-char-shorter (json.unicode g s) = omega (arith, unit-length g, encode-length s .1)
-char-shorter (json.pair {l = l} {m = m} {u = u} {v = v} g (utf8.octet a b) h (utf8.octet c d)) =
-    let e : Scalar (json.paired u v) = above {n = json.paired u v} (omega arith) (omega arith) in
-    omega (arith, unit-length g, unit-length h, length-append l m, encode-length e .1)
-
-pub chars-shorter : {l t : List ℕ} → json.Chars l t → length t ≤ length l
-chars-shorter json.no-char = omega arith
-chars-shorter (json.char {c = c} {t = t} {l = l} {r = r} g h) =
-    omega (arith, char-shorter g, chars-shorter h, length-append c l, length-append t r)
-
--- the quotes around it
+-- it has two quotes around it
 quoted-shorter : {l q : List ℕ} → json.Quoted l q → length q ≡ length l + 2
 quoted-shorter (json.quoted {l = l} g) = omega (arith, length-append l (0x22 ∷ []))
 
@@ -120,7 +104,7 @@ total-short [] n h k = none
 total-short (t ∷ ts) n h k = also {t = t} (omega arith) (total-short ts n (omega arith) k)
 
 text-item : {v : json.Json} {t : Text} {l : List ℕ} → IsText v t → json.Spells v l → length t + 3 ≤ length l + 1
-text-item (is-text g) (json.is-string q) = omega (arith, chars-shorter g, quoted-shorter q)
+text-item (is-text g) (json.is-string q) = omega (arith, chars-same g .0, quoted-shorter q)
 
 -- a tag of at most 255 texts
 data Tagged (v : json.Json) (t : Tag) : Type 0 where
@@ -152,7 +136,7 @@ taken (tags l) = length (uleb (length l)) + length (packTags l)
 taken (text t) = length (uleb (length t)) + length t
 
 hex-item : {v : json.Json} {b l : List ℕ} → IsHex v b → json.Spells v l → length b ≤ length l + 1
-hex-item {b = b} (is-hex g) (json.is-string q) = omega (arith, chars-shorter g, quoted-shorter q, length-hexes b)
+hex-item {b = b} (is-hex g) (json.is-string q) = omega (arith, chars-same g .0, quoted-shorter q, length-hexes b)
 
 number-item : {v : json.Json} {n : ℕ} {l : List ℕ} → IsNumber v n → json.Spells v l → length (uleb n) ≤ length l + 1
 number-item (is-number {l = []} g) (json.is-number h) = omega (arith, length-uleb 0 0 (omega arith))
@@ -166,7 +150,7 @@ tags-item {ts = ts} (is-array g) few valid h n =
 
 content-item : {v : json.Json} {t : Text} {l : List ℕ} → IsText v t → json.Spells v l → length l ≤ 65_536 → length (uleb (length t)) + length t ≤ length l + 1
 content-item {t = t} (is-text g) (json.is-string q) n =
-    let a = chars-shorter g in
+    let a = chars-same g .0 in
     let b = quoted-shorter q in
     omega (arith, a, b, length-uleb 2 (length t) (omega (arith, a, b, n)))
 

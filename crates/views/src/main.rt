@@ -1,4 +1,4 @@
-// Two packed records of one length on standard input, one behind the other: what is seen of the first, and which is kept.
+// Two packed records of one length on standard input: what is seen of the first, and which is kept.
 use libc::STDIN_FILENO;
 use libc::STDOUT_FILENO;
 
