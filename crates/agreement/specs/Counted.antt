@@ -1,16 +1,16 @@
 -- The true counts of a JSON text (document 01, "NSON", last paragraph): read off RFC 8259's tree alone, with no reader in it. Assumes nothing.
 use Prim.Native.Nat.{ℕ, _+_, _≤_}
 use mathlib.Core.Path.{_≡_}
-use mathlib.Core.List.{List, [], _∷_}
+use mathlib.Core.List.{List, _∷_}
 use lib.ListN.{length}
+use Rattle.scan.specs.Ascii.{ascii}
 use Rattle.event.specs.Event.{Text}
 use Rattle.jsontext.specs.Grammar as json
 use Rattle.json.specs.Meaning.{kindName, contentName, tagsName, IsHex, IsArray, Once}
 use Rattle.nson.specs.Nson.{Counts, descriptors}
 
--- nson
 abbrev pub nsonName : Text
-nsonName = 0x6E ∷ 0x73 ∷ 0x6F ∷ 0x6E ∷ []
+nsonName = ascii "nson"
 
 -- members that differ in nson fields alone: k is m with some taken away and others put in, wherever they stand. A new one nests at most 16 deep.
 pub data OtherField : json.Members → json.Members → Type 0 where

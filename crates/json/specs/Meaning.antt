@@ -1,9 +1,8 @@
 -- Which event a JSON value is (document 01, "Plain JSON reader"): a statement about RFC 8259's tree alone, with no reader in it. Assumes nothing.
 use Prim.Native.Nat.{ℕ, _≤_}
-use Prim.Native.Char.{code}
-use Prim.Native.String.{String, [] as none-left, _∷_ as _then_}
 use mathlib.Core.Path.{_≡_}
 use mathlib.Core.List.{List, [], _∷_}
+use Rattle.scan.specs.Ascii.{ascii}
 use Rattle.scan.specs.Span.{All}
 use Rattle.hex.specs.Hex.{hexes}
 use Rattle.decimal.specs.Decimal.{numberOf}
@@ -11,11 +10,6 @@ use Rattle.event.specs.Event.{Text, Tag, Event, Valid}
 use Rattle.jsontext.specs.Grammar as json
 
 -- ---- the seven names
-
--- the bytes of an ASCII text
-abbrev pub ascii : String → List ℕ
-ascii none-left = []
-ascii (c then s) = code c ∷ ascii s
 
 abbrev pub idName : Text
 idName = ascii "id"

@@ -32,7 +32,7 @@ use Rattle.notepack.proofs.Sound.{sound}
 use Rattle.notepack.proofs.Seen.{seen}
 use Rattle.notepack.proofs.Viewing.{content-numbers, numbers-event}
 use Rattle.notepack.proofs.Telling.{numbers-tells}
-use Rattle.lister.specs.Listing.{ascii, numbersText, refusalText, listing}
+use Rattle.lister.specs.Listing.{numbersText, refusalText, listing}
 
 -- ---- the lengths
 

@@ -1,17 +1,11 @@
 -- What the lister prints of a packed event (document 01, "Checked examples"): four lines, or the refusal.
 -- Each line is ended by 0A. Assumes nothing.
 use Prim.Native.Nat.{ℕ}
-use Prim.Native.Char.{code}
-use Prim.Native.String.{String, [] as none, _∷_ as _then_}
-use mathlib.Core.List.{List, [], _∷_, _++_}
+use mathlib.Core.List.{List, _++_}
+use Rattle.scan.specs.Ascii.{ascii}
 use Rattle.scan.specs.Choice.{Answer, shown, refused}
 use Rattle.decimal.specs.Decimal.{decimal}
 use Rattle.notepack.specs.declared.Head.{Head}
-
--- the bytes of an ASCII text
-abbrev pub ascii : String → List ℕ
-ascii none = []
-ascii (c then s) = code c ∷ ascii s
 
 -- the content and tags lines give the length and the count
 unfoldable pub numbersText : Head → List ℕ
