@@ -75,7 +75,8 @@ kez_answer kez_notepack_element(const uint8_t *packed, size_t packed_len,
                                 uint64_t *at, uint64_t *len, uint64_t *is_bytes);
 
 /* Which of two packed events is to be kept, if they have the same key: the later, then the one with the lower id, then
- * the first. All refusals of the first input come before those of the second; the place is in the one that is refused.
+ * the first. Bytes that kez_notepack_read refuses get its refusal: all of the first input's come before the second's, and
+ * the place is in the one that is refused.
  * value: 0 not rivals, 1 keep the first, 2 keep the second */
 kez_answer kez_rivals(const uint8_t *first, size_t first_len,
                       const uint8_t *second, size_t second_len);
@@ -109,17 +110,17 @@ kez_answer kez_json_read(const uint8_t *text, size_t text_len,
                          uint8_t *out, size_t out_len);
 
 /* Puts one text to both readers.
- * What kez_json_read refuses gets its refusal (kez_nson_read refuses it too). Then 11 if second is too short for what
- * kez_json_read leaves; then 11 if kez_nson_read accepts the text and first is too short for what that leaves.
- * Otherwise what kez_json_read leaves stands in second, and its length in written. Where kez_nson_read accepts the
- * text, what that leaves stands in first; where it refuses, first is as it was.
+ * What kez_json_read refuses gets its refusal (kez_nson_read refuses it too). Then 11 if json_out is too short for what
+ * kez_json_read leaves; then 11 if kez_nson_read accepts the text and nson_out is too short for what that leaves.
+ * Otherwise what kez_json_read leaves stands in json_out, and its length in written. Where kez_nson_read accepts the
+ * text (value 2), what that leaves stands in nson_out; where it refuses (value 1), nson_out is as it was: don't read it.
  * Room of text_len bytes in each buffer is always enough. Cost: each reader goes through the text twice, once to decide
  * before anything is written and once to write; a call takes up to twice as long as the two readers together.
- * value: 2 both readers show this event, the same bytes in both buffers; 1 the plain JSON reader alone, in second.
+ * value: 2 both readers show this event, the same bytes in both buffers; 1 the plain JSON reader alone, in json_out.
  * That the two show different events is proved not to happen. A desk that takes NSON only asks for value 2. */
 kez_answer kez_read_both(const uint8_t *text, size_t text_len,
-                         uint8_t *first, size_t first_len,
-                         uint8_t *second, size_t second_len,
+                         uint8_t *nson_out, size_t nson_out_len,
+                         uint8_t *json_out, size_t json_out_len,
                          uint64_t *written);
 
 /* A sentence for a number of refusal. The string is a constant: it is never null and never freed. */

@@ -11,7 +11,7 @@ use Rattle.notepack.specs.Strict.{pack}
 use Rattle.json.specs.Object.{readJson}
 use Rattle.nson.specs.Read.{readNson}
 
--- 1: the plain JSON reader shows the event and the NSON reader does not; 2: both show it. And the length of the event's strict form.
+-- 1: the plain JSON reader shows the event and the NSON reader does not (or another, which demand 3 rules out); 2: both show it. And the length of the event's strict form.
 pub record Compared : Type 0 where
   pub which : ℕ
   pub len : ℕ
