@@ -96,7 +96,7 @@ write-keeps text (shown x) d n p = go (leb (length (text x)) (length d)) refl
     go : (t : Bool) → leb (length (text x)) (length d) ≡ t → pick t (shown (length (text x))) (refused 11 (length (text x))) ≡ refused n p → filled (text x) d ≡ d
     go true e h = no-value h
     go false e h = kept (text x) d e
-write-keeps text (refused k q) d n p h = refl
+write-keeps text (refused k q) d n p = λ h. refl
 
 either-way : (t : Bool) {x d : List ℕ} → x ≡ d → pick t x d ≡ d
 either-way true e = e
@@ -113,7 +113,8 @@ both-keeps s d₁ d₂ n p = by (readNson s) (readJson s)
     two a e false u f g h = (refl, either-way u (kept (pack e) d₂ f))
 
     one : (e : Event) (t : Bool) → leb (length (pack e)) (length d₂) ≡ t
-        → pick t (shown (record { which = 1; len = length (pack e) })) (refused 11 (length (pack e))) ≡ refused n p → filled (pack e) d₂ ≡ d₂
+        → pick {A = Answer Compared} t (shown (record { which = 1; len = length (pack e) })) (refused 11 (length (pack e))) ≡ refused n p
+        → filled (pack e) d₂ ≡ d₂
     one e true f h = no-value h
     one e false f h = kept (pack e) d₂ f
 
