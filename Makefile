@@ -14,14 +14,16 @@ test:
 compare:
 	@host/compare $(COUNT)
 
-# every entry under guard pages, sanitizers and libFuzzer: make fuzz [SECONDS=n]; the plain harness where clang has no libFuzzer
+# every entry under guard pages, sanitizers and libFuzzer: make fuzz [SECONDS=n]; the plain harness where clang has no
+# libFuzzer
 fuzz:
 	@host/fuzz/guided $(SECONDS)
 
 fuzz-install:
 	@host/fuzz/install
 
-# nanoseconds for a call, beside plain Rust, a memcpy and the JSON parsers that are installed: make bench [ORACLE=program]
+# nanoseconds for a call, beside plain Rust, a memcpy and the JSON parsers that are installed: make bench
+# [ORACLE=program]
 bench:
 	@host/bench
 

@@ -7,6 +7,8 @@ import ctypes
 import os
 from collections import namedtuple
 
+__version__ = "0.4.0"
+
 KEZ_MOST = 65536
 KEZ_CANONICAL_MOST = 3 * KEZ_MOST
 
@@ -79,6 +81,11 @@ def _lend(data):
     return data, len(data)
 
 
+def _most(data):
+    """Room for an event in strict form, which is never longer than what it was read from."""
+    return min(len(data), KEZ_MOST)
+
+
 def _write(name, data, room):
     out = ctypes.create_string_buffer(room)
     length = _call(name, _bytes + _room, *_lend(data), out, room)
@@ -105,7 +112,7 @@ def kez_notepack_is_strict(packed):
 
 def kez_notepack_write(packed):
     """The strict form of a packed event."""
-    return _write("kez_notepack_write", packed, KEZ_MOST)
+    return _write("kez_notepack_write", packed, _most(packed))
 
 
 def kez_notepack_tag_len(packed, tag):
@@ -122,31 +129,33 @@ def kez_notepack_element(packed, tag, element):
 
 
 def kez_canonical_write(packed):
-    """The canonical text of NIP-01."""
-    return _write("kez_canonical_write", packed, KEZ_CANONICAL_MOST)
+    """The canonical text of NIP-01, at most three bytes for each that was packed."""
+    return _write("kez_canonical_write", packed, 3 * _most(packed))
 
 
 def kez_nson_write(packed):
-    """A packed event as NSON."""
+    """A packed event as NSON, at most KEZ_MOST bytes."""
     return _write("kez_nson_write", packed, KEZ_MOST)
 
 
 def kez_nson_read(text):
     """NSON as a packed event in strict form."""
-    return _write("kez_nson_read", text, KEZ_MOST)
+    return _write("kez_nson_read", text, _most(text))
 
 
 def kez_json_read(text):
     """An event in plain JSON as a packed event in strict form."""
-    return _write("kez_json_read", text, KEZ_MOST)
+    return _write("kez_json_read", text, _most(text))
 
 
 def kez_read_both(text):
-    """One text put to both readers: 0 neither, 1 JSON alone, 2 both; and what each leaves, or None."""
-    nson, json = ctypes.create_string_buffer(KEZ_MOST), ctypes.create_string_buffer(KEZ_MOST)
-    value = _call("kez_read_both", _bytes + _room + _room, *_lend(text), nson, KEZ_MOST, json, KEZ_MOST)
-    length = len(kez_json_read(text)) if value else 0
-    return Both(value, nson.raw[:length] if value == 2 else None, json.raw[:length] if value else None)
+    """One text put to both readers. Value 2: both show this event; 1: the JSON reader alone, and nson is None.
+    What the JSON reader refuses is raised as its refusal."""
+    room, length = _most(text), ctypes.c_uint64()
+    nson, json = ctypes.create_string_buffer(room), ctypes.create_string_buffer(room)
+    value = _call("kez_read_both", _bytes + _room + _room + (_number,), *_lend(text), nson, room, json, room,
+                  ctypes.byref(length))
+    return Both(value, nson.raw[:length.value] if value == 2 else None, json.raw[:length.value])
 
 
 def kez_rivals(first, second):

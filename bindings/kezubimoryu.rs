@@ -2,9 +2,12 @@
 //! libkezubimoryu.a (`-l static=kezubimoryu -L PREFIX/lib`). What each entry promises stands in the header.
 #![allow(dead_code)]
 
-/// No input is longer, nor an event in strict form, nor NSON.
+/// The version of the library, as in the header.
+pub const KEZ_VERSION: &str = "0.4.0";
+/// No input that is read is longer, nor an event in strict form, nor NSON. A strict form is never longer than what it
+/// was read from, so a buffer as long as the packed bytes or the text is always enough for it.
 pub const KEZ_MOST: usize = 65536;
-/// A canonical text has at most three bytes for each byte that was packed.
+/// No canonical text is longer: three bytes for each byte that was packed.
 pub const KEZ_CANONICAL_MOST: usize = 3 * KEZ_MOST;
 
 /// Refusal 0 and a value, or the number of refusal and its place.
@@ -46,10 +49,11 @@ extern "C" {
     pub fn kez_read_both(
         text: *const u8,
         text_len: usize,
-        nson_out: *mut u8,
-        nson_out_len: usize,
-        json_out: *mut u8,
-        json_out_len: usize,
+        first: *mut u8,
+        first_len: usize,
+        second: *mut u8,
+        second_len: usize,
+        written: *mut u64,
     ) -> kez_answer;
 }
 

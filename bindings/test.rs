@@ -1,4 +1,5 @@
-//! The Rust declarations, linked and called: the sentences of all refusals are printed, to be compared with the header's.
+//! The Rust declarations, linked and called: the sentences of all refusals are printed, to be compared with the
+//! header's.
 #[path = "kezubimoryu.rs"]
 mod kezubimoryu;
 use kezubimoryu::*;
@@ -22,6 +23,21 @@ fn main() {
     let (mut at, mut len, mut is_bytes) = (0, 0, 0);
     let answer = unsafe { kez_notepack_element(record.as_ptr(), record.len(), 0, 1, &mut at, &mut len, &mut is_bytes) };
     assert_eq!((answer.refusal, at, len, is_bytes), (0, 145, 32, 1));
+    let text = std::fs::read("samples/document-003.nson").unwrap();
+    let (mut alone, mut first, mut second) = (vec![0; text.len()], vec![0; text.len()], vec![0; text.len()]);
+    let read = unsafe { kez_nson_read(text.as_ptr(), text.len(), alone.as_mut_ptr(), alone.len()) };
+    let mut both = |len: usize| {
+        let mut written = 7;
+        let (first, second) = (&mut first[..], &mut second[..]);
+        let answer = unsafe {
+            kez_read_both(text.as_ptr(), len, first.as_mut_ptr(), first.len(), second.as_mut_ptr(), second.len(), &mut written)
+        };
+        (answer, written)
+    };
+    assert_eq!(both(text.len() - 1), (kez_answer { refusal: 14, value: text.len() as u64 - 1 }, 7));
+    assert_eq!(both(text.len()), (kez_answer { refusal: 0, value: 2 }, read.value));
+    assert!(read.refusal == 0 && first == alone && second == alone);
+    println!("{KEZ_VERSION} {KEZ_MOST} {KEZ_CANONICAL_MOST}");
     for number in 0..22 {
         println!("{}", kez_refusal_text(number));
     }

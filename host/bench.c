@@ -1,8 +1,9 @@
 /* Nanoseconds for a call of each entry on its records: the library as linked, host/reference by its shared library
- * (first word), a plain memcpy, the JSON parsers of the shared library of host/peers.cc (second word, `-`: none), and a program that takes
- * `--bench ENTRY FILE N` (third word, may be missing). The parsers take the text that kez_json_read takes, and only parse it.
- * The table is gone through several times and the best figure of each kept, so that a busy moment of the machine does
- * not count. It goes to standard output, and its figures line by line to target/host/bench.tsv. Built with -DKIND_.. as the driver. */
+ * (first word), a plain memcpy, the JSON parsers of the shared library of host/peers.cc (second word, `-`: none), and
+ * a program that takes `--bench ENTRY FILE N` (third word, may be missing). The parsers take the text that
+ * kez_json_read takes, and only parse it. The table is gone through several times and the best figure of each kept, so
+ * that a busy moment of the machine does not count. It goes to standard output, and its figures line by line to
+ * target/host/bench.tsv. Built with -DKIND_.. as the driver. */
 #define _GNU_SOURCE
 #include "kezubimoryu.h"
 
@@ -90,7 +91,7 @@ typedef kez_answer asks(const uint8_t *, size_t);
 typedef kez_answer writes(const uint8_t *, size_t, uint8_t *, size_t);
 typedef kez_answer counts(const uint8_t *, size_t, uint64_t);
 typedef kez_answer shows(const uint8_t *, size_t, uint64_t, uint64_t, uint64_t *, uint64_t *, uint64_t *);
-typedef kez_answer both(const uint8_t *, size_t, uint8_t *, size_t, uint8_t *, size_t);
+typedef kez_answer both(const uint8_t *, size_t, uint8_t *, size_t, uint8_t *, size_t, uint64_t *);
 typedef kez_answer rivals(const uint8_t *, size_t, const uint8_t *, size_t);
 typedef int parses(const uint8_t *, size_t);
 
@@ -171,7 +172,7 @@ static int call(const entry *e, const uint8_t *in, size_t len)
     case WRITES: return ((writes *)e->function)(in, len, out, (size_t)ROOM).refusal != 0;
     case COUNTS: return ((counts *)e->function)(in, len, 1).refusal != 0;
     case SHOWS: return ((shows *)e->function)(in, len, 1, 1, n, n + 1, n + 2).refusal != 0;
-    case BOTH: return ((both *)e->function)(in, len, out, (size_t)ROOM / 2, out + ROOM / 2, (size_t)ROOM / 2).refusal != 0;
+    case BOTH: return ((both *)e->function)(in, len, out, (size_t)ROOM / 2, out + ROOM / 2, (size_t)ROOM / 2, n).refusal != 0;
     case RIVALS: return ((rivals *)e->function)(in, len, in, len).refusal != 0;
     case PARSES: return !((parses *)e->function)(in, len);
     default: memcpy(out, in, len); return 0;

@@ -5,6 +5,8 @@
 
 built=target/host
 kinds=${KINDS:-$(grep -v '^#' host/kinds)}
+# the library's version, which stands in the header and nowhere else
+version=$(sed -n 's/^#define KEZ_VERSION "\(.*\)"$/\1/p' include/kezubimoryu.h)
 mkdir -p "$built"
 
 # stale TARGET SOURCE..: is the target missing, or older than a source?

@@ -291,32 +291,31 @@ static int do_both(const kind *k, char **words)
     uint64_t room;
     if (!lend(&first, words[0]) || !parsed(words[1], &room) || room > MOST)
         return 0;
-    uint8_t *nson = lend_room(room);
+    uint8_t *by_nson = lend_room(room);
     memcpy(second_area, area, GUARD + room + GUARD);
-    uint8_t *json = room || line_number % 2 ? second_area + GUARD : NULL;
-    kez_answer a = kez_read_both(first.at, first.len, nson, room, json, room);
+    uint8_t *by_json = room || line_number % 2 ? second_area + GUARD : NULL;
+    lend_numbers();
+    kez_answer a = kez_read_both(first.at, first.len, by_nson, room, by_json, room, number(0));
+    check_numbers(1, a);
     check_input(&first);
-    /* how much was written: what the JSON reader says that is lent all there is */
-    static uint8_t alone[KEZ_MOST];
-    kez_answer by_json = kez_json_read(first.at, first.len, alone, sizeof alone);
-    size_t len = a.refusal || !a.value || by_json.refusal ? 0 : by_json.value;
+    size_t len = a.refusal ? 0 : *number(0);
     if (len > room) {
         wrong("has written more than there is room for");
         return 1;
     }
-    check_room(room, a.value == 2 ? len : 0);
+    check_room(room, !a.refusal && a.value == 2 ? len : 0);
     for (size_t i = 0; i < GUARD + room + GUARD; i++)
         if ((i < GUARD || i >= GUARD + len) && second_area[i] != pattern(i))
             wrong("writes where it must not in the second buffer");
-    if (!a.refusal && a.value > 2)
-        wrong("has a value above 2");
+    if (!a.refusal && a.value != 1 && a.value != 2)
+        wrong("has a value that is neither 1 nor 2");
+    if (a.refusal == 11 && a.value <= room)
+        wrong("refuses 11 though there is room");
     if (told_refusal(a))
         return 1;
-    printf("ok %" PRIu64, a.value);
-    if (a.value) {
-        print_bytes(area + GUARD, a.value == 2 ? len : 0);
-        print_bytes(second_area + GUARD, len);
-    }
+    printf("ok %" PRIu64 " %zu", a.value, len);
+    print_bytes(area + GUARD, a.value == 2 ? len : 0);
+    print_bytes(second_area + GUARD, len);
     return 1;
 }
 #endif

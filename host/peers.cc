@@ -1,5 +1,5 @@
-// JSON parsers that others wrote, for host/bench: each parses a text into its own tree, and says whether it could. Those are built
-// whose headers are there (host/bench-install gets them).
+// JSON parsers that others wrote, for host/bench: each parses a text into its own tree, and says whether it could.
+// Those are built whose headers are there (host/bench-install gets them).
 #include <cstddef>
 #include <cstdint>
 

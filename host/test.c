@@ -674,7 +674,8 @@ static void nothing_lent(void)
             CHECK(is(kez_json_read(in, 0, out, 0), 14, 0), "%d %d", i, j);
 #endif
 #ifdef KIND_read_both
-            CHECK(is(kez_read_both(in, 0, out, 0, out, 0), 0, 0), "%d %d", i, j);
+            CHECK(is(kez_read_both(in, 0, out, 0, out, 0, numbers), 14, 0), "%d %d", i, j);
+            CHECK(untouched(), "%d %d: a refusal changed the length", i, j);
 #endif
 #ifdef KIND_rivals
             CHECK(is(kez_rivals(in, 0, out, 0), 2, 0), "%d %d", i, j);
@@ -686,31 +687,88 @@ static void nothing_lent(void)
 }
 
 #ifdef KIND_read_both
-/* Document 003's event by both; with a count that lies, by JSON alone; neither; and without room. */
+/* The buffer that is lent beside room. */
+static uint8_t other[sizeof room];
+
+static kez_answer put_to_both(const bytes *text, size_t first_len, size_t second_len)
+{
+    lend();
+    memcpy(other, room, sizeof other);
+    return kez_read_both(text->at, text->len, room, first_len, other, second_len, numbers);
+}
+
+static int other_untouched_from(size_t from)
+{
+    for (size_t i = from; i < sizeof other; i++)
+        if (other[i] != mark(i))
+            return 0;
+    return 1;
+}
+
+/* Both readers show this event, or with value 1 the second alone: room just enough, more, and the bytes that stay. */
+static void shown_by(uint64_t value, const bytes *text, const bytes *packed)
+{
+    const size_t rooms[] = {packed->len, packed->len + 1, text->len, sizeof room};
+    for (int i = 0; i < 4; i++) {
+        CHECK(is(put_to_both(text, rooms[i], rooms[3 - i]), 0, value), "%zu bytes of room", rooms[i]);
+        CHECK(numbers[0] == packed->len, "another length: %d", (int)numbers[0]);
+        CHECK(numbers[1] == UINT64_C(0xfeedfacecafe0001), "a number that was not lent changed");
+        CHECK(!memcmp(other, packed->at, packed->len), "another event in the second");
+        CHECK(other_untouched_from(packed->len), "bytes behind the written ones changed in the second");
+        if (value == 2)
+            CHECK(!memcmp(room, packed->at, packed->len), "another event in the first");
+        CHECK(untouched_from(value == 2 ? packed->len : 0), "the first changed where it must not");
+    }
+}
+
+static void refused_by_both(const bytes *text, size_t first_len, size_t second_len, uint64_t refusal, uint64_t place)
+{
+    kez_answer a = put_to_both(text, first_len, second_len);
+    CHECK(is(a, refusal, place), "%d at %d, not %d at %d", (int)a.refusal, (int)a.value, (int)refusal, (int)place);
+    CHECK(untouched() && other_untouched_from(0), "a refusal changed what was lent");
+}
+
+/* Document 003's event by both; with a count that lies, by JSON alone; what the JSON reader refuses; and without room. */
 static void read_both(void)
 {
     static bytes packed, text, damaged;
-    static uint8_t other[70000];
     document_003(&packed, &text);
-    lend();
-    memcpy(other, room, sizeof other);
-    CHECK(is(kez_read_both(text.at, text.len, room, sizeof room, other, sizeof other), 0, 2), "both");
-    CHECK(!memcmp(room, packed.at, packed.len) && !memcmp(other, packed.at, packed.len), "another event");
-    CHECK(untouched_from(packed.len), "bytes behind the written ones changed");
+    shown_by(2, &text, &packed);
     damaged = text;
     damaged.at[326] ^= 1;
-    lend();
-    memcpy(other, room, sizeof other);
-    CHECK(is(kez_read_both(damaged.at, damaged.len, room, sizeof room, other, sizeof other), 0, 1), "JSON alone");
-    CHECK(untouched() && !memcmp(other, packed.at, packed.len), "the first buffer changed, or another event");
-    CHECK(is(kez_read_both(damaged.at, damaged.len, NULL, 0, other, packed.len), 0, 1), "one buffer is enough");
-    lend();
-    memcpy(other, room, sizeof other);
-    CHECK(is(kez_read_both(text.at, text.len, room, packed.len - 1, other, sizeof other), 11, packed.len), "the first too short");
-    CHECK(is(kez_read_both(text.at, text.len, room, sizeof room, other, packed.len - 1), 11, packed.len), "the second too short");
-    CHECK(is(kez_read_both(text.at, text.len - 1, room, sizeof room, other, sizeof other), 0, 0), "neither");
-    CHECK(is(kez_read_both(room, 65537, NULL, 0, other, sizeof other), 1, 0), "too long");
-    CHECK(untouched() && !memcmp(room, other, sizeof other), "a refusal changed what was lent");
+    shown_by(1, &damaged, &packed);
+    damaged = text;
+    PUT(&damaged, " ");
+    shown_by(1, &damaged, &packed);
+    a_b(&packed, &text, "0801000400");
+    shown_by(2, &text, &packed);
+    a_b(&packed, &damaged, "0801000500");
+    shown_by(1, &damaged, &packed);
+    /* by JSON alone the first buffer needs no room */
+    CHECK(is(kez_read_both(damaged.at, damaged.len, NULL, 0, other, packed.len, numbers), 0, 1), "one buffer is enough");
+    /* 11 where either is too short */
+    const size_t all = sizeof room, need = packed.len;
+    refused_by_both(&text, all, need - 1, 11, need);
+    refused_by_both(&text, need - 1, all, 11, need);
+    refused_by_both(&text, 0, 0, 11, need);
+    refused_by_both(&damaged, all, need - 1, 11, need);
+    /* the JSON reader's refusals, before any room is asked for */
+    for (int i = 0; i < 2; i++) {
+        const size_t lent = i ? all : 0;
+        damaged = text;
+        damaged.len--;
+        refused_by_both(&damaged, lent, lent, 14, damaged.len);
+        damaged.len = 0;
+        refused_by_both(&damaged, lent, lent, 14, 0);
+        PUT(&damaged, "{\"kind\":1}");
+        refused_by_both(&damaged, lent, lent, 15, 9);
+        damaged = text;
+        damaged.at[7] = 'A';
+        refused_by_both(&damaged, lent, lent, 12, 6);
+        damaged.len = 0;
+        fill(&damaged, ' ', 65537);
+        refused_by_both(&damaged, lent, lent, 1, 0);
+    }
 }
 #endif
 

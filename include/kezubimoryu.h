@@ -1,12 +1,12 @@
 /* Kezubimoryu: Nostr events as notepack, canonical text, NSON and plain JSON.
  *
  * Every entry takes numbers and byte buffers that the caller lends, takes all inputs there are, and ends.
- * A pointer to bytes comes with its length. With length 0 it may be null or anything else: nothing is touched through it.
- * A pointer to a number is never null. What is lent to be written overlaps nothing else that is lent to the same call.
- * No entry keeps a pointer or has a state of its own, so calls from several threads need no lock.
+ * A pointer to bytes comes with its length. With length 0 it may be null or anything else: nothing is touched through
+ * it. A pointer to a number is never null. What is lent to be written overlaps nothing else that is lent to the same
+ * call. No entry keeps a pointer or has a state of its own, so calls from several threads need no lock.
  *
- * A packed event is notepack without a version byte, at most 65,536 bytes. Places and counts start at 0, lengths are in bytes.
- * Link with `pkg-config --cflags --libs kezubimoryu`.
+ * A packed event is notepack without a version byte, at most 65,536 bytes. Places and counts start at 0, lengths are
+ * in bytes. Link with `pkg-config --cflags --libs kezubimoryu`.
  */
 #ifndef KEZUBIMORYU_H
 #define KEZUBIMORYU_H
@@ -18,16 +18,24 @@
 extern "C" {
 #endif
 
-/* No input is longer, nor an event in strict form, nor NSON: a buffer of this many bytes is room enough for these. */
+/* The version of this library; the tool and the pkg-config file have it from here. */
+#define KEZ_VERSION "0.4.0"
+
+/* Room. A buffer as long as what is read is always enough for an event in strict form, which is never longer than the
+ * packed bytes, the NSON or the JSON it was read from; three times the packed bytes for a canonical text. NSON is never
+ * longer than KEZ_MOST. A host that lends so much never meets refusal 11. The two sizes are enough for every input. */
+
+/* No input that is read is longer, nor an event in strict form, nor NSON. */
 #define KEZ_MOST 65536
 
-/* A canonical text has at most three bytes for each byte that was packed. */
+/* No canonical text is longer: three bytes for each byte that was packed. */
 #define KEZ_CANONICAL_MOST (3 * KEZ_MOST)
 
 /* What every entry answers.
  * refusal is 0, and value is what the entry says below; or refusal is a number from 1 to 19, and value is its place.
- * On a refusal every lent buffer and number is as it was. After success the bytes behind the written length are as they were.
- * Refusal 11, the lent buffer is too short, comes after all others; its value is the length needed. */
+ * So refusal alone tells success. On a refusal every lent buffer and number is as it was. After success the bytes
+ * behind the written length are as they were. Refusal 11, a lent buffer is too short, comes after all others; its value
+ * is the length needed. Every other place lies in the input or at its end. */
 typedef struct {
     uint64_t refusal;
     uint64_t value;
@@ -35,6 +43,7 @@ typedef struct {
 
 /* Reads a packed event and leaves its five numbers: seconds, kind, where the content stands in packed, its length, and
  * the number of tags. Longer varints than needed are read too. An empty content stands just behind its length.
+ * Refusals: 1 to 10.
  * value: 0 */
 kez_answer kez_notepack_read(const uint8_t *packed, size_t packed_len,
                              uint64_t *created_at, uint64_t *kind,
@@ -47,7 +56,7 @@ kez_answer kez_notepack_read(const uint8_t *packed, size_t packed_len,
 kez_answer kez_notepack_is_strict(const uint8_t *packed, size_t packed_len);
 
 /* Writes the one strict form of a packed event, which reads as the same event. Strict bytes come out as they are.
- * Bytes that kez_notepack_read refuses get its refusal; then 11.
+ * Bytes that kez_notepack_read refuses get its refusal; then 11. Room of packed_len bytes is always enough.
  * value: the length written */
 kez_answer kez_notepack_write(const uint8_t *packed, size_t packed_len,
                               uint8_t *out, size_t out_len);
@@ -58,48 +67,61 @@ kez_answer kez_notepack_write(const uint8_t *packed, size_t packed_len,
 kez_answer kez_notepack_tag_len(const uint8_t *packed, size_t packed_len, uint64_t tag);
 
 /* Where the payload of this element of this tag stands in packed, its length, and its b: 0 if the payload is the text,
- * 1 if the text is the payload's lowercase hex. Refusals as for kez_notepack_tag_len; 19 also if there is no such element.
+ * 1 if the text is the payload's lowercase hex. Refusals as for kez_notepack_tag_len; 19 also if there is no such
+ * element.
  * value: 0 */
 kez_answer kez_notepack_element(const uint8_t *packed, size_t packed_len,
                                 uint64_t tag, uint64_t element,
                                 uint64_t *at, uint64_t *len, uint64_t *is_bytes);
 
-/* Which of two packed events is to be kept, if they have the same key: the later, then the one with the lower id, then the first.
- * All refusals of the first input come before those of the second; the place is in the input that is refused.
+/* Which of two packed events is to be kept, if they have the same key: the later, then the one with the lower id, then
+ * the first. Bytes that kez_notepack_read refuses get its refusal: all of the first input's come before the second's, and
+ * the place is in the one that is refused.
  * value: 0 not rivals, 1 keep the first, 2 keep the second */
 kez_answer kez_rivals(const uint8_t *first, size_t first_len,
                       const uint8_t *second, size_t second_len);
 
 /* Writes the canonical text of NIP-01, over which an event's id is taken: [0,"pubkey",created_at,kind,tags,"content"].
- * Bytes that kez_notepack_read refuses get its refusal; then 11.
+ * Bytes that kez_notepack_read refuses get its refusal; then 11. Room of 3 * packed_len bytes is always enough.
  * value: the length written */
 kez_answer kez_canonical_write(const uint8_t *packed, size_t packed_len,
                                uint8_t *out, size_t out_len);
 
 /* Writes a packed event as NSON; both readers below then show the same event.
- * Bytes that kez_notepack_read refuses get its refusal; then 17 if NSON can't carry the event; then 11.
+ * Bytes that kez_notepack_read refuses get its refusal; then 17 if NSON can't carry the event; then 11. Room of
+ * KEZ_MOST bytes is always enough.
  * value: the length written */
 kez_answer kez_nson_write(const uint8_t *packed, size_t packed_len,
                           uint8_t *out, size_t out_len);
 
 /* Reads NSON by the counts in its nson field, and leaves the event in out in strict form. A count that lies is refused.
  * What this reader accepts kez_json_read accepts too, with the same bytes and the same length needed.
+ * Refusals: 1, 5, 6, 9, 10, 12, 13, 14; then 11. Room of text_len bytes is always enough.
  * value: the length written */
 kez_answer kez_nson_read(const uint8_t *text, size_t text_len,
                          uint8_t *out, size_t out_len);
 
-/* Reads an event as plain JSON (RFC 8259), its seven fields in any order and once each, and leaves it in out in strict form.
- * A missing field is refused; nothing is filled in. Other fields are ignored.
+/* Reads an event as plain JSON (RFC 8259), its seven fields in any order and once each, and leaves it in out in strict
+ * form. A missing field is refused; nothing is filled in. Fields of other names are ignored, the nson field among them:
+ * a count that lies there is no matter to this reader.
+ * Refusals: 1, 5 to 10, 12, 14, 15, 16, 18; then 11. Room of text_len bytes is always enough.
  * value: the length written */
 kez_answer kez_json_read(const uint8_t *text, size_t text_len,
                          uint8_t *out, size_t out_len);
 
-/* Puts one text to both readers. What NSON's reader accepts is left in both buffers, the same bytes; what the JSON reader
- * alone accepts is left in json_out. Refusals: 1, and 11 with the length needed where a buffer that is to be written is too short.
- * value: 0 neither accepts it, 1 JSON alone, 2 both */
+/* Puts one text to both readers.
+ * What kez_json_read refuses gets its refusal (kez_nson_read refuses it too). Then 11 if json_out is too short for what
+ * kez_json_read leaves; then 11 if kez_nson_read accepts the text and nson_out is too short for what that leaves.
+ * Otherwise what kez_json_read leaves stands in json_out, and its length in written. Where kez_nson_read accepts the
+ * text (value 2), what that leaves stands in nson_out; where it refuses (value 1), nson_out is as it was: don't read it.
+ * Room of text_len bytes in each buffer is always enough. Cost: each reader goes through the text twice, once to decide
+ * before anything is written and once to write; a call takes up to twice as long as the two readers together.
+ * value: 2 both readers show this event, the same bytes in both buffers; 1 the plain JSON reader alone, in json_out.
+ * That the two show different events is proved not to happen. A desk that takes NSON only asks for value 2. */
 kez_answer kez_read_both(const uint8_t *text, size_t text_len,
                          uint8_t *nson_out, size_t nson_out_len,
-                         uint8_t *json_out, size_t json_out_len);
+                         uint8_t *json_out, size_t json_out_len,
+                         uint64_t *written);
 
 /* A sentence for a number of refusal. The string is a constant: it is never null and never freed. */
 static inline const char *kez_refusal_text(uint64_t number)

@@ -15,6 +15,7 @@ enum { ACCEPTED = 0, REFUSED = 1, USAGE = 2 };
 static const char help[] =
     "usage: kez COMMAND [--hex | --hex=in | --hex=out] < INPUT > OUTPUT\n"
     "       kez keep [--hex] FIRST SECOND\n"
+    "       kez --help | --version\n"
     "\n"
     "  list [--all]  the numbers of a packed event; --all: its fields and texts too\n"
     "  strict        is a packed event in its strict form? 'strict' or 'not strict'\n"
@@ -294,21 +295,17 @@ static int do_from_json(void) { return do_write(kez_json_read, JSON, 0); }
 static int do_both(void)
 {
     static uint8_t by_nson[KEZ_MOST];
-    kez_answer a = kez_read_both(first.at, first.len, by_nson, sizeof by_nson, out, sizeof out);
+    uint64_t len;
+    kez_answer a = kez_read_both(first.at, first.len, by_nson, sizeof by_nson, out, sizeof out, &len);
     if (a.refusal)
         return refused(&first, a, JSON);
-    /* each reader alone tells its refusal, or the length */
-    kez_answer json = kez_json_read(first.at, first.len, out, sizeof out);
-    if (a.value < 2) {
+    if (a.value == 1) {
+        /* why the NSON reader does not show it */
         fprintf(stderr, "NSON: ");
         refused(&first, kez_nson_read(first.at, first.len, by_nson, sizeof by_nson), NSON);
     }
-    if (!a.value) {
-        fprintf(stderr, "JSON: ");
-        return refused(&first, json, JSON);
-    }
     fprintf(stderr, a.value == 2 ? "both readers show this event\n" : "the JSON reader alone shows this event\n");
-    put_output(out, json.value, 0);
+    put_output(out, len, 0);
     return ACCEPTED;
 }
 #else
@@ -378,6 +375,8 @@ int main(int count, char **words)
     for (int i = 1; i < count; i++) {
         if (!strcmp(words[i], "--help") || !strcmp(words[i], "-h"))
             return fputs(help, stdout) < 0 || fflush(stdout) ? USAGE : ACCEPTED;
+        if (!strcmp(words[i], "--version"))
+            return puts("kez " KEZ_VERSION) < 0 || fflush(stdout) ? USAGE : ACCEPTED;
         if (words[i][0] == '-' && words[i][1]) {
             if (!option(words[i], c))
                 return usage("there is no such option here", words[i]);

@@ -1,6 +1,6 @@
 /* The properties, and the lent buffers that are watched. Built with -DKIND_.. for each kind of host/kinds.
- * Every buffer that is lent ends at a page that can't be touched, or starts behind one, by turns; on its other side stand bytes
- * that are looked at after the call, and so are the bytes of the buffer itself that the call must leave. */
+ * Every buffer that is lent ends at a page that can't be touched, or starts behind one, as the dice fall; on its other
+ * side stand bytes that are looked at after the call, and so are the bytes of the buffer that the call must leave. */
 #define _GNU_SOURCE
 #include "properties.h"
 
@@ -120,11 +120,30 @@ static void unchanged(const buffer *b, size_t written, const char *what)
     must(!memcmp(b->from, b->old, before) && !memcmp(b->from + behind, b->old + behind, b->len + BESIDE - behind), what);
 }
 
+/* The refusals that the header allows each entry, one bit for each number. */
+enum { PACKED_ONES = 0x7fe, ROOM = 1 << 11, NO_SUCH = 1 << 19, NOT_CARRIED = 1 << 17 };
+static const uint32_t allowed[ENTRIES] = {
+    [READ] = PACKED_ONES,
+    [STRICT] = PACKED_ONES,
+    [PACK] = PACKED_ONES | ROOM,
+    [TAG_LEN] = PACKED_ONES | NO_SUCH,
+    [ELEMENT] = PACKED_ONES | NO_SUCH,
+    [CANONICAL] = PACKED_ONES | ROOM,
+    [NSON_WRITE] = PACKED_ONES | NOT_CARRIED | ROOM,
+    [NSON_READ] = 1 << 1 | 1 << 5 | 1 << 6 | 1 << 9 | 1 << 10 | 1 << 12 | 1 << 13 | 1 << 14 | ROOM,
+    [JSON_READ] = 1 << 1 | 0x7e0 | 1 << 12 | 1 << 14 | 1 << 15 | 1 << 16 | 1 << 18 | ROOM,
+    [READ_BOTH] = 1 << 1 | 0x7e0 | 1 << 12 | 1 << 14 | 1 << 15 | 1 << 16 | 1 << 18 | ROOM,
+    [RIVALS] = PACKED_ONES,
+};
+
 /* What holds of every answer. */
 static kez_answer checked(kez_answer a)
 {
     unchanged(&in_first, 0, "changes its input");
     must(a.refusal <= 19, "has a refusal that does not exist");
+    must(!a.refusal || (allowed[current] >> a.refusal & 1), "has a refusal of another entry");
+    size_t longest = current == RIVALS && in_second.len > in_first.len ? in_second.len : in_first.len;
+    must(!a.refusal || a.refusal == 11 || a.value <= longest, "has a place that is not in the input");
     if (answered)
         answered(current, a.refusal, a.value);
     return a;
@@ -268,6 +287,7 @@ static void as_packed(const uint8_t *data, size_t len)
 #ifdef KIND_canonical
     write_with(&canonical_text, CANONICAL, kez_canonical_write);
     must(!read.refusal || same(read, canonical_text.answer), "refuses otherwise than the reader");
+    must(read.refusal || canonical_text.answer.value <= 3 * len, "writes more than three times what was packed");
 #endif
 #ifdef KIND_nson_write
     static result text;
@@ -324,18 +344,23 @@ static void both_readers(void)
     current = READ_BOTH;
     lend_room(&out_first, rooms[0]);
     lend_room(&out_second, rooms[1]);
-    kez_answer a = checked(kez_read_both(lent(&in_first), in_first.len, lent(&out_first), rooms[0], lent(&out_second), rooms[1]));
-    kez_answer wanted = {0, (uint64_t)(json + nson)};
-    if (in_first.len > KEZ_MOST)
-        wanted = (kez_answer){1, 0};
-    else if ((json && rooms[1] < need) || (nson && rooms[0] < need))
+    lend_numbers(1);
+    kez_answer a = checked(kez_read_both(lent(&in_first), in_first.len, lent(&out_first), rooms[0], lent(&out_second), rooms[1],
+                                         number(0)));
+    kez_answer wanted = by_json.answer;
+    if (json && (rooms[1] < need || (nson && rooms[0] < need)))
         wanted = (kez_answer){11, need};
+    else if (json)
+        wanted = (kez_answer){0, nson ? 2 : 1};
     must(same(a, wanted), "disagrees with the readers");
-    unchanged(&out_first, !a.refusal && a.value == 2 ? need : 0, "changes what it must leave of the first buffer");
-    unchanged(&out_second, !a.refusal && a.value ? need : 0, "changes what it must leave of the second buffer");
-    if (!a.refusal && a.value)
-        must(!memcmp(out_second.at, by_json.bytes, need), "leaves another event than the JSON reader");
-    if (!a.refusal && a.value == 2)
+    unchanged(&out_first, !a.refusal && nson ? need : 0, "changes what it must leave of the first buffer");
+    unchanged(&out_second, !a.refusal ? need : 0, "changes what it must leave of the second buffer");
+    unchanged(&number_buffer, !a.refusal ? 8 : 0, "changes a number that it must leave");
+    if (a.refusal)
+        return;
+    must(*number(0) == need, "tells another length");
+    must(!memcmp(out_second.at, by_json.bytes, need), "leaves another event than the JSON reader");
+    if (nson)
         must(!memcmp(out_first.at, by_json.bytes, need), "leaves two events");
 }
 #endif
@@ -345,9 +370,11 @@ static void as_text(const uint8_t *data, size_t len)
     lend_input(&in_first, data, len, first_copy);
 #ifdef KIND_nson_read
     write_with(&by_nson, NSON_READ, kez_nson_read);
+    must(by_nson.answer.refusal || by_nson.answer.value <= len, "leaves a strict form that is longer than its text");
 #endif
 #ifdef KIND_json_read
     write_with(&by_json, JSON_READ, kez_json_read);
+    must(by_json.answer.refusal || by_json.answer.value <= len, "leaves a strict form that is longer than its text");
 #ifdef KIND_nson_read
     must(by_nson.answer.refusal || leaves(&by_json, by_nson.bytes, by_nson.answer.value), "shows another event than the NSON reader");
 #endif

@@ -1,5 +1,6 @@
 /* Faults, planted between the library and the harness: each call of a wrapped entry comes here first (-Wl,--wrap). -DPLANTED=n
- * chooses one. Each shows itself at some inputs only, by a sum over their bytes, and host/fuzz/planted asks that it be found. */
+ * chooses one. Each shows itself at some inputs only, by a sum over their bytes, and host/fuzz/planted asks that it be
+ * found. */
 #include "kezubimoryu.h"
 
 #ifndef PLANTED
@@ -86,6 +87,18 @@ kez_answer __wrap_kez_rivals(const uint8_t *first, size_t first_len, const uint8
     kez_answer a = __real_kez_rivals(first, first_len, second, second_len);
     if (!a.refusal && a.value == 2 && shows(first, first_len))
         a.value = 1;
+    return a;
+}
+#elif PLANTED >= 9 /* a refusal of both readers is told as success; the length of what was written is one too many */
+typedef kez_answer both(const uint8_t *in, size_t in_len, uint8_t *first, size_t first_len, uint8_t *second, size_t second_len, uint64_t *written);
+both __real_kez_read_both, __wrap_kez_read_both;
+kez_answer __wrap_kez_read_both(const uint8_t *in, size_t in_len, uint8_t *first, size_t first_len, uint8_t *second, size_t second_len, uint64_t *written)
+{
+    kez_answer a = __real_kez_read_both(in, in_len, first, first_len, second, second_len, written);
+    if (PLANTED == 9 && a.refusal && shows(in, in_len))
+        a = (kez_answer){0, 0};
+    if (PLANTED == 10 && !a.refusal && shows(in, in_len))
+        ++*written;
     return a;
 }
 #endif

@@ -4,20 +4,23 @@ use crate::answer::*;
 use crate::notepack::LIMIT;
 use crate::{json, nson};
 
-/// 0 neither accepts it, 1 JSON alone, 2 both, with the same bytes.
-pub fn read(text: &[u8], nson_out: &mut [u8], json_out: &mut [u8]) -> Answer<u64> {
-    if text.len() > LIMIT {
-        return refuse(TOO_LONG, 0);
-    }
+/// The value and the length of what the JSON reader shows. 2: both show the same event. 1: the JSON reader alone.
+/// What that reader refuses is refused so; then the second buffer must have room for its event, and the first for the
+/// NSON reader's, where that accepts the text too.
+pub fn read(text: &[u8], first: &mut [u8], second: &mut [u8]) -> Answer<(u64, usize)> {
     let (mut by_json, mut by_nson) = (vec![0; LIMIT], vec![0; LIMIT]);
-    let Ok(length) = json::read(text, &mut by_json) else { return Ok(0) };
-    let agreed = nson::read(text, &mut by_nson).is_ok_and(|n| by_nson[..n] == by_json[..length]);
-    if json_out.len() < length || agreed && nson_out.len() < length {
-        return refuse(NO_ROOM, length);
+    let length = json::read(text, &mut by_json)?;
+    let json = &by_json[..length];
+    let nson = nson::read(text, &mut by_nson).ok().map(|length| &by_nson[..length]);
+    if second.len() < json.len() {
+        return refuse(NO_ROOM, json.len());
     }
-    json_out[..length].copy_from_slice(&by_json[..length]);
-    if agreed {
-        nson_out[..length].copy_from_slice(&by_nson[..length]);
+    if let Some(nson) = nson {
+        if first.len() < nson.len() {
+            return refuse(NO_ROOM, nson.len());
+        }
+        first[..nson.len()].copy_from_slice(nson);
     }
-    Ok(1 + agreed as u64)
+    second[..length].copy_from_slice(json);
+    Ok((if nson == Some(json) { 2 } else { 1 }, length))
 }

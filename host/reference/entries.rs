@@ -119,11 +119,15 @@ pub unsafe extern "C" fn kez_rivals(first: *const u8, first_len: usize, second: 
 pub unsafe extern "C" fn kez_read_both(
     text: *const u8,
     text_len: usize,
-    nson_out: *mut u8,
-    nson_out_len: usize,
-    json_out: *mut u8,
-    json_out_len: usize,
+    first: *mut u8,
+    first_len: usize,
+    second: *mut u8,
+    second_len: usize,
+    written: *mut u64,
 ) -> KezAnswer {
-    let (text, nson_out, json_out) = unsafe { (lent(text, text_len), lent_mut(nson_out, nson_out_len), lent_mut(json_out, json_out_len)) };
-    told(both::read(text, nson_out, json_out))
+    let (text, first, second) = unsafe { (lent(text, text_len), lent_mut(first, first_len), lent_mut(second, second_len)) };
+    told(both::read(text, first, second).map(|(value, length)| {
+        unsafe { *written = length as u64 };
+        value
+    }))
 }

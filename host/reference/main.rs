@@ -65,13 +65,10 @@ fn answer(line: &str) -> Option<String> {
         },
         ["read_both", s, room] => {
             let room = number(room)? as usize;
-            let (s, mut nson, mut json) = (bytes(s)?, vec![0; room], vec![0; room]);
-            told(both::read(&s, &mut nson, &mut json).map(|value| match value {
-                0 => "ok 0".into(),
-                // the length is what the reader tells that is lent the same room
-                _ => json::read(&s, &mut vec![0; room]).map_or("ok".into(), |n| {
-                    format!("ok {value} {} {}", if value == 2 { hex(&nson[..n]) } else { "-".into() }, hex(&json[..n]))
-                }),
+            let (s, mut first, mut second) = (bytes(s)?, vec![0; room], vec![0; room]);
+            told(both::read(&s, &mut first, &mut second).map(|(value, length)| {
+                let first = if value == 2 { hex(&first[..length]) } else { "-".into() };
+                format!("ok {value} {length} {first} {}", hex(&second[..length]))
             }))
         }
         [entry, s, room] => writes(writing(entry)?, s, room)?,

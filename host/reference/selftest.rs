@@ -120,6 +120,12 @@ pub fn run() -> bool {
     let event = answer_bytes(&room("nson_read", NSON.as_bytes()));
     same("document 003 as JSON", room("json_read", NSON.as_bytes()), left(&event));
     same("document 003 written", room("nson_write", &event), left(NSON.as_bytes()));
+    let by_both = |value: u8, first: &[u8], second: &[u8]| format!("ok {value} {} {} {}", second.len(), hex(first), hex(second));
+    same("document 003 by both", room("read_both", NSON.as_bytes()), by_both(2, &event, &event));
+    same("(12) by both", room("read_both", text.as_bytes()), by_both(2, &a_b, &a_b));
+    same("(13) by both", room("read_both", nson_with("0801000300").as_bytes()), by_both(1, b"", &a_b));
+    same("a blank by both", room("read_both", b"{\"kind\":1}"), "refused 15 9".into());
+    same("no room for both", ask(format!("read_both {} {}", hex(text.as_bytes()), a_b.len() - 1)), format!("refused 11 {}", a_b.len()));
     for (tags, texts, fits) in [(41, 1, true), (42, 1, false), (1, 61, true), (1, 62, false)] {
         let s = tagged(tags, texts);
         let written = room("nson_write", &s);

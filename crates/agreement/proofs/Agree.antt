@@ -9,7 +9,7 @@ use Rattle.nson.specs.Nson.{nson}
 use Rattle.nson.specs.Carries.{Carries}
 use Rattle.nson.proofs.Pieces.{shown-same}
 use Rattle.nson.proofs.Sound.{accepted}
-use Rattle.agreement.specs.Demand.{NeverTwo, BothAccept}
+use Rattle.agreement.specs.Demand3.{NeverTwo, BothAccept}
 use Rattle.agreement.proofs.Written.{tree-text}
 use Rattle.agreement.proofs.Means.{tree-event}
 

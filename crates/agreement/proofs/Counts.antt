@@ -6,22 +6,23 @@ use mathlib.Core.List.{List, [], _∷_, map}
 use native.Mathlib.Omega.{arith}
 use lib.ListN.{length}
 use Rattle.scan.specs.Choice.{shown}
+use Rattle.scan.specs.Place.{within}
 use Rattle.hex.specs.Hex.{hexes}
 use Rattle.hex.proofs.Texts.{length-hexes}
 use Rattle.event.specs.Event.{Text, Tag, Event, Valid, sameText}
 use Rattle.jsontext.specs.Grammar as json
-use Rattle.jsontext.specs.Escape.{unescaped, unescape}
-use Rattle.jsontext.proofs.Meaning.{unescape-chars}
-use Rattle.json.specs.Meaning.{valuesOf, IsHex, is-hex, Each, IsArray, is-array, once}
-use Rattle.json.proofs.OneEvent.{one-value}
+use Rattle.json.specs.Meaning.{kindName, contentName, tagsName, Values, IsHex, is-hex, Each, IsArray, is-array, once}
+use Rattle.json.proofs.Tracks.{chars-one}
+use Rattle.json.proofs.OneEvent.{values-one, one-value}
 use Rattle.nson.specs.Nson.{Counts, bytesIn, counts, descriptors, field}
 use Rattle.nson.specs.Carries.{Carries}
 use Rattle.nson.specs.Read.{readNson}
 use Rattle.nson.proofs.Sound.{accepted, field-true, size-true}
 use Rattle.agreement.specs.Counted.{nsonName, StringOf, string-of, number-of, TrueCounts, FieldHolds}
-use Rattle.agreement.specs.Demand.{NoLie, CountsFollowed}
+use Rattle.agreement.specs.Demand3.{NoLie, CountsFollowed}
 use Rattle.agreement.proofs.Spelled.{items}
 use Rattle.agreement.proofs.Tree.{textTree, tagTree, members, tree}
+use Rattle.agreement.proofs.Naming.{plain-values}
 use Rattle.agreement.proofs.Written.{field-chars, tree-text}
 use Rattle.agreement.proofs.OneField.{hexes-one, counts-one}
 
@@ -45,37 +46,37 @@ unfolding field
 field-long c = omega (arith, length-hexes (descriptors c))
 
 true-counts : (e : Event) → TrueCounts (members e) (2 * length (descriptors (counts e))) (counts e)
-unfolding counts bytesIn valuesOf sameText unescape unescaped
+unfolding counts bytesIn sameText within
 true-counts e =
     record {
-      behind = once refl (subst (StringOf (json.string (field (counts e)))) (field-long (counts e)) string-of);
-      kind = once refl number-of;
-      content = once refl string-of;
-      tags = once refl (is-array (each-of (IsArray StringOf) tagTree (map bytesIn) tag-of (e .tags)));
+      behind = once (plain-values nsonName (members e) refl) (subst (StringOf (json.string (field (counts e)))) (field-long (counts e)) string-of);
+      kind = once (plain-values kindName (members e) refl) number-of;
+      content = once (plain-values contentName (members e) refl) string-of;
+      tags = once (plain-values tagsName (members e) refl) (is-array (each-of (IsArray StringOf) tagTree (map bytesIn) tag-of (e .tags)));
     }
 
 -- ---- what the field holds
 
-field-values : (e : Event) → valuesOf nsonName (members e) ≡ json.string (field (counts e)) ∷ []
-unfolding valuesOf sameText unescape unescaped
-field-values e = refl
+field-values : (e : Event) → Values nsonName (members e) (json.string (field (counts e)) ∷ [])
+unfolding sameText within
+field-values e = plain-values nsonName (members e) refl
 
 holds-own : {e : Event} → Carries e → Valid e → FieldHolds (members e) (2 * length (descriptors (counts e))) (counts e)
 unfolding field
-holds-own {e} c v = once (field-values e) (is-hex (unescape-chars (field-chars c v)))
+holds-own {e} c v = once (field-values e) (is-hex (field-chars c v))
 
-hex-string : {l b : List ℕ} → IsHex (json.string l) b → unescape l ≡ hexes b
+hex-string : {l b : List ℕ} → IsHex (json.string l) b → json.Chars l (hexes b)
 hex-string (is-hex e) = e
 
 -- nothing else
 holds-one : {e : Event} {size : ℕ} {c : Counts} → Carries e → Valid e → FieldHolds (members e) size c → (2 * length (descriptors (counts e)) ≡ size) × (counts e ≡ c)
 unfolding field
 holds-one {e} {size} {c} k v (once {v = w} q g) =
-    let f : json.string (field (counts e)) ∷ [] ≡ w ∷ [] = sym (field-values e) ∙ q in
+    let f : json.string (field (counts e)) ∷ [] ≡ w ∷ [] = values-one (field-values e) q in
     let same : json.string (field (counts e)) ≡ w = cc in
     let h = hex-string (rw (sym same) at g) in
     let own = descriptors (counts e) in
-    let all : 2 * length own ∷ own ≡ size ∷ descriptors c = hexes-one (2 * length own ∷ own) (size ∷ descriptors c) (sym (unescape-chars (field-chars k v)) ∙ h) in
+    let all : 2 * length own ∷ own ≡ size ∷ descriptors c = hexes-one (2 * length own ∷ own) (size ∷ descriptors c) (chars-one (field-chars k v) h) in
     let rest : own ≡ descriptors c = cc in
     (cc, counts-one (counts e) c rest)
 

@@ -10,6 +10,8 @@ use lib.Dec.{leb}
 use lib.Seq.{take-at}
 use borrow.Author.Tests.{leb-true, leb-false, le-leb, lt-leb}
 use Rattle.scan.specs.Choice.{pick, Answer, shown, refused}
+use Rattle.scan.proofs.Step.{false-true}
+use Rattle.event.specs.Tells.{among, Tells, value, refusal}
 use Rattle.store.specs.Entry.{written, filled, writes, leaves}
 
 -- ---- general: all of these belong to crate store
@@ -28,11 +30,6 @@ pub record Lacking {A : Type 0} (text : A → List ℕ) (a : Answer A) (d : List
   pub long : length (text value) ≡ n
   pub short : length d < n
 
--- an answer that is not refusal 11
-pub data Not11 {A : Type 0} : Answer A → Type 0 where
-  is-shown : {a : A} → Not11 (shown a)
-  is-other : {n p : ℕ} → (n ≡ 11 → ⊥) → Not11 (refused n p)
-
 no-number : {A : Type 0} {R : Type 0} {n p : ℕ} {a : A} → refused n p ≡ shown a → R
 no-number e = let z : _≡_ {A = ℕ} 0 1 = cc in absurd (omega arith)
 
@@ -47,15 +44,16 @@ module _ {A : Type 0} (text : A → List ℕ) where
       go false t e = no-number e
   wrote (refused k p) d n = no-number
 
-  -- 11, where the reading itself never says 11: it showed a value, whose text has that length and no room
-  pub lacked : {a : Answer A} (d : List ℕ) (n : ℕ) → Not11 a → writes text a d ≡ refused 11 n → Lacking text a d n
+  -- 11, where it is none of the reading's own numbers: the reading showed a value, whose text has that length and no room
+  pub lacked : {numbers : List ℕ} {most : ℕ} {P : A → Type 0} {a : Answer A} (d : List ℕ) (n : ℕ) → among numbers 11 ≡ false → Tells numbers most P a
+      → writes text a d ≡ refused 11 n → Lacking text a d n
   unfolding written
-  lacked d n (is-shown {a = x}) = go (leb (length (text x)) (length d)) refl
+  lacked d n none (value {a = x} p) = go (leb (length (text x)) (length d)) refl
     where
       go : (t : Bool) → leb (length (text x)) (length d) ≡ t → pick t (shown (length (text x))) (refused 11 (length (text x))) ≡ refused 11 n → Lacking text (shown x) d n
       go true t e = no-number (sym e)
       go false t e = let l : length (text x) ≡ n = cc in record { value = x; reads = refl; long = l; short = rw l at (leb-false (length (text x)) (length d) t) }
-  lacked d n (is-other {n = k} h) = λ e. let z : k ≡ 11 = cc in absurd (h z)
+  lacked {numbers = numbers} d n none (refusal {n = k} o h) = λ e. let z : k ≡ 11 = cc in absurd (false-true (sym none ∙ rw z at o))
 
   -- and back: a value with room
   pub fits : {a : Answer A} {x : A} (d : List ℕ) → a ≡ shown x → length (text x) ≤ length d

@@ -19,7 +19,8 @@ use Rattle.jsontext.specs.Token.{isSpace, spaceAt, wordAt, isDigit, digitsOr, m
 use Rattle.jsontext.specs.Text.{charsAt, stringAt}
 use Rattle.jsontext.specs.Value as value
 use Rattle.jsontext.specs.Grammar as json
-use Rattle.json.specs.Meaning.{contentName, valuesOf, Once, once}
+use Rattle.json.specs.Meaning.{contentName, Values, Once, once}
+use Rattle.json.proofs.OneEvent.{values-one}
 use Rattle.json.specs.Field.{textAt, isHexOf, hexAt, digitsOnly, wholeOf, wholeAt, afterItem, itemsAt, insideAt, arrayAt, oneOrMore, tagAt, tagsAt, indexIn, fieldOf, fieldAt}
 use Rattle.json.specs.Object as object
 use Rattle.nson.specs.Nson.{Counts, headText, bodyText, nson}
@@ -49,7 +50,7 @@ abbrev lying : List ℕ
 lying = headText event ++ hexes (0x08 ∷ 0x01 ∷ 0x00 ∷ 0x03 ∷ 0x00 ∷ []) ++ bodyText event
 
 pub example-lying : (object.readJson lying ≡ shown event) × (readNson lying ≡ refused 13 353)
-unfolding headText bodyText escaped nsonByte decimal decimalIn tagsText object.readJson object.wholeAt object.objectAt object.insideAt object.membersAt object.afterMember object.closeAt object.eventOf object.noneMissing object.memberAt object.colonAt fieldAt fieldOf indexIn tagsAt tagAt oneOrMore arrayAt insideAt itemsAt afterItem wholeAt wholeOf digitsOnly hexAt isHexOf textAt value.valueAt value.walkAt value.walkBy value.valueBy charsAt stringAt isSpace spaceAt wordAt isDigit digitsOr minusAt signAt intAt fracAt isE expAt numberFrom unsignedFrom numberAt letterOf letterEscape escapeAt orItself unescaped unescape sameText valueOf unhex allDigits widthAt within run runAt standsAt begins encode
+unfolding headText bodyText escaped nsonByte decimal decimalIn tagsText object.readJson object.wholeAt object.objectAt object.insideAt object.membersAt object.afterMember object.closeAt object.memberAt object.colonAt fieldAt fieldOf indexIn tagsAt tagAt oneOrMore arrayAt insideAt itemsAt afterItem wholeAt wholeOf digitsOnly hexAt isHexOf textAt value.valueAt value.walkAt value.walkBy value.valueBy charsAt stringAt isSpace spaceAt wordAt isDigit digitsOr minusAt signAt intAt fracAt isE expAt numberFrom unsignedFrom numberAt letterOf letterEscape escapeAt orItself unescaped unescape sameText valueOf unhex allDigits widthAt within run runAt standsAt begins encode
 example-lying = (refl, example-refused .0)
 
 -- a\"b between its quotes has four bytes, so a count of three is not true of it
@@ -59,12 +60,12 @@ spelled = json.string (0x61 ∷ 0x5C ∷ 0x22 ∷ 0x62 ∷ [])
 string-long : {l : List ℕ} {n : ℕ} → StringOf (json.string l) n → length l ≡ n
 string-long string-of = refl
 
-pub example-false : (m : json.Members) (size : ℕ) (c : Counts) → valuesOf contentName m ≡ spelled ∷ [] → c .content ≡ 3 → TrueCounts m size c → ⊥
+pub example-false : (m : json.Members) (size : ℕ) (c : Counts) → Values contentName m (spelled ∷ []) → c .content ≡ 3 → TrueCounts m size c → ⊥
 example-false m size c h n t = go (t .content)
   where
     go : Once m contentName StringOf (c .content) → ⊥
     go (once {v = v} e g) =
-        let f : v ∷ [] ≡ spelled ∷ [] = sym e ∙ h in
+        let f : v ∷ [] ≡ spelled ∷ [] = values-one e h in
         let same : v ≡ spelled = cc in
         let k = string-long (rw same at g) in
         omega arith

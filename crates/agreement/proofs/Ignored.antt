@@ -1,25 +1,35 @@
--- The plain JSON reader ignores the nson field: with another value there it shows the same event.
+-- The plain JSON reader ignores the nson field: with another value there, with the field added or taken away, it shows the same event.
 -- No name of the seven is `nson`, so each name has the same values in both texts.
 use mathlib.Core.Path.{_≡_, refl, sym, _∙_}
-use mathlib.Core.Bool.{false}
+use mathlib.Core.Bool.{true, false}
+use mathlib.Core.List.{List}
+use Rattle.scan.proofs.Step.{false-true}
 use Rattle.event.specs.Event.{Text, Event, sameText}
+use Rattle.event.proofs.Laws.{same-text}
 use Rattle.jsontext.specs.Grammar as json
-use Rattle.json.specs.Meaning.{valuesOf, Once, once, Says, Shallow, no-member, known, ignored, IsEvent, is-event}
+use Rattle.json.specs.Meaning.{Values, no-value, named, other, Once, once, Says, Shallow, no-member, known, ignored, IsEvent, is-event}
+use Rattle.json.proofs.Tracks.{chars-one}
 use Rattle.json.proofs.Whole.{sound, complete}
 use Rattle.json.proofs.OneEvent.{one-value}
-use Rattle.agreement.specs.Counted.{nsonName, OtherField, ended, kept, other}
-use Rattle.agreement.specs.Demand.{FieldIgnored}
+use Rattle.agreement.specs.Counted.{nsonName, OtherField, ended, kept, removed, added}
+use Rattle.agreement.specs.Demand3.{FieldIgnored}
 
 -- a name other than `nson` has the same values
-same-values : {m k : json.Members} (t : Text) → sameText nsonName t ≡ false → OtherField m k → valuesOf t m ≡ valuesOf t k
-unfolding valuesOf
-same-values t h ended = refl
-same-values t h (kept o) = rw (same-values t h o)
-same-values t h (other e n o) = rw (e, h) (same-values t h o)
+same-values : {m k : json.Members} {t : Text} {l : List json.Json} → (nsonName ≡ t → ⊥) → OtherField m k → Values t m l → Values t k l
+same-values h ended r = r
+same-values h (kept o) (named c r) = named c (same-values h o r)
+same-values h (kept o) (other c x r) = other c x (same-values h o r)
+same-values h (removed d o) (named c r) = absurd (h (chars-one d c))
+same-values h (removed d o) (other c x r) = same-values h o r
+same-values h (added d n o) r = other d h (same-values h o r)
+
+-- found by comparing
+differs : {t : Text} → sameText nsonName t ≡ false → nsonName ≡ t → ⊥
+differs {t} h e = false-true (sym h ∙ rw (← e) (same-text nsonName))
 
 same-once : {A : Type 0} {m k : json.Members} {t : Text} {Is : json.Json → A → Type 0} {x : A} → sameText nsonName t ≡ false → OtherField m k
     → Once m t Is x → Once k t Is x
-same-once {t = t} h o (once e g) = once (sym (same-values t h o) ∙ e) g
+same-once h o (once e g) = once (same-values (differs h) o e) g
 
 same-says : {m k : json.Members} {e : Event} → OtherField m k → Says m e → Says k e
 unfolding sameText
@@ -35,11 +45,12 @@ same-says o y =
     }
 
 same-shallow : {m k : json.Members} → OtherField m k → Shallow m → Shallow k
-same-shallow ended no-member = no-member
-same-shallow (kept o) (known p r) = known p (same-shallow o r)
+same-shallow ended r = r
+same-shallow (kept o) (known c p r) = known c p (same-shallow o r)
 same-shallow (kept o) (ignored n r) = ignored n (same-shallow o r)
-same-shallow (other e n o) (known p r) = ignored n (same-shallow o r)
-same-shallow (other e n o) (ignored p r) = ignored n (same-shallow o r)
+same-shallow (removed d o) (known c p r) = same-shallow o r
+same-shallow (removed d o) (ignored n r) = same-shallow o r
+same-shallow (added d n o) r = ignored n (same-shallow o r)
 
 same-event : {m k : json.Members} {e : Event} → OtherField m k → IsEvent (json.object m) e → IsEvent (json.object k) e
 same-event o (is-event y v r) = is-event (same-says o y) v (same-shallow o r)

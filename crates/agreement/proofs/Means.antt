@@ -4,6 +4,7 @@ use Prim.Native.Nat.{ℕ}
 use mathlib.Core.Path.{refl, subst}
 use mathlib.Core.List.{List, map}
 use native.Mathlib.Omega.{arith}
+use Rattle.scan.specs.Place.{within}
 use Rattle.scan.specs.Span.{All, none, also, IsBytes}
 use Rattle.utf8.specs.Utf8.{Utf8}
 use Rattle.hex.specs.Hex.{hexes}
@@ -11,25 +12,24 @@ use Rattle.decimal.specs.Decimal.{decimal}
 use Rattle.decimal.proofs.Spelling.{number-decimal}
 use Rattle.event.specs.Event.{Text, Tag, Event, ValidTag, Valid, sameText}
 use Rattle.jsontext.specs.Grammar as json
-use Rattle.jsontext.specs.Escape.{unescaped, unescape}
-use Rattle.jsontext.proofs.Meaning.{unescape-chars}
-use Rattle.json.specs.Meaning.{valuesOf, IsText, is-text, IsHex, is-hex, IsNumber, is-number, Each, is-array, IsTag, once, Says, first, later, Shallow, no-member, known, ignored, IsEvent, is-event}
+use Rattle.json.specs.Meaning.{idName, pubkeyName, sigName, createdAtName, kindName, tagsName, contentName, Values, IsText, is-text, IsHex, is-hex, IsNumber, is-number, Each, is-array, IsTag, once, Says, first, later, Shallow, no-member, known, ignored, IsEvent, is-event}
 use Rattle.nson.specs.Nson.{counts, field}
 use Rattle.nson.specs.Carries.{Fits, Carries}
-use Rattle.agreement.proofs.Texts.{hexes-chars, nson-chars, decimal-json}
+use Rattle.agreement.proofs.Texts.{hexes-chars, name-chars, nson-chars, decimal-json}
+use Rattle.agreement.proofs.Naming.{plainValues, plain-values}
 use Rattle.agreement.proofs.Spelled.{items}
 use Rattle.agreement.proofs.Tree.{textTree, tagTree, members, tree}
 
 -- ---- values
 
 hex-is : {b : List ℕ} → IsBytes b → IsHex (json.string (hexes b)) b
-hex-is h = is-hex (unescape-chars (hexes-chars h))
+hex-is h = is-hex (hexes-chars h)
 
 number-is : (n : ℕ) → IsNumber (json.number (decimal n)) n
 number-is n = subst (IsNumber (json.number (decimal n))) (number-decimal n) (is-number (decimal-json n))
 
 text-is : {t : Text} → Fits t → Utf8 t → IsText (textTree t) t
-text-is {t} f u = subst (IsText (textTree t)) (unescape-chars (nson-chars u (f .plain))) is-text
+text-is f u = is-text (nson-chars u (f .plain))
 
 -- a spelled array, item by item
 module _ {A : Type 0} (Is : json.Json → A → Type 0) (f : A → json.Json) where
@@ -47,29 +47,36 @@ tags-are (also f p) (also v q) = also (is-array (each-is IsText textTree (texts-
 
 -- ---- members
 
+-- the values of a name
+values : (e : Event) (t : Text) → Values t (members e) (plainValues t (members e))
+unfolding within
+values e t = plain-values t (members e) refl
+
 says : {e : Event} → Carries e → Valid e → Says (members e) e
-unfolding valuesOf sameText unescape unescaped
+unfolding sameText
 says {e} c v =
     record {
-      id = once refl (hex-is (v .id32 .each));
-      pubkey = once refl (hex-is (v .pubkey32 .each));
-      sig = once refl (hex-is (v .sig64 .each));
-      createdAt = once refl (number-is (e .createdAt));
-      kind = once refl (number-is (e .kind));
-      tags = once refl (is-array (each-is IsTag tagTree (tags-are (c .texts) (v .each))));
-      content = once refl (text-is (c .content) (v .text));
+      id = once (values e idName) (hex-is (v .id32 .each));
+      pubkey = once (values e pubkeyName) (hex-is (v .pubkey32 .each));
+      sig = once (values e sigName) (hex-is (v .sig64 .each));
+      createdAt = once (values e createdAtName) (number-is (e .createdAt));
+      kind = once (values e kindName) (number-is (e .kind));
+      tags = once (values e tagsName) (is-array (each-is IsTag tagTree (tags-are (c .texts) (v .each))));
+      content = once (values e contentName) (text-is (c .content) (v .text));
     }
 
 -- the one name that is ignored has a string
 shallow : (e : Event) → Shallow (members e)
-unfolding unescape unescaped
+unfolding within
 shallow e =
-    known first
-    (known (later first)
-    (known (later (later first))
-    (known (later (later (later first)))
+    known (name-chars idName refl) first
+    (known (name-chars pubkeyName refl) (later first)
+    (known (name-chars sigName refl) (later (later first))
+    (known (name-chars createdAtName refl) (later (later (later first)))
     (ignored {v = json.string (field (counts e))} (omega arith)
-    (known (later (later (later (later first)))) (known (later (later (later (later (later (later first)))))) (known (later (later (later (later (later first))))) no-member)))))))
+    (known (name-chars kindName refl) (later (later (later (later first))))
+    (known (name-chars contentName refl) (later (later (later (later (later (later first))))))
+    (known (name-chars tagsName refl) (later (later (later (later (later first))))) no-member)))))))
 
 -- THE meaning: the tree of an event's text is the event
 pub tree-event : {e : Event} → Carries e → Valid e → IsEvent (tree e) e

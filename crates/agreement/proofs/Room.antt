@@ -1,7 +1,7 @@
 -- Demand 3's sentences on room: the same length written and the same bytes, and the same length needed.
 -- Both readings show one event, so both entries have one text to write.
 use Prim.Native.Nat.{ℕ, _<_, _≤_}
-use mathlib.Core.Path.{_≡_, sym, _∙_}
+use mathlib.Core.Path.{_≡_, refl, sym, _∙_}
 use mathlib.Core.List.{List}
 use native.Mathlib.Omega.{arith}
 use lib.ListN.{length}
@@ -9,10 +9,10 @@ use Rattle.scan.specs.Choice.{shown}
 use Rattle.event.specs.Event.{Event}
 use Rattle.notepack.specs.Strict.{pack}
 use Rattle.nson.specs.Read.{readNson}
-use Rattle.agreement.specs.Demand.{GivenRoom, OnlyRoom, had, SameNeed, NeedEnough}
+use Rattle.agreement.specs.Demand3.{GivenRoom, OnlyRoom, had, SameNeed, NeedEnough}
 use Rattle.agreement.proofs.Entries.{wrote, lacked, fits, lacks, left}
 use Rattle.agreement.proofs.Agree.{both-accept}
-use Rattle.agreement.proofs.NumbersWhole.{nson-not-11}
+use Rattle.nson.proofs.Telling.{nson-tells}
 
 pub given-room : GivenRoom
 given-room s d₁ d₂ n r h =
@@ -34,7 +34,7 @@ given-room s d₁ d₂ n r h =
 -- the event, where the NSON reader lacks nothing but room
 needed : {s : List ℕ} {n : ℕ} → OnlyRoom s n → (e : Event) × (readNson s ≡ shown e) × (length (pack e) ≡ n)
 needed {s} {n} (had d r) = let f = wrote pack (readNson s) d n r in (f .value, f .reads, f .long)
-needed {s} {n} (OnlyRoom.lacked d r) = let f = lacked pack d n (nson-not-11 s) r in (f .value, f .reads, f .long)
+needed {s} {n} (OnlyRoom.lacked d r) = let f = lacked pack d n refl (nson-tells s) r in (f .value, f .reads, f .long)
 
 pub same-need : SameNeed
 same-need s n o d h =

@@ -44,7 +44,7 @@ pub hexes-chars : {b : List ℕ} → IsBytes b → json.Chars (hex.hexes b) (hex
 hexes-chars h = digits-chars (hexes-digits h)
 
 -- small letters and the low line
-abbrev letters : List ℕ → Bool
+abbrev pub letters : List ℕ → Bool
 letters [] = true
 letters (b ∷ l) = pick (within 0x5D 0x7F b) (letters l) false
 

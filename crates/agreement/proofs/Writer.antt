@@ -20,8 +20,8 @@ use Rattle.nson.specs.Carries.{Carries, carries}
 use Rattle.nson.proofs.Pieces.{pick-shown, after, shown-same}
 use Rattle.nson.proofs.Complete as complete
 use Rattle.nson.proofs.Decision.{carries-exactly}
-use Rattle.agreement.specs.Entries.{carried, nsonWrites, writerLeaves}
-use Rattle.agreement.specs.Demand.{WriterWrites, Refused, is-refused, OrNothing, WriterRefusals, ReadBack}
+use Rattle.nson.specs.Entries.{carried, nsonWrites, writerLeaves}
+use Rattle.agreement.specs.Demand3.{WriterWrites, Refused, is-refused, OrNothing, WriterRefusals, ReadBack}
 use Rattle.agreement.proofs.Entries.{wrote, fits, lacks, left}
 use Rattle.agreement.proofs.Agree.{json-back}
 

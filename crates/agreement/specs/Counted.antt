@@ -1,24 +1,24 @@
 -- The true counts of a JSON text (document 01, "NSON", last paragraph): read off RFC 8259's tree alone, with no reader in it. Assumes nothing.
 use Prim.Native.Nat.{ℕ, _+_, _≤_}
 use mathlib.Core.Path.{_≡_}
-use mathlib.Core.List.{List, [], _∷_}
+use mathlib.Core.List.{List, _∷_}
 use lib.ListN.{length}
+use Rattle.scan.specs.Ascii.{ascii}
 use Rattle.event.specs.Event.{Text}
 use Rattle.jsontext.specs.Grammar as json
-use Rattle.jsontext.specs.Escape.{unescape}
 use Rattle.json.specs.Meaning.{kindName, contentName, tagsName, IsHex, IsArray, Once}
 use Rattle.nson.specs.Nson.{Counts, descriptors}
 
--- nson
 abbrev pub nsonName : Text
-nsonName = 0x6E ∷ 0x73 ∷ 0x6F ∷ 0x6E ∷ []
+nsonName = ascii "nson"
 
--- members that differ in the value of the nson field alone; the new one nests at most 16 deep
+-- members that differ in nson fields alone: k is m with some taken away and others put in, wherever they stand. A new one nests at most 16 deep.
 pub data OtherField : json.Members → json.Members → Type 0 where
   ended : OtherField json.no-member json.no-member
   kept : {n : List ℕ} {v : json.Json} {m k : json.Members} → OtherField m k → OtherField (json.member n v m) (json.member n v k)
-  other : {n : List ℕ} {v w : json.Json} {m k : json.Members} → unescape n ≡ nsonName → json.nesting w ≤ 16 → OtherField m k
-      → OtherField (json.member n v m) (json.member n w k)
+  removed : {n : List ℕ} {v : json.Json} {m k : json.Members} → json.Chars n nsonName → OtherField m k → OtherField (json.member n v m) k
+  added : {n : List ℕ} {v : json.Json} {m k : json.Members} → json.Chars n nsonName → json.nesting v ≤ 16 → OtherField m k
+      → OtherField m (json.member n v k)
 
 -- "strings counted between their quotes as spelled"
 pub data StringOf : json.Json → ℕ → Type 0 where

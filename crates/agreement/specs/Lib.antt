@@ -1,3 +1,3 @@
-pub mod Entries
 pub mod Counted
-pub mod Demand
+pub mod Demand3
+pub mod Demand2

@@ -1,13 +1,11 @@
--- The meaning of the code's answer, case by case: the number that C gets, or the refusal. Assumes nothing.
-use Prim.Native.Nat.{ℕ}
+-- The meaning of the code's answer, case by case: which readers show the event and its length, or the refusal. Assumes nothing.
 use Rattle.scan.specs.Choice.{Answer, shown}
 use Rattle.event.specs.Answers.{told}
 use Rattle.both.specs.declared.BothRead.{BothRead}
 use Rattle.both.specs.declared.BothRead.the-variants as both-by
+use Rattle.both.specs.Both.{Compared}
 
-abbrev pub bothRead : BothRead → Answer ℕ
-bothRead both-by.Neither = shown 0
-bothRead (both-by.JsonAlone) = shown 1
-bothRead (both-by.Same) = shown 2
-bothRead both-by.Differ = shown 3
+abbrev pub bothRead : BothRead → Answer Compared
+bothRead (both-by.JsonAlone n) = shown (record { which = 1; len = n })
+bothRead (both-by.Same n) = shown (record { which = 2; len = n })
 bothRead (both-by.Refused r) = told r

@@ -86,7 +86,7 @@ fn first_fault(t: &[u8]) -> u8
 }
 
 // The earliest fault of the bytes between two quotes, by its number of refusal; 0 where there is none.
-pub fn fault_in(t: &[u8]) -> u8
+fn fault_in(t: &[u8]) -> u8
     ensures { λ r. ⌜ r ≡ faultIn (now (t .entry)) ⌝ }
 {
     if is_spelled(t) {

@@ -4,7 +4,7 @@ ghost use mathlib.Core.Path.{_≡_};
 ghost use lib.ListN.{length};
 ghost use Rattle.scan.specs.Choice.{pick};
 ghost use Rattle.store.specs.Store.{Wrote};
-ghost use Rattle.escape.specs.Escape.{canonicalByte, nsonByte, escaped, isControl, controls, nsonText};
+ghost use Rattle.escape.specs.Escape.{nsonByte, escaped, isControl, controls, nsonText};
 ghost use Rattle.escape.specs.Block.{byteOf, isEscaped, letterOf, runOf};
 
 // Whether the byte becomes two.
@@ -87,14 +87,6 @@ pub fn escaped_len(all: bool, s: &[u8]) -> usize
         i = e;
     }
     n + (s.len() - i) + escapes(all, &s[i..]) as usize
-}
-
-// The length of a text in the canonical text.
-pub fn canonical_len(s: &[u8]) -> usize
-    ensures { λ r. ⌜ r ≡ length (escaped canonicalByte (now (s .entry))) ⌝ }
-    ensures { λ r. ⌜ r ≤ 2 * length (now (s .entry)) ⌝ }
-{
-    escaped_len(true, s)
 }
 
 // ---- the text
@@ -192,20 +184,6 @@ pub fn put_escaped(all: bool, out: &mut [u8], at: usize, s: &[u8]) -> usize
         o += 2;
     }
     put_rest(all, out, o, &s[i..])
-}
-
-// A text as the canonical text has it.
-pub fn put_canonical(out: &mut [u8], at: usize, s: &[u8]) -> usize
-    ensures { λ r. ⌜ Wrote (now (out .entry)) at (escaped canonicalByte (now (s .entry))) (now (out .exit)) r ⌝ }
-{
-    put_escaped(true, out, at, s)
-}
-
-// A text as NSON has it.
-pub fn put_nson(out: &mut [u8], at: usize, s: &[u8]) -> usize
-    ensures { λ r. ⌜ Wrote (now (out .entry)) at (escaped nsonByte (now (s .entry))) (now (out .exit)) r ⌝ }
-{
-    put_escaped(false, out, at, s)
 }
 
 // ---- what NSON can carry

@@ -64,24 +64,14 @@ fn read(label: &[u8], bytes: &[u8]) {
     }
 }
 
-// The strict element of a text: the varint 2 × length + b, then its bytes.
-fn put_element(out: &mut [u8], text: &[u8]) -> usize {
-    if hex::goes_as_bytes(text) {
-        let n = text.len() / 2;
-        let o = varint::put_varint(out, 0, 2 * n as u64 + 1);
-        return hex::put_unhex(out, o, text);
-    }
-    let o = varint::put_varint(out, 0, 2 * text.len() as u64);
-    store::put_bytes(out, o, text)
-}
-
+// The strict element of a text.
 fn element(label: &[u8], text: &[u8]) {
     say(label);
     say(b"'");
     say(text);
     say(b"' is");
     let mut bytes = [0u8; 16];
-    let k = put_element(&mut bytes, text);
+    let k = strict::put_text(&mut bytes, 0, text);
     say_bytes(scan::part(&bytes, 0, k));
     say(b"\n");
 }

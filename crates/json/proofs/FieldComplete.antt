@@ -17,12 +17,12 @@ use Rattle.hex.proofs.Texts.{length-hexes, hexes-digits, unhex-hexes, digits-pa
 use Rattle.decimal.specs.Decimal.{numberOf}
 use Rattle.event.specs.Event.{Text, Tag, Bytes, ValidTag}
 use Rattle.jsontext.specs.Grammar as json
-use Rattle.jsontext.specs.Escape.{unescape}
 use Rattle.jsontext.specs.Token.{spaceAt}
 use Rattle.jsontext.proofs.TokenLaws.{Stop, space-accepts, number-accepts}
 use Rattle.jsontext.proofs.TextLaws.{string-accepts, quoted-part}
 use Rattle.jsontext.proofs.FirstByte.{first-at, begins-items}
 use Rattle.jsontext.proofs.ValueComplete.{value-accepts, separator-accepts, not-space, comma-solid, bracket-solid}
+use Rattle.jsontext.proofs.Meaning.{unescape-chars}
 use Rattle.json.specs.Meaning.{IsText, is-text, IsHex, is-hex, IsNumber, is-number, Each, none, also, IsArray, is-array, IsTag}
 use Rattle.json.specs.Field.{textAt, isHexOf, hexAt, digitsOnly, wholeOf, wholeAt, afterItem, itemsAt, insideAt, arrayAt, oneOrMore, tagAt, tagsAt, Value, fieldAt}
 use Rattle.json.proofs.Says.{FieldSays, id-says, pubkey-says, sig-says, time-says, kind-says, tags-says, content-says, ignored-says}
@@ -31,12 +31,12 @@ use Rattle.json.proofs.FieldSound.{Within, within, span-part}
 -- ---- texts
 
 -- a string of the grammar is read as its text
-pub quoted-accepts : {s l q : List ℕ} {a c : ℕ} → json.Quoted l q → Span s a q c → textAt s a ≡ read (unescape l) c
+pub quoted-accepts : {s l t q : List ℕ} {a c : ℕ} → json.Quoted l q → json.Chars l t → Span s a q c → textAt s a ≡ read t c
 unfolding textAt
-quoted-accepts g r = rw (string-accepts g r, quoted-part g r)
+quoted-accepts g t r = rw (string-accepts g r, quoted-part g r, unescape-chars t)
 
 pub text-accepts : {v : json.Json} {t : Text} {s l : List ℕ} {a c : ℕ} → IsText v t → json.Spells v l → Span s a l c → textAt s a ≡ read t c
-text-accepts is-text (json.is-string g) r = quoted-accepts g r
+text-accepts (is-text t) (json.is-string g) r = quoted-accepts g t r
 
 -- ---- bytes in hex
 
@@ -46,7 +46,7 @@ is-hex-of {n} {b} p = rw (eq-eqb (length (hexes b)) (2 * n) (length-hexes b ∙ 
 
 pub hex-accepts : {n : ℕ} {v : json.Json} {b : List ℕ} {s l : List ℕ} {a c : ℕ} → Bytes n b → IsHex v b → json.Spells v l → Span s a l c → hexAt n s a ≡ read b c
 unfolding hexAt
-hex-accepts {n} {c = c} p (is-hex e) (json.is-string g) r = rw (quoted-accepts g r, e, is-hex-of p, unhex-hexes (p .each))
+hex-accepts {n} {c = c} p (is-hex t) (json.is-string g) r = rw (quoted-accepts g t r, is-hex-of p, unhex-hexes (p .each))
 
 -- ---- numbers
 
@@ -73,7 +73,8 @@ module _ {A : Type 0} (item : ℕ → Answer (Read A)) (s : List ℕ) where
   unfolding itemsAt afterItem
   item-more left a b c d e x xs i f g h r = rw (i, f, g, h, r)
 
-each-some : {A : Type 0} {Is : json.Json → A → Type 0} {i : json.Items} {xs : List A} {l : List ℕ} → json.SpellsItems i l → Each Is i xs → 1 ≤ length xs
+-- an array that has an item says something
+pub each-some : {A : Type 0} {Is : json.Json → A → Type 0} {i : json.Items} {xs : List A} {l : List ℕ} → json.SpellsItems i l → Each Is i xs → 1 ≤ length xs
 each-some (json.last-item g) (also y r) = omega arith
 each-some (json.more-items g c gs) (also y r) = omega arith
 

@@ -1,11 +1,11 @@
 -- Soundness of each field: what is read of its value stands there by the grammar, says what was read, and keeps its limit.
 -- A walk over the definitions of `specs/Field`; arrays once for every kind of item.
 use Prim.Native.Nat.{ℕ, zero, suc, _+_, _*_, _-_, _<_, _≤_}
-use mathlib.Core.Path.{_≡_, refl, sym}
+use mathlib.Core.Path.{_≡_, refl}
 use mathlib.Core.Bool.{true, false}
 use mathlib.Core.List.{List, [], _∷_, _++_, append-assoc}
 use native.Mathlib.Omega.{arith}
-use lib.ListN.{length, getD, take, drop}
+use lib.ListN.{length, getD, take, drop, length-append}
 use lib.Seq.{take-at}
 use lib.Dec.{leb, eqb}
 use borrow.Author.Tests.{leb-true, eqb-true, eqb-false}
@@ -16,20 +16,19 @@ use Rattle.scan.proofs.Step.{pick-true}
 use Rattle.scan.proofs.SpanLaws.{join, bite, span-length, from-span}
 use Rattle.scan.proofs.Reading.{Reads, reads, fails, pick-reads, then-reads, from-reads}
 use Rattle.utf8.specs.Utf8.{Utf8}
-use Rattle.hex.specs.Hex.{unhex, allDigits}
+use Rattle.hex.specs.Hex.{hexes, unhex, allDigits}
 use Rattle.hex.proofs.Digits.{in-range}
 use Rattle.hex.proofs.Texts.{hexes-unhex, pass-digits, length-unhex, unhex-bytes}
 use Rattle.decimal.specs.Decimal.{numberOf, isDigit}
 use Rattle.event.specs.Event.{Text, Tag, Bytes, ValidTag}
 use Rattle.jsontext.specs.declared.Spelled.{Spelled}
 use Rattle.jsontext.specs.Grammar as json
-use Rattle.jsontext.specs.Escape.{unescape}
 use Rattle.jsontext.specs.Token.{Done, spaceAt}
 use Rattle.jsontext.proofs.TokenLaws.{bind, space-consumes, number-consumes}
 use Rattle.jsontext.proofs.TextLaws.{StringAt, string-is, string-consumes, quoted-part}
 use Rattle.jsontext.proofs.FirstByte.{begins-value, some-bytes}
 use Rattle.jsontext.proofs.ValueSound.{Some, some, value-consumes}
-use Rattle.jsontext.proofs.Meaning.{unescape-utf8}
+use Rattle.jsontext.proofs.Meaning.{unescape-chars, chars-utf8, chars-same}
 use Rattle.json.specs.Meaning.{IsText, is-text, IsHex, is-hex, IsNumber, is-number, Each, none, also, IsArray, is-array, IsTag}
 use Rattle.json.specs.Field.{textOf, textAt, isHexOf, hexAt, digitsOnly, wholeOf, wholeAt, afterItem, itemsAt, insideAt, arrayAt, oneOrMore, tagAt, tagsAt, Value, missing, bytes, number, tags, text, under, fieldAt}
 use Rattle.json.proofs.Says.{FieldSays, id-says, pubkey-says, sig-says, time-says, kind-says, tags-says, content-says, ignored-says}
@@ -46,33 +45,30 @@ pub data Within {A : Type 0} (Is : json.Json → A → Type 0) (P : A → Type 0
 
 -- a quoted string and the text that it stands for
 pub data Quotes : Text → List ℕ → Type 0 where
-  quotes : {l q : List ℕ} → json.Quoted l q → Quotes (unescape l) q
+  quotes : {l t q : List ℕ} → json.Quoted l q → json.Chars l t → Quotes t q
 
 pub text-consumes : (s : List ℕ) (a : ℕ) → Reads Quotes s a (textAt s a)
 unfolding textAt
 text-consumes s a = then-reads (λ r. read (textOf s (r .value)) (r .next)) (string-consumes s a) (λ x q e g r. told g r)
   where
     told : {x : Spelled} {q : List ℕ} {e : ℕ} → StringAt a x q → Span s a q e → Reads Quotes s a (read (textOf s x) e)
-    told (string-is {l = l} g h) r = rw (h, quoted-part g r) (reads (quotes g) r)
-
-quoted-utf8 : {l q : List ℕ} → json.Quoted l q → Utf8 (unescape l)
-quoted-utf8 (json.quoted g) = unescape-utf8 g
+    told (string-is (json.quoted c) h) r = rw (h, quoted-part (json.quoted c) r, unescape-chars c) (reads (quotes (json.quoted c) c) r)
 
 pub text-says : (s : List ℕ) (a : ℕ) → Reads (Saying (Within IsText Utf8)) s a (textAt s a)
 text-says s a = from-reads (text-consumes s a) (λ t q e g r. told g r)
   where
     told : {t : Text} {q : List ℕ} {e : ℕ} → Quotes t q → Span s a q e → Reads (Saying (Within IsText Utf8)) s a (read t e)
-    told (quotes g) r = reads (saying (json.is-string g) (within is-text (quoted-utf8 g))) r
+    told (quotes g c) r = reads (saying (json.is-string g) (within (is-text c) (chars-utf8 c))) r
 
 -- ---- bytes in hex
 
-hex-text : {n : ℕ} {l : List ℕ} → isHexOf n (unescape l) ≡ true → Within IsHex (Bytes n) (json.Json.string l) (unhex (unescape l))
+hex-text : {n : ℕ} {l t : List ℕ} → json.Chars l t → isHexOf n t ≡ true → Within IsHex (Bytes n) (json.Json.string l) (unhex t)
 unfolding isHexOf
-hex-text {n} {l} t =
-    let u = unescape l in
-    let b = pick-true (eqb (length u) (2 * n)) (allDigits u) t in
-    let k = eqb-true (length u) (2 * n) (b .0) in
-    within (is-hex (sym (hexes-unhex (pass-digits u (b .1)) (omega arith)))) (record { count = omega (arith, length-unhex u); each = unhex-bytes u })
+hex-text {n} {l} {t} c h =
+    let b = pick-true (eqb (length t) (2 * n)) (allDigits t) h in
+    let k = eqb-true (length t) (2 * n) (b .0) in
+    let d : json.Chars l (hexes (unhex t)) = rw (hexes-unhex (pass-digits t (b .1)) (omega arith)) c in
+    within (is-hex d) (record { count = omega (arith, length-unhex t); each = unhex-bytes t })
 
 pub hex-says : (n : ℕ) (s : List ℕ) (a : ℕ) → Reads (Saying (Within IsHex (Bytes n))) s a (hexAt n s a)
 unfolding hexAt
@@ -80,8 +76,8 @@ hex-says n s a = then-reads _ (text-consumes s a) (λ t q e g r. told g r)
   where
     told : {t : Text} {q : List ℕ} {e : ℕ} → Quotes t q → Span s a q e
         → Reads (Saying (Within IsHex (Bytes n))) s a (pick (isHexOf n t) (read (unhex t) e) (refused 12 a))
-    told {e = e} (quotes {l = l} g) r =
-        pick-reads (isHexOf n (unescape l)) (λ t. reads {e = e} (saying (json.is-string g) (hex-text {n = n} t)) r) (λ f. fails)
+    told {t} {e = e} (quotes g c) r =
+        pick-reads (isHexOf n t) (λ h. reads {e = e} (saying (json.is-string g) (hex-text {n = n} c h)) r) (λ f. fails)
 
 -- ---- numbers
 
@@ -238,6 +234,13 @@ says-bytes (reads (saying g y) r) = some-bytes (begins-value g) r
 
 pub text-some : (s : List ℕ) (a : ℕ) {e : ℕ} {t : Text} → textAt s a ≡ read t e → (a < e) × (e ≤ length s)
 text-some s a f = says-bytes (rw f at (text-says s a))
+
+-- a text is at most as long as the bytes between its quotes
+pub text-shorter : (s : List ℕ) (a : ℕ) {e : ℕ} {t : Text} → textAt s a ≡ read t e → a + length t + 2 ≤ e
+text-shorter s a f = go (rw f at (text-consumes s a))
+  where
+    go : {e : ℕ} {t : Text} → Reads Quotes s a (read t e) → a + length t + 2 ≤ e
+    go (reads (quotes (json.quoted {l = l} d) c) r) = omega (arith, span-length r, length-append l (0x22 ∷ []), chars-same c .0)
 
 pub tag-some : (s : List ℕ) (a : ℕ) {e : ℕ} {t : Tag} → tagAt s a ≡ read t e → (a < e) × (e ≤ length s)
 tag-some s a f = says-bytes (rw f at (tag-says s a))

@@ -1,10 +1,13 @@
 pub mod Names
 pub mod Says
 pub mod Tracks
+pub mod Closing
 pub mod OneEvent
 pub mod FieldSound
 pub mod FieldComplete
 pub mod ObjectSound
 pub mod ObjectComplete
 pub mod Whole
+pub mod Telling
+pub mod Refusals
 pub mod Example

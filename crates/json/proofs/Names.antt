@@ -1,8 +1,7 @@
 -- The seven names and their numbers: a text has the number k exactly if it is the name of field k, and 7 exactly if it is none of the seven.
 -- By the steps of `indexIn`; that the seven differ from each other is found by computation.
 use Prim.Native.Nat.{ℕ, zero, suc, _<_}
-use mathlib.Core.Path.{_≡_, refl, sym, ap, _∙_}
-use mathlib.Core.Bool.{Bool, true, false}
+use mathlib.Core.Path.{_≡_, refl, sym}
 use mathlib.Core.List.{List, [], _∷_}
 use native.Mathlib.Omega.{arith}
 use lib.ListN.{length, getD}
@@ -71,16 +70,3 @@ by-seven P a b c d e f g (suc (suc (suc (suc (suc (suc (suc k))))))) h = absurd 
 pub name-number : (k : ℕ) → k < 7 → fieldOf (name k) ≡ k
 unfolding fieldOf indexIn sameText
 name-number = by-seven (λ (k : ℕ). fieldOf (name k) ≡ k) refl refl refl refl refl refl refl
-
--- so a comparison with the name of field k asks for the number k
-pub same-number : (t : Text) {k : ℕ} → k < 7 → fieldOf t ≡ k → sameText t (name k) ≡ true
-same-number t {k} h e =
-    let n : name k ≡ t = rw e at (number-name t (omega arith)) in
-    rw n (same-text t)
-
-pub other-number : (t : Text) {k : ℕ} → k < 7 → (fieldOf t ≡ k → ⊥) → sameText t (name k) ≡ false
-other-number t {k} h n = go (sameText t (name k)) refl
-  where
-    go : (b : Bool) → sameText t (name k) ≡ b → b ≡ false
-    go true e = absurd (n (ap fieldOf (text-same t (name k) e) ∙ name-number k h))
-    go false e = refl

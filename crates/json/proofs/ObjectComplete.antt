@@ -12,36 +12,36 @@ use Rattle.scan.proofs.SpanLaws.{cut, close-span, span-length, span-fits}
 use Rattle.scan.proofs.Reading.{read-same}
 use Rattle.event.specs.Event.{Event}
 use Rattle.jsontext.specs.Grammar as json
-use Rattle.jsontext.specs.Escape.{unescape}
 use Rattle.jsontext.specs.Token.{spaceAt}
 use Rattle.jsontext.proofs.TokenLaws.{Stop, stop-brace, space-accepts}
 use Rattle.jsontext.proofs.FirstByte.{first-at, begins-value, begins-members}
 use Rattle.jsontext.proofs.ValueComplete.{ws-stop, not-space, separator-accepts, separator-stop, comma-solid, colon-solid, brace-solid}
 use Rattle.json.specs.Meaning.{IsEvent, is-event}
 use Rattle.json.specs.Field.{Value, fieldOf}
-use Rattle.json.specs.Object.{Fields, isMissing, field, colonAt, memberAt, noneMissing, eventOf, closeAt, afterMember, membersAt, insideAt, objectAt}
-use Rattle.json.proofs.Says.{FieldSays, fieldsOf, event-fields}
-use Rattle.json.proofs.Tracks.{Tracks, no-more, then, no-event, event-tracks, fields-there}
+use Rattle.json.specs.Object.{Fields, isMissing, field, colonAt, memberAt, closeAt, afterMember, membersAt, insideAt, objectAt}
+use Rattle.json.proofs.Says.{FieldSays}
+use Rattle.json.proofs.Tracks.{Tracks, no-more, then, no-event, event-tracks}
+use Rattle.json.proofs.Closing.{close-event}
 use Rattle.json.proofs.FieldComplete.{quoted-accepts, field-accepts}
 
 -- a member whose name was missing is read, and its field is remembered
-member-accepts : (f : Fields) {n : List ℕ} {v : json.Json} {x : Value} {s l : List ℕ} {a c : ℕ} → json.SpellsMember n v l → isMissing (field f (fieldOf (unescape n))) ≡ true
-    → FieldSays (fieldOf (unescape n)) v x → Span s a l c → Stop (getD s c 0) → memberAt f s a ≡ read (set f (fieldOf (unescape n)) x) c
+member-accepts : (f : Fields) {n t : List ℕ} {v : json.Json} {x : Value} {s l : List ℕ} {a c : ℕ} → json.SpellsMember n v l → json.Chars n t
+    → isMissing (field f (fieldOf t)) ≡ true → FieldSays (fieldOf t) v x → Span s a l c → Stop (getD s c 0) → memberAt f s a ≡ read (set f (fieldOf t) x) c
 unfolding memberAt colonAt
-member-accepts f (json.is-member {q = q} {c = c} g k v) i y r st =
+member-accepts f (json.is-member {q = q} {c = c} g k v) d i y r st =
     let u = cut q r in
     let w = cut c (u .2) in
     let z = separator-accepts 0x3A colon-solid k (w .1) (first-at (begins-value v) (w .2) .solid) in
-    rw (quoted-accepts g (u .1), i, z .1, z .2, z .3, field-accepts y v (w .2) st)
+    rw (quoted-accepts g d (u .1), i, z .1, z .2, z .3, field-accepts y v (w .2) st)
 
 -- ---- members up to the closing brace
 
 module _ (s : List ℕ) (f g : Fields) where
-  member-last : (k a b c : ℕ) → 0 < k → memberAt f s a ≡ read g b → spaceAt s b ≡ c → getD s c 0 ≡ 0x7D → noneMissing g ≡ true
-      → membersAt k f s a ≡ read (eventOf g) (c + 1)
-  unfolding membersAt afterMember closeAt
-  member-last zero a b c h e i j n = absurd (omega arith)
-  member-last (suc k) a b c h e i j n = rw (e, i, j, n)
+  member-last : (X : Answer (Read Event)) (k a b c : ℕ) → 0 < k → memberAt f s a ≡ read g b → spaceAt s b ≡ c → getD s c 0 ≡ 0x7D → closeAt g c ≡ X
+      → membersAt k f s a ≡ X
+  unfolding membersAt afterMember
+  member-last X zero a b c h e i j n = absurd (omega arith)
+  member-last X (suc k) a b c h e i j n = rw (e, i, j) n
 
   member-more : (X : Answer (Read Event)) (k n a b c d : ℕ) → suc n < k → memberAt f s a ≡ read g b → spaceAt s b ≡ c → getD s c 0 ≡ 0x2C → spaceAt s (c + 1) ≡ d
       → ((j : ℕ) → n < j → membersAt j g s d ≡ X) → membersAt k f s a ≡ X
@@ -53,16 +53,17 @@ module _ (s : List ℕ) (f g : Fields) where
 separator-some : {k : ℕ} {l : List ℕ} → json.Separator k l → 1 ≤ length l
 separator-some (json.separator {w = w} {x = x} g h) = simp length-append (omega arith)
 
-members-accept : {m : json.Members} {f g : Fields} {s l : List ℕ} {a b c : ℕ} (k : ℕ) → json.SpellsMembers m l → Tracks f m g → noneMissing g ≡ true → Span s a l b
-    → Stop (getD s b 0) → spaceAt s b ≡ c → getD s c 0 ≡ 0x7D → length l < k → membersAt k f s a ≡ read (eventOf g) (c + 1)
-members-accept {f = f} {g = g} {s = s} {a = a} {b = b} {c = c} k (json.last-member y) (then i z no-more) n r st e o h =
-    member-last s f g k a b c (omega arith) (member-accepts f y i z r st) e o n
-members-accept {f = f} {g = g} {s = s} {a = a} {c = c} k (json.more-members {l = l} {c = m} {r = r} y q ys) (then {n = t} {x = x} i z p) n v st e o h =
+-- members that are tracked are read up to the closing brace, where the fields that they leave decide
+pub members-accept : {m : json.Members} {f g : Fields} {X : Answer (Read Event)} {s l : List ℕ} {a b c : ℕ} (k : ℕ) → json.SpellsMembers m l → Tracks f m g
+    → closeAt g c ≡ X → Span s a l b → Stop (getD s b 0) → spaceAt s b ≡ c → getD s c 0 ≡ 0x7D → length l < k → membersAt k f s a ≡ X
+members-accept {f = f} {g = g} {s = s} {a = a} {b = b} {c = c} k (json.last-member y) (then d i z no-more) n r st e o h =
+    member-last s f g _ k a b c (omega arith) (member-accepts f y d i z r st) e o n
+members-accept {f = f} {g = g} {s = s} {a = a} {c = c} k (json.more-members {l = l} {c = m} {r = r} y q ys) (then {t = t} {x = x} j i z p) n v st e o h =
     let u = cut l v in
     let w = cut m (u .2) in
     let d = separator-accepts 0x2C comma-solid q (w .1) (first-at (begins-members ys) (w .2) .solid) in
-    member-more s f (set f (fieldOf (unescape t)) x) _ k (length r) a (u .0) (d .0) (w .0) (omega (arith, simp length-append at h, separator-some q))
-    (member-accepts f y i z (u .1) (separator-stop q (w .1))) (d .1) (d .2) (d .3)
+    member-more s f (set f (fieldOf t) x) _ k (length r) a (u .0) (d .0) (w .0) (omega (arith, simp length-append at h, separator-some q))
+    (member-accepts f y j i z (u .1) (separator-stop q (w .1))) (d .1) (d .2) (d .3)
     (λ j h. members-accept j ys p n (w .2) st e o h)
 
 -- ---- the object
@@ -78,10 +79,9 @@ object-accepts {e = e} {s = s} {c = c} (json.is-object {m = m} {w = w} {l = l} {
     let z = close-span (y .2) in
     let f = first-at (begins-members gs) (v .1) in
     rw (q, space-accepts g (u .1) (f .solid), f .no-brace)
-    (members-accept _ gs (event-tracks (is-event y₀ v₀ w₀)) (fields-there e) (v .1) (ws-stop k (y .1) (rw (z .0) stop-brace))
+    (members-accept _ gs (event-tracks (is-event y₀ v₀ w₀)) (close-event e (y .0)) (v .1) (ws-stop k (y .1) (rw (z .0) stop-brace))
     (space-accepts k (y .1) (not-space 0x7D (z .0) brace-solid)) (z .0) (omega (arith, p, span-length (u .1), span-fits (v .1)))
-    ∙ ap (read (eventOf (fieldsOf e))) (sym (z .1))
-    ∙ ap (λ (d : Event). read d c) (event-fields e))
+    ∙ ap (read e) (sym (z .1)))
 
 -- two objects at one place that are events are one event, and end alike
 pub object-one : {v w : json.Json} {d e : Event} {s l m : List ℕ} {a b c : ℕ} → json.Spells v l → IsEvent v d → Span s a l b → json.Spells w m → IsEvent w e → Span s a m c

@@ -6,53 +6,53 @@ use mathlib.Core.Bool.{true}
 use mathlib.Core.List.{List, [], _∷_, _++_, append-assoc}
 use lib.ListN.{length, getD, set}
 use lib.Dec.{eqb}
-use Rattle.scan.specs.Choice.{pick, refused, read}
+use Rattle.scan.specs.Choice.{pick, Answer, refused, Read, read}
 use Rattle.scan.specs.Span.{Span, here}
 use Rattle.scan.proofs.SpanLaws.{join, bite}
 use Rattle.scan.proofs.Reading.{Reads, reads, fails, pick-reads, then-reads, from-reads}
 use Rattle.event.specs.Event.{Text, Event}
 use Rattle.jsontext.specs.Grammar as json
-use Rattle.jsontext.specs.Escape.{unescape}
 use Rattle.jsontext.specs.Token.{spaceAt}
 use Rattle.jsontext.proofs.TokenLaws.{bind, space-consumes}
 use Rattle.jsontext.proofs.FirstByte.{begins-member, some-bytes}
 use Rattle.json.specs.Meaning.{IsEvent}
 use Rattle.json.specs.Field.{Value, fieldOf}
-use Rattle.json.specs.Object.{Fields, noFields, isMissing, field, colonAt, memberAt, noneMissing, eventOf, closeAt, afterMember, membersAt, insideAt, objectAt}
-use Rattle.json.proofs.Says.{FieldSays}
+use Rattle.json.specs.Object.{Fields, noFields, isMissing, field, colonAt, memberAt, afterMember, membersAt, insideAt, objectAt}
+use Rattle.json.proofs.Says.{FieldSays, Holds}
 use Rattle.json.proofs.Tracks.{Tracks, no-more, then, tracks-event}
+use Rattle.json.proofs.Closing.{Closes, closes, lacks, close-told}
 use Rattle.json.proofs.FieldSound.{Saying, saying, Quotes, quotes, text-consumes, field-says, says-bytes}
 
 -- ---- a member
 
 -- a member whose name was missing, and the fields with it
 data MemberTo (f : Fields) : Fields → List ℕ → Type 0 where
-  member-to : {n : List ℕ} {v : json.Json} {x : Value} {l : List ℕ} → json.SpellsMember n v l → isMissing (field f (fieldOf (unescape n))) ≡ true
-      → FieldSays (fieldOf (unescape n)) v x → MemberTo f (set f (fieldOf (unescape n)) x) l
+  member-to : {n t : List ℕ} {v : json.Json} {x : Value} {l : List ℕ} → json.SpellsMember n v l → json.Chars n t → isMissing (field f (fieldOf t)) ≡ true
+      → FieldSays (fieldOf t) v x → MemberTo f (set f (fieldOf t) x) l
 
 member-consumes : (f : Fields) (s : List ℕ) (a : ℕ) → Reads (MemberTo f) s a (memberAt f s a)
 unfolding memberAt colonAt
 member-consumes f s a = then-reads _ (text-consumes s a) (λ t q e g r. named g r)
   where
-    valued : {n q c l : List ℕ} {x : Value} {e : ℕ} → json.Quoted n q → json.Separator 0x3A c → isMissing (field f (fieldOf (unescape n))) ≡ true
-        → Saying (FieldSays (fieldOf (unescape n))) x l → Span s a (q ++ (c ++ l)) e → Reads (MemberTo f) s a (read (set f (fieldOf (unescape n)) x) e)
-    valued g k i (saying v y) r = reads (member-to (json.is-member g k v) i y) r
+    valued : {n t q c l : List ℕ} {x : Value} {e : ℕ} → json.Quoted n q → json.Chars n t → json.Separator 0x3A c → isMissing (field f (fieldOf t)) ≡ true
+        → Saying (FieldSays (fieldOf t)) x l → Span s a (q ++ (c ++ l)) e → Reads (MemberTo f) s a (read (set f (fieldOf t) x) e)
+    valued g z k i (saying v y) r = reads (member-to (json.is-member g k v) z i y) r
 
     named : {t : Text} {q : List ℕ} {e : ℕ} → Quotes t q → Span s a q e
         → Reads (MemberTo f) s a (pick (isMissing (field f (fieldOf t))) (colonAt (fieldOf t) f s (spaceAt s e)) (refused 16 a))
-    named {e = e} (quotes {l = n} g) r =
-        let k = fieldOf (unescape n) in
+    named {t} {e = e} (quotes g z) r =
+        let k = fieldOf t in
         pick-reads (isMissing (field f k))
         (λ i.
         bind (space-consumes s e)
         (λ w h p.
         let b = spaceAt s e in
         pick-reads (eqb (getD s b 0) 0x3A)
-        (λ t.
+        (λ d.
         bind (space-consumes s (b + 1))
         (λ w₂ h₂ q₂.
         then-reads (λ v. read (set f k (v .value)) (v .next)) (field-says k s (spaceAt s (b + 1)))
-        (λ x l e₂ y r₂. valued g (json.separator h h₂) i y (join r (join (join p (bite 0x3A refl t q₂)) r₂)))))
+        (λ x l e₂ y r₂. valued g z (json.separator h h₂) i y (join r (join (join p (bite 0x3A refl d q₂)) r₂)))))
         (λ u. fails)))
         (λ u. fails)
 
@@ -61,27 +61,28 @@ pub member-some : (f : Fields) (s : List ℕ) (a : ℕ) {g : Fields} {e : ℕ} �
 member-some f s a q = go (rw q at (member-consumes f s a))
   where
     go : {g : Fields} {e : ℕ} → Reads (MemberTo f) s a (read g e) → (a < e) × (e ≤ length s)
-    go (reads (member-to g i y) r) = some-bytes (begins-member g) r
+    go (reads (member-to g z i y) r) = some-bytes (begins-member g) r
 
 -- ---- members up to the closing brace
 
--- members that are tracked from f on, behind which none of the seven is missing
+-- members that are tracked from f on, and leave the fields of an event
 data MembersTo (f : Fields) : Event → List ℕ → Type 0 where
-  members-to : {m : json.Members} {l w : List ℕ} {g : Fields} → json.SpellsMembers m l → json.Ws w → Tracks f m g → noneMissing g ≡ true
-      → MembersTo f (eventOf g) (l ++ (w ++ (0x7D ∷ [])))
+  members-to : {m : json.Members} {l w : List ℕ} {g : Fields} {e : Event} → json.SpellsMembers m l → json.Ws w → Tracks f m g → Holds g e
+      → MembersTo f e (l ++ (w ++ (0x7D ∷ [])))
 
 module _ (s : List ℕ) (a : ℕ) where
-  last-member : {f g : Fields} {l w : List ℕ} {e : ℕ} → MemberTo f g l → json.Ws w → Span s a (l ++ (w ++ (0x7D ∷ []))) e → noneMissing g ≡ true
-      → Reads (MembersTo f) s a (read (eventOf g) e)
-  last-member {e = e} (member-to g i y) h r n = reads {e = e} (members-to (json.last-member g) h (then i y no-more) n) r
+  last-member : {f g : Fields} {l w : List ℕ} {p : ℕ} {r : Answer (Read Event)} → MemberTo f g l → json.Ws w → Span s a (l ++ (w ++ (0x7D ∷ []))) (p + 1)
+      → Closes g p r → Reads (MembersTo f) s a r
+  last-member {p = p} (member-to g z i y) h r (closes n) = reads {e = p + 1} (members-to (json.last-member g) h (then z i y no-more) n) r
+  last-member y h r lacks = fails
 
   one-more : {f g : Fields} {l c m : List ℕ} {d : Event} {e : ℕ} → MemberTo f g l → json.Separator 0x2C c → MembersTo g d m → Span s a (l ++ (c ++ m)) e
       → Reads (MembersTo f) s a (read d e)
-  one-more {e = e} (member-to g i y) k (members-to gs h t n) r =
-      reads {e = e} (members-to (json.more-members g k gs) h (then i y t) n) (simp append-assoc r)
+  one-more {e = e} (member-to g z i y) k (members-to gs h t n) r =
+      reads {e = e} (members-to (json.more-members g k gs) h (then z i y t) n) (simp append-assoc r)
 
 members-consume : (fuel : ℕ) (f : Fields) (s : List ℕ) (a : ℕ) → Reads (MembersTo f) s a (membersAt fuel f s a)
-unfolding membersAt afterMember closeAt
+unfolding membersAt afterMember
 members-consume zero f s a = fails
 members-consume (suc fuel) f s a =
     then-reads (λ m. afterMember (membersAt fuel (m .value) s) (m .value) s (spaceAt s (m .next))) (member-consumes f s a)
@@ -90,7 +91,7 @@ members-consume (suc fuel) f s a =
     (λ w h q.
     let p = spaceAt s e in
     pick-reads (eqb (getD s p 0) 0x7D)
-    (λ t. pick-reads (noneMissing g) (last-member s a y h (join r (join q (bite 0x7D refl t here)))) (λ u. fails))
+    (λ t. last-member s a y h (join r (join q (bite 0x7D refl t here))) (close-told g p))
     (λ u.
     pick-reads (eqb (getD s p 0) 0x2C)
     (λ t.

@@ -1,7 +1,7 @@
 -- At most one event for a text, by the grammar alone: a JSON text spells one value, and a value is one event.
 -- White space before the value ends where the value begins, so two values of one text start alike; what a value says is told by its shape.
 use Prim.Native.Nat.{ℕ}
-use mathlib.Core.Path.{_≡_, refl, sym, _∙_}
+use mathlib.Core.Path.{_≡_, refl, ap}
 use mathlib.Core.List.{List, [], _∷_}
 use native.Mathlib.Omega.{arith}
 use lib.ListN.{length, getD}
@@ -17,7 +17,8 @@ use Rattle.jsontext.proofs.TokenLaws.{Stop, stop-end, space-accepts}
 use Rattle.jsontext.proofs.FirstByte.{first-at, begins-value}
 use Rattle.jsontext.proofs.ValueComplete.{ws-stop}
 use Rattle.jsontext.proofs.Unambiguous.{one-at}
-use Rattle.json.specs.Meaning.{IsText, is-text, IsHex, is-hex, IsNumber, is-number, Each, none, also, IsArray, is-array, Once, once, IsEvent, is-event}
+use Rattle.json.specs.Meaning.{Values, no-value, named, other, IsText, is-text, IsHex, is-hex, IsNumber, is-number, Each, none, also, IsArray, is-array, Once, once, IsEvent, is-event}
+use Rattle.json.proofs.Tracks.{chars-one}
 
 -- ---- a text is one value
 
@@ -47,10 +48,10 @@ one-value g h = go (text-value g) (text-value h)
 -- ---- a value is one event
 
 text-one : {v : json.Json} {t u : Text} → IsText v t → IsText v u → t ≡ u
-text-one is-text is-text = refl
+text-one (is-text c) (is-text d) = chars-one c d
 
 hex-one : {v : json.Json} {a b : List ℕ} → IsBytes a → IsBytes b → IsHex v a → IsHex v b → a ≡ b
-hex-one p q (is-hex e) (is-hex f) = hexes-injective p q (sym e ∙ f)
+hex-one p q (is-hex c) (is-hex d) = hexes-injective p q (chars-one c d)
 
 number-one : {v : json.Json} {m n : ℕ} → IsNumber v m → IsNumber v n → m ≡ n
 number-one (is-number g) (is-number h) = refl
@@ -66,11 +67,19 @@ module _ {A : Type 0} {Is : json.Json → A → Type 0} (one : (v : json.Json) (
   array-one : {v : json.Json} {k l : List A} → IsArray Is v k → IsArray Is v l → k ≡ l
   array-one (is-array g) (is-array h) = each-one g h
 
+-- a name has one list of values
+pub values-one : {t : Text} {m : json.Members} {k l : List json.Json} → Values t m k → Values t m l → k ≡ l
+values-one no-value no-value = refl
+values-one (named {v = v} c p) (named d q) = ap (λ (r : List json.Json). v ∷ r) (values-one p q)
+values-one (named c p) (other d x q) = absurd (x (chars-one d c))
+values-one (other c x p) (named d q) = absurd (x (chars-one c d))
+values-one (other c x p) (other d y q) = values-one p q
+
 -- a name that stands once has one value
 once-one : {A : Type 0} {m : json.Members} {t : Text} {Is : json.Json → A → Type 0} {x y : A} → ((v : json.Json) → Is v x → Is v y → x ≡ y)
     → Once m t Is x → Once m t Is y → x ≡ y
 once-one {Is = Is} {y = y} one (once {v = v} e g) (once {v = w} f h) =
-    let q : v ∷ [] ≡ w ∷ [] = sym e ∙ f in
+    let q : v ∷ [] ≡ w ∷ [] = values-one e f in
     let p : v ≡ w = cc in
     one v g (rw p h)
 

@@ -12,7 +12,7 @@ use Rattle.event.specs.Event.{Text, Tag, Event, Bytes, ValidTag, Valid}
 use Rattle.jsontext.specs.Grammar as json
 use Rattle.json.specs.Meaning.{IsText, IsHex, IsNumber, IsArray, IsTag, Once, once, Says}
 use Rattle.json.specs.Field.{Value, missing, bytes, number, tags, text}
-use Rattle.json.specs.Object.{Fields, isMissing, field, bytesIn, numberIn, tagsIn, textIn, eventOf}
+use Rattle.json.specs.Object.{Fields, isMissing, field}
 use Rattle.json.proofs.Names.{name, by-seven}
 
 -- what the value of field k says. From 7 on the name is ignored, and so is the value, which nests at most 16 deep.
@@ -58,9 +58,9 @@ AllSay m f = (k : ℕ) → k < 7 → Once m (name k) (FieldSays k) (field f k)
 abbrev pub fieldsOf : Event → Fields
 fieldsOf e = bytes (e .id) ∷ bytes (e .pubkey) ∷ bytes (e .sig) ∷ number (e .createdAt) ∷ number (e .kind) ∷ tags (e .tags) ∷ text (e .content) ∷ []
 
-pub event-fields : (e : Event) → eventOf (fieldsOf e) ≡ e
-unfolding eventOf
-event-fields e = refl
+-- seven fields that hold the parts of an event
+pub data Holds (f : Fields) (e : Event) : Type 0 where
+  holds : ((k : ℕ) → k < 7 → field f k ≡ field (fieldsOf e) k) → Holds f e
 
 with-once : {A B : Type 0} {m : json.Members} {t : Text} {Is : json.Json → A → Type 0} {Js : json.Json → B → Type 0} {x : A} {y : B}
     → ((v : json.Json) → Is v x → Js v y) → Once m t Is x → Once m t Js y
@@ -79,42 +79,34 @@ says-all {m} {e} y v =
 
 -- ---- what each field says, taken apart
 
-id-of : {v : json.Json} {x : Value} → FieldSays 0 v x → IsHex v (bytesIn x) × Bytes 32 (bytesIn x)
-id-of (id-says g b) = (g, b)
-id-of (ignored-says h n) = absurd (omega arith)
+id-of : {v : json.Json} {b : List ℕ} → FieldSays 0 v (bytes b) → IsHex v b × Bytes 32 b
+id-of (id-says g h) = (g, h)
 
-pubkey-of : {v : json.Json} {x : Value} → FieldSays 1 v x → IsHex v (bytesIn x) × Bytes 32 (bytesIn x)
-pubkey-of (pubkey-says g b) = (g, b)
-pubkey-of (ignored-says h n) = absurd (omega arith)
+pubkey-of : {v : json.Json} {b : List ℕ} → FieldSays 1 v (bytes b) → IsHex v b × Bytes 32 b
+pubkey-of (pubkey-says g h) = (g, h)
 
-sig-of : {v : json.Json} {x : Value} → FieldSays 2 v x → IsHex v (bytesIn x) × Bytes 64 (bytesIn x)
-sig-of (sig-says g b) = (g, b)
-sig-of (ignored-says h n) = absurd (omega arith)
+sig-of : {v : json.Json} {b : List ℕ} → FieldSays 2 v (bytes b) → IsHex v b × Bytes 64 b
+sig-of (sig-says g h) = (g, h)
 
-time-of : {v : json.Json} {x : Value} → FieldSays 3 v x → IsNumber v (numberIn x) × (numberIn x ≤ 9_223_372_036_854_775)
-time-of (time-says g b) = (g, b)
-time-of (ignored-says h n) = absurd (omega arith)
+time-of : {v : json.Json} {n : ℕ} → FieldSays 3 v (number n) → IsNumber v n × (n ≤ 9_223_372_036_854_775)
+time-of (time-says g h) = (g, h)
 
-kind-of : {v : json.Json} {x : Value} → FieldSays 4 v x → IsNumber v (numberIn x) × (numberIn x ≤ 65_535)
-kind-of (kind-says g b) = (g, b)
-kind-of (ignored-says h n) = absurd (omega arith)
+kind-of : {v : json.Json} {n : ℕ} → FieldSays 4 v (number n) → IsNumber v n × (n ≤ 65_535)
+kind-of (kind-says g h) = (g, h)
 
-tags-of : {v : json.Json} {x : Value} → FieldSays 5 v x → IsArray IsTag v (tagsIn x) × (length (tagsIn x) ≤ 1_000) × All ValidTag (tagsIn x)
-tags-of (tags-says g b c) = (g, b, c)
-tags-of (ignored-says h n) = absurd (omega arith)
+tags-of : {v : json.Json} {l : List Tag} → FieldSays 5 v (tags l) → IsArray IsTag v l × (length l ≤ 1_000) × All ValidTag l
+tags-of (tags-says g h i) = (g, h, i)
 
-content-of : {v : json.Json} {x : Value} → FieldSays 6 v x → IsText v (textIn x) × Utf8 (textIn x)
-content-of (content-says g b) = (g, b)
-content-of (ignored-says h n) = absurd (omega arith)
+content-of : {v : json.Json} {t : Text} → FieldSays 6 v (text t) → IsText v t × Utf8 t
+content-of (content-says g h) = (g, h)
 
 -- the limit that a said field keeps
 limit : {A : Type 0} {m : json.Members} {t : Text} {Is : json.Json → A → Type 0} {x : A} {L : Type 0} → ((v : json.Json) → Is v x → L) → Once m t Is x → L
 limit f (once {v = v} e g) = f v g
 
--- seven fields that are said say their event, which is valid
-pub all-says : {m : json.Members} (f : Fields) → AllSay m f → Says m (eventOf f) × Valid (eventOf f)
-unfolding eventOf
-all-says f a =
+-- an event whose seven fields are said is said, and is valid
+pub all-says : {m : json.Members} (e : Event) → AllSay m (fieldsOf e) → Says m e × Valid e
+all-says e a =
     let id = a 0 (omega arith) in
     let pubkey = a 1 (omega arith) in
     let sig = a 2 (omega arith) in

@@ -1,3 +1,4 @@
 pub mod Meaning
 pub mod Field
 pub mod Object
+pub mod Entries

@@ -2,54 +2,55 @@
 use Prim.Native.Nat.{ℕ, _≤_}
 use mathlib.Core.Path.{_≡_}
 use mathlib.Core.List.{List, [], _∷_}
-use Rattle.scan.specs.Choice.{pick}
+use Rattle.scan.specs.Ascii.{ascii}
 use Rattle.scan.specs.Span.{All}
 use Rattle.hex.specs.Hex.{hexes}
 use Rattle.decimal.specs.Decimal.{numberOf}
-use Rattle.event.specs.Event.{Text, Tag, Event, Valid, sameText}
+use Rattle.event.specs.Event.{Text, Tag, Event, Valid}
 use Rattle.jsontext.specs.Grammar as json
-use Rattle.jsontext.specs.Escape.{unescape}
 
 -- ---- the seven names
 
 abbrev pub idName : Text
-idName = 0x69 ∷ 0x64 ∷ []
+idName = ascii "id"
 
 abbrev pub pubkeyName : Text
-pubkeyName = 0x70 ∷ 0x75 ∷ 0x62 ∷ 0x6B ∷ 0x65 ∷ 0x79 ∷ []
+pubkeyName = ascii "pubkey"
 
 abbrev pub sigName : Text
-sigName = 0x73 ∷ 0x69 ∷ 0x67 ∷ []
+sigName = ascii "sig"
 
 abbrev pub createdAtName : Text
-createdAtName = 0x63 ∷ 0x72 ∷ 0x65 ∷ 0x61 ∷ 0x74 ∷ 0x65 ∷ 0x64 ∷ 0x5F ∷ 0x61 ∷ 0x74 ∷ []
+createdAtName = ascii "created_at"
 
 abbrev pub kindName : Text
-kindName = 0x6B ∷ 0x69 ∷ 0x6E ∷ 0x64 ∷ []
+kindName = ascii "kind"
 
 abbrev pub tagsName : Text
-tagsName = 0x74 ∷ 0x61 ∷ 0x67 ∷ 0x73 ∷ []
+tagsName = ascii "tags"
 
 abbrev pub contentName : Text
-contentName = 0x63 ∷ 0x6F ∷ 0x6E ∷ 0x74 ∷ 0x65 ∷ 0x6E ∷ 0x74 ∷ []
+contentName = ascii "content"
 
 abbrev pub names : List Text
 names = idName ∷ pubkeyName ∷ sigName ∷ createdAtName ∷ kindName ∷ tagsName ∷ contentName ∷ []
 
--- the values of the members that have a name, compared after unescaping
-unfoldable pub valuesOf : Text → json.Members → List json.Json
-valuesOf t json.no-member = []
-valuesOf t (json.member n v m) = pick (sameText (unescape n) t) (v ∷ valuesOf t m) (valuesOf t m)
+-- the values of the members that have a name, in their order; a name is the characters that it is spelled with
+pub data Values (t : Text) : json.Members → List json.Json → Type 0 where
+  no-value : Values t json.no-member []
+  named : {n : List ℕ} {v : json.Json} {m : json.Members} {l : List json.Json} → json.Chars n t → Values t m l → Values t (json.member n v m) (v ∷ l)
+  other : {n u : List ℕ} {v : json.Json} {m : json.Members} {l : List json.Json} → json.Chars n u → (u ≡ t → ⊥) → Values t m l
+      → Values t (json.member n v m) l
 
 -- ---- what a value says
 
 -- a string says its text
 pub data IsText : json.Json → Text → Type 0 where
-  is-text : {l : List ℕ} → IsText (json.string l) (unescape l)
+  is-text : {l t : List ℕ} → json.Chars l t → IsText (json.string l) t
 
 -- bytes in lowercase hex
 pub data IsHex : json.Json → List ℕ → Type 0 where
-  is-hex : {l b : List ℕ} → unescape l ≡ hexes b → IsHex (json.string l) b
+  is-hex : {l b : List ℕ} → json.Chars l (hexes b) → IsHex (json.string l) b
 
 -- digits alone: no sign, fraction or exponent
 pub data IsNumber : json.Json → ℕ → Type 0 where
@@ -68,7 +69,7 @@ IsTag = IsArray IsText
 
 -- the name stands once, and its value says x
 pub data Once {A : Type 0} (m : json.Members) (t : Text) (Is : json.Json → A → Type 0) (x : A) : Type 0 where
-  once : {v : json.Json} → valuesOf t m ≡ v ∷ [] → Is v x → Once m t Is x
+  once : {v : json.Json} → Values t m (v ∷ []) → Is v x → Once m t Is x
 
 -- the members of an object that say an event: the seven once each, nothing filled in, other names ignored
 pub record Says (m : json.Members) (e : Event) : Type 0 where
@@ -88,7 +89,7 @@ pub data OneOf : List Text → Text → Type 0 where
 -- a value of no known name nests at most 16 arrays and objects
 pub data Shallow : json.Members → Type 0 where
   no-member : Shallow json.no-member
-  known : {n : List ℕ} {v : json.Json} {m : json.Members} → OneOf names (unescape n) → Shallow m → Shallow (json.member n v m)
+  known : {n t : List ℕ} {v : json.Json} {m : json.Members} → json.Chars n t → OneOf names t → Shallow m → Shallow (json.member n v m)
   ignored : {n : List ℕ} {v : json.Json} {m : json.Members} → json.nesting v ≤ 16 → Shallow m → Shallow (json.member n v m)
 
 -- the event that a JSON value is

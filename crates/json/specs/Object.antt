@@ -39,56 +39,47 @@ memberAt f s at =
     andThen (textAt s at) λ n.
     let k = fieldOf (n .value) in pick (isMissing (field f k)) (colonAt k f s (spaceAt s (n .next))) (refused 16 at)
 
-unfoldable pub noneMissing : Fields → Bool
-noneMissing [] = true
-noneMissing (v ∷ f) = pick (isMissing v) false (noneMissing f)
+-- ---- what a field says at the closing brace: where it is missing, or of another kind, there is nothing to give but 15
 
--- ---- what a field says; the empty list and 0 stand for what is asked of no field
+abbrev pub bytesIn : ℕ → Value → Answer (List ℕ)
+bytesIn at missing = refused 15 at
+bytesIn at (bytes l) = shown l
+bytesIn at (number n) = refused 15 at
+bytesIn at (tags l) = refused 15 at
+bytesIn at (text t) = refused 15 at
 
-abbrev pub bytesIn : Value → List ℕ
-bytesIn missing = []
-bytesIn (bytes l) = l
-bytesIn (number n) = []
-bytesIn (tags l) = []
-bytesIn (text t) = []
+abbrev pub numberIn : ℕ → Value → Answer ℕ
+numberIn at missing = refused 15 at
+numberIn at (bytes l) = refused 15 at
+numberIn at (number n) = shown n
+numberIn at (tags l) = refused 15 at
+numberIn at (text t) = refused 15 at
 
-abbrev pub numberIn : Value → ℕ
-numberIn missing = 0
-numberIn (bytes l) = 0
-numberIn (number n) = n
-numberIn (tags l) = 0
-numberIn (text t) = 0
+abbrev pub tagsIn : ℕ → Value → Answer (List Tag)
+tagsIn at missing = refused 15 at
+tagsIn at (bytes l) = refused 15 at
+tagsIn at (number n) = refused 15 at
+tagsIn at (tags l) = shown l
+tagsIn at (text t) = refused 15 at
 
-abbrev pub tagsIn : Value → List Tag
-tagsIn missing = []
-tagsIn (bytes l) = []
-tagsIn (number n) = []
-tagsIn (tags l) = l
-tagsIn (text t) = []
+abbrev pub textIn : ℕ → Value → Answer Text
+textIn at missing = refused 15 at
+textIn at (bytes l) = refused 15 at
+textIn at (number n) = refused 15 at
+textIn at (tags l) = refused 15 at
+textIn at (text t) = shown t
 
-abbrev pub textIn : Value → Text
-textIn missing = []
-textIn (bytes l) = []
-textIn (number n) = []
-textIn (tags l) = []
-textIn (text t) = t
-
--- the event that seven fields say
-unfoldable pub eventOf : Fields → Event
-eventOf f =
-    record {
-      id = bytesIn (field f 0);
-      pubkey = bytesIn (field f 1);
-      sig = bytesIn (field f 2);
-      createdAt = numberIn (field f 3);
-      kind = numberIn (field f 4);
-      tags = tagsIn (field f 5);
-      content = textIn (field f 6);
-    }
-
--- at the closing brace: the event, where none of the seven is missing, and else 15
+-- at the closing brace: the event, where each of the seven says its part
 unfoldable pub closeAt : Fields → ℕ → Answer (Read Event)
-closeAt f at = pick (noneMissing f) (read (eventOf f) (at + 1)) (refused 15 at)
+closeAt f at =
+    andThen (bytesIn at (field f 0)) λ i.
+    andThen (bytesIn at (field f 1)) λ p.
+    andThen (bytesIn at (field f 2)) λ g.
+    andThen (numberIn at (field f 3)) λ n.
+    andThen (numberIn at (field f 4)) λ k.
+    andThen (tagsIn at (field f 5)) λ l.
+    andThen (textIn at (field f 6)) λ t.
+    read (record { id = i; pubkey = p; sig = g; createdAt = n; kind = k; tags = l; content = t }) (at + 1)
 
 -- behind a member, at p: the closing brace, or a comma and more
 unfoldable pub afterMember : (ℕ → Answer (Read Event)) → Fields → List ℕ → ℕ → Answer (Read Event)
@@ -118,3 +109,7 @@ wholeAt s =
 -- the event that a text shows, or the refusal: 1 first of all
 unfoldable pub readJson : List ℕ → Answer Event
 readJson s = pick (leb (length s) 65_536) (wholeAt s) (refused 1 0)
+
+-- the numbers that it refuses with (document 01, "Plain JSON reader")
+abbrev pub jsonNumbers : List ℕ
+jsonNumbers = 1 ∷ 5 ∷ 6 ∷ 7 ∷ 8 ∷ 9 ∷ 10 ∷ 12 ∷ 14 ∷ 15 ∷ 16 ∷ 18 ∷ []

@@ -3,22 +3,22 @@
 use Prim.Native.Nat.{ℕ, zero, suc, _+_, _≤_, _<_}
 use mathlib.Core.Path.{_≡_, refl, sym, ap, _∙_}
 use mathlib.Core.Bool.{Bool, true, false}
-use mathlib.Core.List.{List, _++_, append-assoc}
+use mathlib.Core.List.{List, [], _∷_, _++_, append-assoc}
 use native.Mathlib.Omega.{arith}
 use lib.ListN.{length, set, length-append}
 use lib.Dec.{eqb}
 use borrow.Author.Tests.{ne-eqb, eqb-false}
-use Rattle.scan.specs.Choice.{pick}
+use Rattle.scan.specs.Choice.{pick, refused, read}
 use Rattle.scan.proofs.Step.{false-true}
 use Rattle.varint.specs.Uleb.{uleb}
 use Rattle.notepack.specs.Strict.{pack, packTags}
-use Rattle.json.specs.Field.{missing, tags}
-use Rattle.json.specs.Object.{noFields, isMissing, field, noneMissing, bytesIn, numberIn, tagsIn, textIn, eventOf}
+use Rattle.json.specs.Field.{missing}
+use Rattle.json.specs.Object.{noFields, isMissing, field, closeAt}
 use Rattle.jsonread.specs.declared.Spot.{Spot}
 use Rattle.jsonread.specs.declared.Fields.{Fields}
 use Rattle.jsonread.specs.Size.{packValue}
 use Rattle.jsonread.specs.Copy.{fieldsText, measured}
-use Rattle.jsonread.specs.Found.{saysAs, says, fieldsOf, spotOf, withSpot, noneFound, allFound, Weighs, Known, not-yet, known, Good, Packs}
+use Rattle.jsonread.specs.Found.{saysAs, says, fieldsOf, eventBy, spotOf, withSpot, noneFound, allFound, Weighs, Known, not-yet, known, Good, Packs}
 
 -- what holds of 0 to 7 holds of every number up to 7
 by-eight : (P : ℕ → Type 0) → P 0 → P 1 → P 2 → P 3 → P 4 → P 5 → P 6 → P 7 → (k : ℕ) → k ≤ 7 → P k
@@ -118,18 +118,33 @@ good-with s f p g =
 
 -- ---- all seven found
 
-pub all-there : (s : List ℕ) (f : Fields) → allFound f ≡ noneMissing (fieldsOf s f)
-unfolding allFound noneMissing
-all-there s f =
-    rw (
-      says-missing s (f .id) 0 (omega arith),
-      says-missing s (f .pubkey) 1 (omega arith),
-      says-missing s (f .sig) 2 (omega arith),
-      says-missing s (f .«created_at») 3 (omega arith),
-      says-missing s (f .kind) 4 (omega arith),
-      says-missing s (f .tags) 5 (omega arith),
-      says-missing s (f .content) 6 (omega arith),
-    )
+-- at the closing brace: the event, where all seven are found, and else 15
+pub close-found : (s : List ℕ) (f : Fields) (at : ℕ) → closeAt (fieldsOf s f) at ≡ pick (allFound f) (read (eventBy s f) (at + 1)) (refused 15 at)
+unfolding closeAt allFound says saysAs eventBy
+close-found s f at =
+    go (eqb (f .id .from) 0) (eqb (f .pubkey .from) 0) (eqb (f .sig .from) 0) (eqb (f .«created_at» .from) 0) (eqb (f .kind .from) 0) (eqb (f .tags .from) 0)
+    (eqb (f .content .from) 0)
+  where
+    go : (a b c d e g h : Bool)
+        → closeAt
+        (pick a missing (saysAs 0 s (f .id))
+        ∷ pick b missing (saysAs 1 s (f .pubkey))
+        ∷ pick c missing (saysAs 2 s (f .sig))
+        ∷ pick d missing (saysAs 3 s (f .«created_at»))
+        ∷ pick e missing (saysAs 4 s (f .kind))
+        ∷ pick g missing (saysAs 5 s (f .tags))
+        ∷ pick h missing (saysAs 6 s (f .content))
+        ∷ [])
+        at
+        ≡ pick (pick a false (pick b false (pick c false (pick d false (pick e false (pick g false (pick h false true))))))) (read (eventBy s f) (at + 1)) (refused 15 at)
+    go true b c d e g h = refl
+    go false true c d e g h = refl
+    go false false true d e g h = refl
+    go false false false true e g h = refl
+    go false false false false true g h = refl
+    go false false false false false true h = refl
+    go false false false false false false true = refl
+    go false false false false false false false = refl
 
 not-first : (t x : Bool) → pick t false x ≡ true → (t ≡ false) × (x ≡ true)
 not-first true x e = absurd (false-true e)
@@ -137,7 +152,7 @@ not-first false x e = (refl, e)
 
 -- a field that is known and found
 weighed : {s : List ℕ} {k : ℕ} {p : Spot} → Known s k p → eqb (p .from) 0 ≡ false → Weighs s k p
-weighed {p = p} (not-yet z) e = absurd (eqb-false (p .from) 0 e z)
+weighed {p = p} (not-yet z) e = absurd (eqb-false (p .from) 0 e (ap (λ (q : Spot). q .from) z))
 weighed (known w) e = w
 
 pub record AllWeigh (s : List ℕ) (f : Fields) : Type 0 where
@@ -184,22 +199,12 @@ unfolding fieldsText
 texts-said s f w =
     rw (w .id .writes, w .pubkey .writes, w .sig .writes, w .createdAt .writes, w .kind .writes, w .content .writes, w .tags .writes)
 
-pack-said : (s : List ℕ) (f : Fields) → AllWeigh s f → fieldsText s f ≡ pack (eventOf (fieldsOf s f))
-unfolding pack eventOf saysAs
+pack-said : (s : List ℕ) (f : Fields) → AllWeigh s f → fieldsText s f ≡ pack (eventBy s f)
+unfolding pack eventBy saysAs
 pack-said s f w =
     texts-said s f w
-    ∙ rw (
-      says-found s (f .id) 0 (w .id .there),
-      says-found s (f .pubkey) 1 (w .pubkey .there),
-      says-found s (f .sig) 2 (w .sig .there),
-      says-found s (f .«created_at») 3 (w .createdAt .there),
-      says-found s (f .kind) 4 (w .kind .there),
-      says-found s (f .tags) 5 (w .tags .there),
-      says-found s (f .content) 6 (w .content .there),
-    )
-    (in-order (bytesIn (saysAs 0 s (f .id))) (bytesIn (saysAs 1 s (f .pubkey))) (bytesIn (saysAs 2 s (f .sig))) (uleb (numberIn (saysAs 3 s (f .«created_at»))))
-    (uleb (numberIn (saysAs 4 s (f .kind)))) (uleb (length (textIn (saysAs 6 s (f .content))))) (textIn (saysAs 6 s (f .content)))
-    (uleb (length (tagsIn (saysAs 5 s (f .tags))))) (packTags (tagsIn (saysAs 5 s (f .tags)))))
+    ∙ in-order (eventBy s f .id) (eventBy s f .pubkey) (eventBy s f .sig) (uleb (eventBy s f .createdAt)) (uleb (eventBy s f .kind))
+    (uleb (length (eventBy s f .content))) (eventBy s f .content) (uleb (length (eventBy s f .tags))) (packTags (eventBy s f .tags))
 
 pub packs-all : (s : List ℕ) (f : Fields) → Good s f → allFound f ≡ true → Packs s f
 unfolding measured
@@ -209,6 +214,8 @@ packs-all s f g e =
     seven-long (packValue (saysAs 0 s (f .id))) (packValue (saysAs 1 s (f .pubkey))) (packValue (saysAs 2 s (f .sig))) (packValue (saysAs 3 s (f .«created_at»)))
     (packValue (saysAs 4 s (f .kind))) (packValue (saysAs 6 s (f .content))) (packValue (saysAs 5 s (f .tags))) in
     record {
+      all = e;
+      each = g;
       writes = pack-said s f w;
       len =
           sym

@@ -19,7 +19,7 @@ use Rattle.jsontext.specs.Token.{spaceAt}
 use Rattle.jsontext.proofs.Fits.{byte-positive}
 use Rattle.jsontext.proofs.Walk.{space-onward, space-inside}
 use Rattle.json.specs.Field.{Value, under, textAt, fieldOf, fieldAt}
-use Rattle.json.specs.Object.{noFields, isMissing, field, eventOf, colonAt, memberAt, closeAt, afterMember, membersAt, insideAt, objectAt}
+use Rattle.json.specs.Object.{noFields, isMissing, field, colonAt, memberAt, afterMember, membersAt, insideAt, objectAt}
 use Rattle.json.proofs.FieldSound.{field-says}
 use Rattle.jsonread.specs.declared.Cursor.{Cursor}
 use Rattle.jsonread.specs.declared.Spot.{Spot}
@@ -30,12 +30,12 @@ use Rattle.jsonread.specs.declared.SpotRead.{SpotRead}
 use Rattle.jsonread.specs.declared.SpotRead.the-variants as spot-by
 use Rattle.jsonread.specs.declared.FieldsRead.{FieldsRead}
 use Rattle.jsonread.specs.declared.FieldsRead.the-variants as fields-by
-use Rattle.jsonread.specs.Found.{fieldsOf, spotOf, withSpot, noneFound, allFound, Weighs, SpotGood, found, Good, FieldsGood, good, Packs}
+use Rattle.jsonread.specs.Found.{fieldsOf, eventBy, spotOf, withSpot, noneFound, allFound, Weighs, SpotGood, found, Good, FieldsGood, good, Packs}
 use Rattle.jsonread.specs.Answers.{lenRead, spotRead, fieldsRead}
 use Rattle.jsonread.proofs.Strings.{string-ends, text-string}
 use Rattle.jsonread.proofs.Items.{never-shown, under-read, under-refused}
 use Rattle.jsonread.proofs.Naming.{number-most}
-use Rattle.jsonread.proofs.Known.{field-missing, none-said, fields-with, none-good, good-with, all-there, packs-all}
+use Rattle.jsonread.proofs.Known.{field-missing, none-said, fields-with, none-good, good-with, close-found, packs-all}
 
 -- ---- a colon and a value
 
@@ -170,13 +170,13 @@ module _ (s : List ℕ) (at : ℕ) {f : Fields} {i : ℕ} (v : InMembers s at f 
     onward = member-onward (fieldsOf s f) s i (sym e ∙ ap (fieldsRead s) z)
 
     -- the closing brace
-    pub members-closed : b ≡ 0x7D → allFound g ≡ true → read (eventOf (fieldsOf s g)) (p + 1) ≡ whole
-    unfolding afterMember closeAt
-    members-closed y t = sym (passed ∙ rw (eq-eqb (getD s p 0) 0x7D (sym h ∙ y), sym (all-there s g) ∙ t))
+    pub members-closed : b ≡ 0x7D → allFound g ≡ true → read (eventBy s g) (p + 1) ≡ whole
+    unfolding afterMember
+    members-closed y t = sym (passed ∙ rw (eq-eqb (getD s p 0) 0x7D (sym h ∙ y), close-found s g p, t))
 
     pub members-missing : b ≡ 0x7D → allFound g ≡ false → refused 15 p ≡ whole
-    unfolding afterMember closeAt
-    members-missing y t = sym (passed ∙ rw (eq-eqb (getD s p 0) 0x7D (sym h ∙ y), sym (all-there s g) ∙ t))
+    unfolding afterMember
+    members-missing y t = sym (passed ∙ rw (eq-eqb (getD s p 0) 0x7D (sym h ∙ y), close-found s g p, t))
 
     -- neither a brace nor a comma
     pub members-other : (b ≡ 0x7D → ⊥) → (b ≡ 0x2C → ⊥) → refused 14 p ≡ whole

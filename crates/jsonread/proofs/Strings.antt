@@ -22,10 +22,7 @@ use Rattle.jsontext.specs.declared.Spelled.{Spelled}
 use Rattle.jsontext.specs.Grammar as json
 use Rattle.jsontext.specs.Escape.{escapeAt, plainAt, orItself, unescape}
 use Rattle.jsontext.specs.Text.{stringAt}
-use Rattle.utf8.specs.Utf8.{octet}
-use Rattle.utf8.proofs.EncodeLaws.{encode-length}
-use Rattle.jsontext.proofs.EscapeLaws.{unit-length, pair-scalar}
-use Rattle.jsontext.proofs.Meaning.{unescape-chars}
+use Rattle.jsontext.proofs.Meaning.{unescape-chars, chars-same}
 use Rattle.jsontext.proofs.TextLaws.{string-reads}
 use Rattle.jsontext.proofs.Unescape.{run-onward, run-inside, run-slash, length-run, unescape-end, taken, length-escape}
 use Rattle.json.specs.Field.{textOf, textAt}
@@ -59,32 +56,6 @@ unescape-most t = omega (arith, go (length t) 0 (omega arith) (omega arith))
         let j : e + x .width ≤ length t = y .inside in
         omega (arith, run, length-escape t e q f refl, y .shorter, y .some, run-onward t i {e = e} refl, go k (e + x .width) (omega (arith, h, run-onward t i {e = e} refl, y .some)) j))
         (λ q. omega (arith, q, run, ap length (unescape-end t e (omega (arith, q))), run-onward t i {e = e} refl, run-inside t i {e = e} refl l))
-
--- a character of the grammar is no longer than it is spelled, and as long only where it stands for itself
-char-same : {c t : List ℕ} → json.Char c t → (length t ≤ length c) × (length t ≡ length c → t ≡ c)
-char-same (json.unescaped g) = (omega arith, λ e. refl)
-char-same (json.letter g) = (omega arith, λ e. absurd (omega arith))
-char-same (json.unicode {u = u} p g) = let n = encode-length g in let k = unit-length p in (omega arith, λ e. absurd (omega arith))
-char-same (json.pair {l = l} {m = m} {u = u} {v = v} p (octet h i) q (octet j k)) =
-    let n = encode-length (pair-scalar u v (omega arith) (omega arith)) in
-    let w = length-append l m in
-    let x = unit-length p in
-    let y = unit-length q in
-    (omega arith, λ e. absurd (omega arith))
-
-chars-same : {l t : List ℕ} → json.Chars l t → (length t ≤ length l) × (length t ≡ length l → t ≡ l)
-chars-same json.no-char = (omega arith, λ e. refl)
-chars-same (json.char {c = c} {t = t} {l = l} {r = r} g f) =
-    let a = char-same g in
-    let b = chars-same f in
-    let n = length-append t r in
-    let m = length-append c l in (
-      omega (arith, a .0, b .0),
-      λ e.
-          let x : length t ≡ length c = omega (arith, a .0, b .0, e) in
-          let y : length r ≡ length l = omega (arith, a .0, b .0, e) in
-          rw (a .1 x, b .1 y),
-    )
 
 -- a string that is read is its own text where that is as long as it is spelled
 pub string-same : (s : List ℕ) (a : ℕ) {x : Spelled} {e : ℕ} → stringAt s a ≡ read x e → length (textOf s x) ≡ x .count → textOf s x ≡ take (x .count) (drop (x .from) s)

@@ -50,7 +50,7 @@ use Rattle.jsonread.specs.declared.SpotRead.{SpotRead}
 use Rattle.jsonread.specs.declared.SpotRead.the-variants as spot-by
 use Rattle.jsonread.specs.Size.{elementSize, tagSize, total, sized}
 use Rattle.jsonread.specs.Copy.{partOf, contentText, spotText, tagsText}
-use Rattle.jsonread.specs.Found.{tagsFrom, saysAs, Weighs, SpotGood, found, refused}
+use Rattle.jsonread.specs.Found.{tagsFrom, saysAs, keptOf, Weighs, SpotGood, found, refused}
 use Rattle.jsonread.specs.Answers.{sizedRead, spotRead}
 use Rattle.jsonread.proofs.Strings.{part-most, text-bound, string-ends, string-same}
 use Rattle.jsonread.proofs.Items.{Bound, took-bound, under-read, under-refused, inside-by}
@@ -72,11 +72,11 @@ hex-not n t e f = rw (ne-eqb (length t) (2 * n) (λ y. f (e ∙ y)))
 -- a spot of n bytes
 pub hex-weighs : (s : List ℕ) (n : ℕ) (p : Spelled) → 0 < p .from → n ≤ 64 → true ≡ isHexOf n (textOf s p)
     → Weighs s 0 (record { from = p .from; count = p .count; number = n; len = n })
-unfolding spotText saysAs isHexOf
+unfolding spotText saysAs isHexOf keptOf
 hex-weighs s n p h m g =
     let u = pick-true (eqb (length (textOf s p)) (2 * n)) (allDigits (textOf s p)) (sym g) in
     let k = eqb-true (length (textOf s p)) (2 * n) (u .0) in
-    record { there = h; writes = refl; len = omega (arith, length-unhex (textOf s p), k); most = omega arith }
+    record { there = h; fixed = refl; writes = refl; len = omega (arith, length-unhex (textOf s p), k); most = omega arith }
 
 -- ---- a string
 
@@ -87,12 +87,13 @@ content-own s p h =
 
 pub text-weighs : (s : List ℕ) (p : Spelled) {n k : ℕ} → 0 < p .from → (length (textOf s p) ≡ p .count → textOf s p ≡ take (p .count) (drop (p .from) s))
     → n ≡ length (textOf s p) → k ≡ length (uleb n) → k ≤ 10 → Weighs s 6 (record { from = p .from; count = p .count; number = n; len = k + n })
-unfolding spotText saysAs
+unfolding spotText saysAs keptOf
 text-weighs s p {n} {k} h own e f m =
     let t = textOf s p in
     let c = content-own s (record { from = p .from; count = p .count; number = n; len = k + n }) (λ z. own (sym e ∙ z)) in
     record {
       there = h;
+      fixed = refl;
       writes = rw c (ap (λ (j : ℕ). uleb j ++ t) e);
       len = rw (length-append (uleb (length t)) t, ← e) (ap (λ (j : ℕ). j + n) f);
       most = omega (arith, m, part-most s (p .from) (p .count) e);
@@ -100,10 +101,9 @@ text-weighs s p {n} {k} h own e f m =
 
 -- ---- a number
 
-pub number-weighs : (s : List ℕ) (n next : ℕ) {k : ℕ} → 0 < next → k ≡ length (uleb n) → k ≤ 10
-    → Weighs s 3 (record { from = next; count = 0; number = n; len = k })
-unfolding spotText saysAs
-number-weighs s n next h e m = record { there = h; writes = refl; len = e; most = omega arith }
+pub number-weighs : (s : List ℕ) (n : ℕ) {k : ℕ} → k ≡ length (uleb n) → k ≤ 10 → Weighs s 3 (record { from = 1; count = 0; number = n; len = k })
+unfolding spotText saysAs keptOf
+number-weighs s n e m = record { there = omega arith; fixed = refl; writes = refl; len = e; most = omega arith }
 
 -- digits pass the test, and a byte that is none fails it
 digits-only : {l : List ℕ} → All decimal.Digit l → digitsOnly l ≡ true
@@ -265,11 +265,12 @@ tags-weigh s first {t} {e} small f = let g = under-read (sized tagSize) (insideA
 
 pub tags-spot : (s : List ℕ) (first : ℕ) {t : Sized} {e k : ℕ} → TagsWeigh s first t e → 0 < first → k ≡ length (uleb (t .count)) → k ≤ 10
     → Weighs s 5 (record { from = first; count = 0; number = t .count; len = k + t .len })
-unfolding spotText saysAs
+unfolding spotText saysAs keptOf
 tags-spot s first {t} {k = k} w h g m =
     let l = tagsFrom s first in
     record {
       there = h;
+      fixed = refl;
       writes = rw (w .text) (ap (λ (n : ℕ). uleb n ++ packTags l) (w .count));
       len = rw (length-append (uleb (length l)) (packTags l)) (ap (λ (n : ℕ). n + t .len) (g ∙ ap (λ (n : ℕ). length (uleb n)) (w .count)) ∙ ap (λ (n : ℕ). length (uleb (length l)) + n) (w .len));
       most = omega (arith, m, w .most);
@@ -322,10 +323,10 @@ module _ (s : List ℕ) (at : ℕ) (f : Skip) (e : skipRead f ≡ valueAt 16 s a
   ignored-refused k = let r = sym e ∙ ap skipRead k in rw r
 
 pub ignored-weighs : (s : List ℕ) → Weighs s 7 (record { from = 1; count = 0; number = 0; len = 0 })
-unfolding spotText saysAs
-ignored-weighs s = record { there = omega arith; writes = refl; len = refl; most = omega arith }
+unfolding spotText saysAs keptOf
+ignored-weighs s = record { there = omega arith; fixed = refl; writes = refl; len = refl; most = omega arith }
 
--- a number: nothing of the input but its place is in what it says
+-- a number: nothing of the input is in what it says
 pub spot-number : (s : List ℕ) (r : SpotRead) → spotRead 3 s r ≡ spotRead 3 [] r
 unfolding saysAs
 spot-number s (spot-by.Found p c) = refl
@@ -333,7 +334,7 @@ spot-number s (spot-by.Refused r) = refl
 
 pub good-number : (s : List ℕ) {r : SpotRead} → SpotGood [] 3 r → SpotGood s 3 r
 unfolding saysAs spotText
-good-number s (found w) = found (record { there = w .there; writes = w .writes; len = w .len; most = omega (arith, w .most) })
+good-number s (found w) = found (record { there = w .there; fixed = w .fixed; writes = w .writes; len = w .len; most = omega (arith, w .most) })
 good-number s SpotGood.refused = SpotGood.refused
 
 module _ (s : List ℕ) (at max refusal : ℕ) (f : Skip) (e : skipRead f ≡ numberAt s at) where
@@ -399,16 +400,16 @@ number-at-4 s (spot-by.Found p c) = refl
 number-at-4 s (spot-by.Refused r) = refl
 
 pub good-at-1 : {s : List ℕ} {r : SpotRead} → SpotGood s 0 r → SpotGood s 1 r
-unfolding saysAs spotText
-good-at-1 (found w) = found (record { there = w .there; writes = w .writes; len = w .len; most = w .most })
+unfolding saysAs spotText keptOf
+good-at-1 (found w) = found (record { there = w .there; fixed = w .fixed; writes = w .writes; len = w .len; most = w .most })
 good-at-1 SpotGood.refused = SpotGood.refused
 
 pub good-at-2 : {s : List ℕ} {r : SpotRead} → SpotGood s 0 r → SpotGood s 2 r
-unfolding saysAs spotText
-good-at-2 (found w) = found (record { there = w .there; writes = w .writes; len = w .len; most = w .most })
+unfolding saysAs spotText keptOf
+good-at-2 (found w) = found (record { there = w .there; fixed = w .fixed; writes = w .writes; len = w .len; most = w .most })
 good-at-2 SpotGood.refused = SpotGood.refused
 
 pub good-at-4 : {s : List ℕ} {r : SpotRead} → SpotGood s 3 r → SpotGood s 4 r
-unfolding saysAs spotText
-good-at-4 (found w) = found (record { there = w .there; writes = w .writes; len = w .len; most = w .most })
+unfolding saysAs spotText keptOf
+good-at-4 (found w) = found (record { there = w .there; fixed = w .fixed; writes = w .writes; len = w .len; most = w .most })
 good-at-4 SpotGood.refused = SpotGood.refused

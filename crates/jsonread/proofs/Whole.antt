@@ -16,13 +16,13 @@ use Rattle.event.specs.Answers.{told}
 use Rattle.event.specs.Event.{Event}
 use Rattle.notepack.specs.Strict.{pack}
 use Rattle.jsontext.specs.Token.{spaceAt}
-use Rattle.json.specs.Object.{eventOf, objectAt, wholeAt, readJson}
+use Rattle.json.specs.Object.{objectAt, wholeAt, readJson}
 use Rattle.jsonread.specs.declared.Cursor.{Cursor}
 use Rattle.jsonread.specs.declared.Fields.{Fields}
 use Rattle.jsonread.specs.declared.FieldsRead.{FieldsRead}
 use Rattle.jsonread.specs.declared.FieldsRead.the-variants as fields-by
 use Rattle.jsonread.specs.Copy.{fieldsText, measured}
-use Rattle.jsonread.specs.Found.{fieldsOf, Packs, ObjectGood, packs}
+use Rattle.jsonread.specs.Found.{eventBy, Packs, ObjectGood, packs}
 use Rattle.jsonread.specs.Answers.{objectRead, wholeRead}
 
 -- ---- the object, and nothing but white space around it
@@ -38,7 +38,7 @@ module _ (s : List ℕ) {first : ℕ} (g : first ≡ spaceAt s 0) (r : FieldsRea
   whole-refused z = sym (whole-open ∙ rw z)
 
   module _ {f : Fields} {c : Cursor} (z : r ≡ fields-by.Found f c) {p : ℕ} (q : p ≡ spaceAt s (c .at)) where
-    pub whole-taken : p ≡ length s → shown (eventOf (fieldsOf s f)) ≡ wholeAt s
+    pub whole-taken : p ≡ length s → shown (eventBy s f) ≡ wholeAt s
     whole-taken h = sym (whole-open ∙ rw (z, eq-eqb (spaceAt s (c .at)) (length s) (sym q ∙ h)))
 
     pub whole-after : (p ≡ length s → ⊥) → refused 10 p ≡ wholeAt s
@@ -68,7 +68,7 @@ module _ (s d : List ℕ) where
     json-refused z = let u = read-whole ∙ ap (wholeRead s) z in (rw u, rw u)
 
     module _ {f : Fields} {c : Cursor} (z : r ≡ fields-by.Found f c) (w : ObjectGood s r) where
-      json-shown : readJson s ≡ shown (eventOf (fieldsOf s f))
+      json-shown : readJson s ≡ shown (eventBy s f)
       json-shown = read-whole ∙ ap (wholeRead s) z
 
       -- the sum of the lengths fits
@@ -77,7 +77,7 @@ module _ (s d : List ℕ) where
 
       pub json-short : {n : ℕ} → n ≡ measured f → length d < n → (refused 11 n ≡ writes pack (readJson s) d) × (d ≡ leaves pack (readJson s) d)
       json-short {n} h i =
-          let u = short (pack (eventOf (fieldsOf s f))) d (h ∙ object-packs w z .len) i in
+          let u = short (pack (eventBy s f)) d (h ∙ object-packs w z .len) i in
           (rw json-shown (u .0), rw json-shown (u .1))
 
       pub json-fitted : {n k : ℕ} {d′ : List ℕ} → n ≡ measured f → n ≤ length d → Wrote d 0 (fieldsText s f) d′ k

@@ -5,7 +5,6 @@ use Rattle.scan.specs.Choice.{Answer, shown, Read, read}
 use Rattle.event.specs.Answers.{told}
 use Rattle.event.specs.Event.{Event}
 use Rattle.json.specs.Field.{Value}
-use Rattle.json.specs.Object.{eventOf}
 use Rattle.jsonread.specs.declared.Sized.{Sized}
 use Rattle.jsontext.specs.declared.Spelled.{Spelled}
 use Rattle.jsonread.specs.declared.TextRead.{TextRead}
@@ -20,7 +19,7 @@ use Rattle.jsonread.specs.declared.FieldsRead.{FieldsRead}
 use Rattle.jsonread.specs.declared.FieldsRead.the-variants as fields-by
 use Rattle.jsonread.specs.declared.JsonRead.{JsonRead}
 use Rattle.jsonread.specs.declared.JsonRead.the-variants as json-by
-use Rattle.jsonread.specs.Found.{saysAs, fieldsOf}
+use Rattle.jsonread.specs.Found.{saysAs, fieldsOf, eventBy}
 
 -- a string as spelled, or the refusal
 abbrev pub textRead : TextRead → Answer (Read Spelled)
@@ -49,12 +48,12 @@ fieldsRead s (fields-by.Refused r) = told r
 
 -- the event that they say, with the place behind its object
 abbrev pub objectRead : List ℕ → FieldsRead → Answer (Read Event)
-objectRead s (fields-by.Found f c) = read (eventOf (fieldsOf s f)) (c .at)
+objectRead s (fields-by.Found f c) = read (eventBy s f) (c .at)
 objectRead s (fields-by.Refused r) = told r
 
 -- the same of a whole input
 abbrev pub wholeRead : List ℕ → FieldsRead → Answer Event
-wholeRead s (fields-by.Found f c) = shown (eventOf (fieldsOf s f))
+wholeRead s (fields-by.Found f c) = shown (eventBy s f)
 wholeRead s (fields-by.Refused r) = told r
 
 -- the length written, or the refusal

@@ -4,14 +4,13 @@ use mathlib.Core.Path.{_≡_}
 use mathlib.Core.Bool.{Bool, true, false}
 use mathlib.Core.List.{List, [], _∷_}
 use lib.ListN.{length, take, drop}
-use lib.Dec.{eqb}
+use lib.Dec.{leb, eqb}
 use Rattle.scan.specs.Choice.{pick}
 use Rattle.hex.specs.Hex.{unhex}
-use Rattle.event.specs.Event.{Tag}
+use Rattle.event.specs.Event.{Tag, Event}
 use Rattle.notepack.specs.Strict.{pack}
 use Rattle.strict.specs.Copy.{orElse}
 use Rattle.json.specs.Field.{textOf, insideAt, tagAt, Value, missing, bytes, number, tags, text}
-use Rattle.json.specs.Object.{eventOf}
 use Rattle.jsontext.specs.declared.Spelled.{Spelled}
 use Rattle.jsonread.specs.declared.Spot.{Spot}
 use Rattle.jsonread.specs.declared.TextRead.{TextRead}
@@ -59,6 +58,19 @@ fieldsOf s f =
     ∷ says 6 s (f .content)
     ∷ []
 
+-- the event that seven found fields say: each part stands at its own spot
+unfoldable pub eventBy : List ℕ → Fields → Event
+eventBy s f =
+    record {
+      id = unhex (textOf s (partOf (f .id)));
+      pubkey = unhex (textOf s (partOf (f .pubkey)));
+      sig = unhex (textOf s (partOf (f .sig)));
+      createdAt = f .«created_at» .number;
+      kind = f .kind .number;
+      tags = tagsFrom s (f .tags .from);
+      content = textOf s (partOf (f .content));
+    }
+
 -- ---- fields by number
 
 abbrev pub noSpot : Spot
@@ -98,9 +110,19 @@ allFound f =
 
 -- ---- what was measured
 
+-- What the meaning of field number k leaves free in its spot is fixed too: bytes in hex are counted, of a number no place is kept, of tags no bytes,
+-- and of a value that is ignored nothing.
+unfoldable pub keptOf : ℕ → Spot → Spot
+keptOf k p =
+    pick (leb k 2) (record { from = p .from; count = p .count; number = p .len; len = p .len })
+    (pick (leb k 4) (record { from = 1; count = 0; number = p .number; len = p .len })
+    (pick (eqb k 5) (record { from = p .from; count = 0; number = p .number; len = p .len })
+    (pick (eqb k 6) p (record { from = 1; count = 0; number = 0; len = 0 }))))
+
 -- the second pass writes the strict form of what a spot says, and it has the length that was measured
 pub record Weighs (s : List ℕ) (k : ℕ) (p : Spot) : Type 0 where
   pub there : 0 < p .from
+  pub fixed : p ≡ keptOf k p
   pub writes : spotText k s p ≡ packValue (saysAs k s p)
   pub len : p .len ≡ length (packValue (saysAs k s p))
   pub most : p .len ≤ length s + 2_560_010
@@ -111,7 +133,7 @@ pub data SpotGood (s : List ℕ) (k : ℕ) : SpotRead → Type 0 where
 
 -- a field is not found yet, or measured right
 pub data Known (s : List ℕ) (k : ℕ) (p : Spot) : Type 0 where
-  not-yet : p .from ≡ 0 → Known s k p
+  not-yet : p ≡ noSpot → Known s k p
   known : Weighs s k p → Known s k p
 
 pub record Good (s : List ℕ) (f : Fields) : Type 0 where
@@ -127,10 +149,12 @@ pub data FieldsGood (s : List ℕ) : FieldsRead → Type 0 where
   good : {f : Fields} {c : _} → Good s f → FieldsGood s (fields-by.Found f c)
   refused : {r : _} → FieldsGood s (fields-by.Refused r)
 
--- An object that was read: the second pass writes the strict form of the event that its fields say, and it has the length that was measured.
+-- An object that was read: all seven are found, the second pass writes the strict form of the event that they say, and it has the length that was measured.
 pub record Packs (s : List ℕ) (f : Fields) : Type 0 where
-  pub writes : fieldsText s f ≡ pack (eventOf (fieldsOf s f))
-  pub len : measured f ≡ length (pack (eventOf (fieldsOf s f)))
+  pub all : allFound f ≡ true
+  pub each : Good s f
+  pub writes : fieldsText s f ≡ pack (eventBy s f)
+  pub len : measured f ≡ length (pack (eventBy s f))
   pub most : measured f ≤ 7 * (length s + 2_560_010)
 
 pub data ObjectGood (s : List ℕ) : FieldsRead → Type 0 where

@@ -9,18 +9,18 @@ ghost use mathlib.Core.Path.{_≡_};
 ghost use mathlib.Core.List.{[]};
 ghost use lib.ListN.{length};
 ghost use lib.Dec.{eqb};
-ghost use Rattle.scan.specs.Choice.{pick, shown, andThen};
+ghost use Rattle.scan.specs.Choice.{pick};
 ghost use Rattle.store.specs.Store.{Wrote};
-ghost use Rattle.store.specs.Entry.{writes, leaves};
 ghost use Rattle.hex.specs.Hex.{unhex};
-ghost use Rattle.notepack.specs.Strict.{packElement, pack};
+ghost use Rattle.notepack.specs.Strict.{packElement};
 ghost use Rattle.jsontext.specs.Block.{specialOf, PlainTo};
 ghost use Rattle.jsontext.specs.Token.{spaceAt};
 ghost use Rattle.jsontext.specs.Text.{stringAt};
 ghost use Rattle.jsontext.specs.Value.{valueAt};
 ghost use Rattle.json.specs.Field.{missing, bytes, number, tags, text, under, textOf, textAt, isHexOf, hexAt, wholeOf, insideAt, tagAt, tagsAt, fieldOf, fieldAt};
 ghost use Rattle.json.specs.Field.{wholeAt};
-ghost use Rattle.json.specs.Object.{noFields, colonAt, memberAt, membersAt, objectAt, readJson};
+ghost use Rattle.json.specs.Object.{noFields, colonAt, memberAt, membersAt, objectAt};
+ghost use Rattle.json.specs.Entries.{jsonReads, jsonLeaves, jsonNeeds};
 ghost use Rattle.json.specs.Object as object;
 ghost use Rattle.jsonread.specs.Run.{plainRun};
 ghost use Rattle.jsonread.specs.Size.{elementSize, tagSize, sized};
@@ -29,31 +29,31 @@ ghost use Rattle.jsonread.specs.Found.{PlainText, fieldsOf, noSpot, spot
 ghost use Rattle.jsonread.specs.Answers.{textRead, lenRead, sizedRead, spotRead, fieldsRead, objectRead, wholeRead, jsonRead};
 
 // A place in the input. A cursor past the end reads as the end.
-pub struct Cursor {
-    pub at: usize,
+struct Cursor {
+    at: usize,
 }
 
 // Where the value of a field stands, and how it goes into the strict form. From 0: the field is not found yet, since no value stands there.
-pub struct Spot {
-    // where a string begins behind its quote, the first tag, or the place behind a number
-    pub from: usize,
+struct Spot {
+    // where a string begins behind its quote, or the first tag; 1 for a number, whose place is not kept
+    from: usize,
     // the bytes of a string between its quotes
-    pub count: usize,
+    count: usize,
     // the number that it is, or how many bytes or tags it has
-    pub number: u64,
+    number: u64,
     // the length that it takes in the strict form
-    pub len: usize,
+    len: usize,
 }
 
 // The seven fields.
-pub struct Fields {
-    pub id: Spot,
-    pub pubkey: Spot,
-    pub sig: Spot,
-    pub created_at: Spot,
-    pub kind: Spot,
-    pub tags: Spot,
-    pub content: Spot,
+struct Fields {
+    id: Spot,
+    pubkey: Spot,
+    sig: Spot,
+    created_at: Spot,
+    kind: Spot,
+    tags: Spot,
+    content: Spot,
 }
 
 // How many items were read, and the length that they take in the strict form.
@@ -75,7 +75,7 @@ enum SpotRead {
 }
 
 // The fields with the cursor behind what was read, or the refusal.
-pub enum FieldsRead {
+enum FieldsRead {
     Found(Fields, Cursor),
     Refused(Refusal),
 }
@@ -353,7 +353,6 @@ impl Cursor {
 // The number that l spells, if it is digits alone.
 fn whole_of(l: &[u8], max: u64, over: u8, at: usize, next: usize) -> SpotRead
     requires { ⌜ 0 < length (now l) ⌝ }
-    requires { ⌜ 0 < next ⌝ }
     ensures { λ r. ⌜ spotRead 3 [] r ≡ under number (wholeOf max over (now (l .entry)) at next) ⌝ }
     ensures { λ r. ⌜ SpotGood [] 3 r ⌝ }
 {
@@ -363,7 +362,7 @@ fn whole_of(l: &[u8], max: u64, over: u8, at: usize, next: usize) -> SpotRead
             if end.at == l.len() {
                 return SpotRead::Found(
                     Spot {
-                        from: next,
+                        from: 1,
                         count: 0,
                         number: n,
                         len: varint::varint_len(n),
@@ -914,7 +913,7 @@ impl Cursor {
     }
 
     // The event's object at the cursor.
-    pub fn object(self, s: &[u8]) -> FieldsRead
+    fn object(self, s: &[u8]) -> FieldsRead
         ensures { λ r. ⌜ objectRead (now (s .entry)) r ≡ objectAt (now (s .entry)) (self .at) ⌝ }
         ensures { λ r. ⌜ ObjectGood (now (s .entry)) r ⌝ }
     {
@@ -1055,7 +1054,7 @@ fn put_content(out: &mut [u8], at: usize, s: &[u8], p: Spot) -> usize
 }
 
 // The strict form of the event that the fields say.
-pub fn put_event(out: &mut [u8], at: usize, s: &[u8], f: Fields) -> usize
+fn put_event(out: &mut [u8], at: usize, s: &[u8], f: Fields) -> usize
     ensures { λ r. ⌜ Wrote (now (out .entry)) at (fieldsText (now (s .entry)) f) (now (out .exit)) r ⌝ }
 {
     let content = f.content;
@@ -1094,8 +1093,8 @@ fn whole_text(s: &[u8]) -> FieldsRead
 
 // The event that a plain JSON text shows, in strict form from the start of the lent buffer; or the refusal, 11 with the length needed.
 pub fn read_json(s: &[u8], out: &mut [u8]) -> JsonRead
-    ensures { λ r. ⌜ jsonRead r ≡ writes pack (readJson (now (s .entry))) (now (out .entry)) ⌝ }
-    ensures { λ _. ⌜ now (out .exit) ≡ leaves pack (readJson (now (s .entry))) (now (out .entry)) ⌝ }
+    ensures { λ r. ⌜ jsonRead r ≡ jsonReads (now (s .entry)) (now (out .entry)) ⌝ }
+    ensures { λ _. ⌜ now (out .exit) ≡ jsonLeaves (now (s .entry)) (now (out .entry)) ⌝ }
 {
     if s.len() > event::MAX_INPUT {
         return JsonRead::Refused(Refusal {
@@ -1121,7 +1120,7 @@ pub fn read_json(s: &[u8], out: &mut [u8]) -> JsonRead
 
 // The length that the event of a plain JSON text takes in strict form, or the refusal.
 pub fn json_len(s: &[u8]) -> JsonRead
-    ensures { λ r. ⌜ jsonRead r ≡ andThen (readJson (now (s .entry))) (λ e. shown (length (pack e))) ⌝ }
+    ensures { λ r. ⌜ jsonRead r ≡ jsonNeeds (now (s .entry)) ⌝ }
 {
     if s.len() > event::MAX_INPUT {
         return JsonRead::Refused(Refusal {

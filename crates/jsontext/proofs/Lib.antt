@@ -18,3 +18,4 @@ pub mod Neighbours
 pub mod RunLaws
 pub mod Letters
 pub mod ShortLaws
+pub mod Telling

@@ -16,7 +16,7 @@ use Rattle.scan.proofs.AllLaws.{all-map}
 use Rattle.utf8.specs.Utf8 as utf8
 use Rattle.utf8.specs.Encode.{above, encode}
 use Rattle.utf8.proofs.Laws.{utf8-append, utf8-char}
-use Rattle.utf8.proofs.EncodeLaws.{encode-one, encode-utf8}
+use Rattle.utf8.proofs.EncodeLaws.{encode-one, encode-utf8, encode-length}
 use Rattle.jsontext.specs.declared.Escape.{Escape}
 use Rattle.jsontext.specs.Grammar as json
 use Rattle.jsontext.specs.Escape.{unitAt, escape, unicodeAt, escapeAt, orItself, unescaped, unescape}
@@ -169,6 +169,34 @@ chars-utf8 (json.char g f) = utf8-append (char-utf8 g) (chars-utf8 f)
 -- the text of a string of the grammar is well-formed UTF-8
 pub unescape-utf8 : {l t : List ℕ} → json.Chars l t → utf8.Utf8 (unescape l)
 unescape-utf8 g = rw (unescape-chars g) (chars-utf8 g)
+
+-- ---- a text is no longer than it is spelled
+
+-- a character of the grammar is no longer than it is spelled, and as long only where it stands for itself
+char-same : {c t : List ℕ} → json.Char c t → (length t ≤ length c) × (length t ≡ length c → t ≡ c)
+char-same (json.unescaped g) = (omega arith, λ e. refl)
+char-same (json.letter g) = (omega arith, λ e. absurd (omega arith))
+char-same (json.unicode {u = u} p g) = let n = encode-length g in let k = unit-length p in (omega arith, λ e. absurd (omega arith))
+char-same (json.pair {l = l} {m = m} {u = u} {v = v} p (utf8.octet h i) q (utf8.octet j k)) =
+    let n = encode-length (pair-scalar u v (omega arith) (omega arith)) in
+    let w = length-append l m in
+    let x = unit-length p in
+    let y = unit-length q in
+    (omega arith, λ e. absurd (omega arith))
+
+pub chars-same : {l t : List ℕ} → json.Chars l t → (length t ≤ length l) × (length t ≡ length l → t ≡ l)
+chars-same json.no-char = (omega arith, λ e. refl)
+chars-same (json.char {c = c} {t = t} {l = l} {r = r} g f) =
+    let a = char-same g in
+    let b = chars-same f in
+    let n = length-append t r in
+    let m = length-append c l in (
+      omega (arith, a .0, b .0),
+      λ e.
+          let x : length t ≡ length c = omega (arith, a .0, b .0, e) in
+          let y : length r ≡ length l = omega (arith, a .0, b .0, e) in
+          rw (a .1 x, b .1 y),
+    )
 
 -- ---- texts that were escaped byte by byte
 

@@ -11,7 +11,7 @@ use lib.ListN.{length, getD, take, drop, length-append}
 use lib.Seq.{take-at}
 use lib.Dec.{ltb, eqb}
 use borrow.Author.Tests.{lt-ltb, le-ltb, ne-eqb, ltb-true, ltb-false, eqb-true, eqb-false}
-use Rattle.scan.specs.Choice.{read}
+use Rattle.scan.specs.Choice.{refused, read}
 use Rattle.scan.specs.Span.{Span, here, step, All, none, also}
 use Rattle.scan.proofs.SpanLaws.{join, cut, cut-at, open-span, close-span, bite, seen, span-length, span-fits, from-span}
 use Rattle.scan.proofs.Reading.{Reads, reads, fails, pick-reads, from-reads}
@@ -211,6 +211,42 @@ string-accepts {s} {a = a} {c = c} (json.quoted {l = l} g) (step h e r) =
     let n : u .0 - (a + 1) ≡ length l = omega (arith, span-length (u .1)) in
     let f : u .0 + 1 ≡ c = sym (v .1) in
     rw (e, chars-accept (length s) a g (u .1) (omega (arith, h, span-fits r, length-append l (0x22 ∷ []))) (v .0), n, f)
+
+-- ---- refuses: the earliest fault decides, behind characters that are passed
+
+chars-pass : {s l t : List ℕ} {i j : ℕ} (k start : ℕ) → json.Chars l t → Span s i l j → length l < k → (m : ℕ) × (charsAt k s start i ≡ charsAt (suc m) s start j)
+chars-pass zero start g r h = absurd (omega arith)
+chars-pass (suc k) start json.no-char here h = (k, refl)
+chars-pass (suc k) start (json.char {c = c} {l = l} g f) r h =
+    let u = cut c r in
+    let v = chars-pass k start f (u .2) (omega (arith, length-append c l, char-some g)) in
+    (v .0, char-step k start g (u .1) ∙ v .1)
+
+string-open : {s l t : List ℕ} {a i : ℕ} → json.Chars l t → Span s a (0x22 ∷ l) i → (m : ℕ) × (stringAt s a ≡ charsAt (suc m) s a i)
+unfolding stringAt
+string-open {s} {a = a} g (step h e r) =
+    let v = chars-pass (length s) a g r (omega (arith, h, span-fits r)) in
+    (v .0, rw e (v .1))
+
+-- 5 at the first byte between the quotes: ill-formed UTF-8
+pub string-ill-formed : {s l t : List ℕ} {a i : ℕ} → json.Chars l t → Span s a (0x22 ∷ l) i → 0x80 ≤ getD s i 0 → widthAt s i ≡ 0 → stringAt s a ≡ refused 5 (a + 1)
+unfolding charsAt
+string-ill-formed {s} {i = i} g r h w =
+    let b = getD s i 0 in
+    string-open g r .1
+    ∙ rw (ne-eqb b 0x22 (λ x. omega arith), le-ltb b 0x20 (omega arith), ne-eqb b 0x5C (λ x. omega arith), le-ltb b 0x80 h, w)
+
+-- 14 at the opening quote: a raw control byte, or the input's end, which reads as one
+pub string-control : {s l t : List ℕ} {a i : ℕ} → json.Chars l t → Span s a (0x22 ∷ l) i → getD s i 0 < 0x20 → stringAt s a ≡ refused 14 a
+unfolding charsAt
+string-control {s} {i = i} g r h =
+    let b = getD s i 0 in
+    string-open g r .1 ∙ rw (ne-eqb b 0x22 (λ x. omega arith), lt-ltb b 0x20 h)
+
+-- and a backslash that begins no escape
+pub string-no-escape : {s l t : List ℕ} {a i : ℕ} → json.Chars l t → Span s a (0x22 ∷ l) i → getD s i 0 ≡ 0x5C → escapeAt s i .width ≡ 0 → stringAt s a ≡ refused 14 a
+unfolding charsAt
+string-no-escape g r e w = string-open g r .1 ∙ rw (e, w)
 
 -- ---- the bytes between the quotes
 

@@ -17,6 +17,10 @@ nullWord = 0x6E ∷ 0x75 ∷ 0x6C ∷ 0x6C ∷ []
 abbrev pub trueWord : List ℕ
 trueWord = 0x74 ∷ 0x72 ∷ 0x75 ∷ 0x65 ∷ []
 
+-- the numbers that the reading over a value refuses with
+abbrev pub valueNumbers : List ℕ
+valueNumbers = 5 ∷ 14 ∷ 18 ∷ []
+
 -- a name, a colon and a value; `value` reads the value
 unfoldable pub colonAt : (value : ℕ → Skipped) → List ℕ → ℕ → Skipped
 colonAt value s p = pick (eqb (byteAt s p) 0x3A) (value (spaceAt s (p + 1))) (refused 14 p)

@@ -95,7 +95,7 @@ impl Cursor {
     }
 
     // Behind the literal w.
-    pub fn word(self, w: &[u8], s: &[u8]) -> Skip
+    fn word(self, w: &[u8], s: &[u8]) -> Skip
         ensures { λ r. ⌜ skipRead r ≡ wordAt (now (w .entry)) (now (s .entry)) (self .at) ⌝ }
     {
         let at = self.at;

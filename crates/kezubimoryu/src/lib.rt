@@ -21,10 +21,8 @@ ghost use Rattle.notepack.specs.Unpack.{unpack};
 ghost use Rattle.notepack.specs.Views.{numbersOf, textsIn, elementOf};
 ghost use Rattle.strict.specs.Strict.{strict};
 ghost use Rattle.canonical.specs.Canonical.{canonical};
-ghost use Rattle.nson.specs.Nson.{nson};
-ghost use Rattle.nson.specs.Read.{readNson};
-ghost use Rattle.nsonwrite.specs.Carried.{carried};
-ghost use Rattle.json.specs.Object.{readJson};
+ghost use Rattle.nson.specs.Entries.{nsonReads, nsonLeaves, nsonWrites, writerLeaves};
+ghost use Rattle.json.specs.Entries.{jsonReads, jsonLeaves};
 ghost use Rattle.both.specs.Both.{both, bothFirst, bothSecond};
 ghost use Rattle.rivals.specs.Rivals.{rivals};
 ghost use Rattle.kezubimoryu.specs.Entries.{ok, yesNo, told, keptNumber};
@@ -163,8 +161,8 @@ pub extern "C" fn kez_canonical_write(packed: &[u8], out: &mut [u8]) -> KezAnswe
 
 #[no_mangle]
 pub extern "C" fn kez_nson_write(packed: &[u8], out: &mut [u8]) -> KezAnswer
-    ensures { λ a. ⌜ (a .refusal, a .value) ≡ twoNumbers (writes nson (carried (unpack (now (packed .entry)))) (now (out .entry))) ⌝ }
-    ensures { λ _. ⌜ now (out .exit) ≡ leaves nson (carried (unpack (now (packed .entry)))) (now (out .entry)) ⌝ }
+    ensures { λ a. ⌜ (a .refusal, a .value) ≡ twoNumbers (nsonWrites (now (packed .entry)) (now (out .entry))) ⌝ }
+    ensures { λ _. ⌜ now (out .exit) ≡ writerLeaves (now (packed .entry)) (now (out .entry)) ⌝ }
 {
     let done = nsonwrite::write_nson(packed, out);
     match done {
@@ -175,8 +173,8 @@ pub extern "C" fn kez_nson_write(packed: &[u8], out: &mut [u8]) -> KezAnswer
 
 #[no_mangle]
 pub extern "C" fn kez_nson_read(text: &[u8], out: &mut [u8]) -> KezAnswer
-    ensures { λ a. ⌜ (a .refusal, a .value) ≡ twoNumbers (writes pack (readNson (now (text .entry))) (now (out .entry))) ⌝ }
-    ensures { λ _. ⌜ now (out .exit) ≡ leaves pack (readNson (now (text .entry))) (now (out .entry)) ⌝ }
+    ensures { λ a. ⌜ (a .refusal, a .value) ≡ twoNumbers (nsonReads (now (text .entry)) (now (out .entry))) ⌝ }
+    ensures { λ _. ⌜ now (out .exit) ≡ nsonLeaves (now (text .entry)) (now (out .entry)) ⌝ }
 {
     let done = nsonread::read_nson(text, out);
     match done {
@@ -187,8 +185,8 @@ pub extern "C" fn kez_nson_read(text: &[u8], out: &mut [u8]) -> KezAnswer
 
 #[no_mangle]
 pub extern "C" fn kez_json_read(text: &[u8], out: &mut [u8]) -> KezAnswer
-    ensures { λ a. ⌜ (a .refusal, a .value) ≡ twoNumbers (writes pack (readJson (now (text .entry))) (now (out .entry))) ⌝ }
-    ensures { λ _. ⌜ now (out .exit) ≡ leaves pack (readJson (now (text .entry))) (now (out .entry)) ⌝ }
+    ensures { λ a. ⌜ (a .refusal, a .value) ≡ twoNumbers (jsonReads (now (text .entry)) (now (out .entry))) ⌝ }
+    ensures { λ _. ⌜ now (out .exit) ≡ jsonLeaves (now (text .entry)) (now (out .entry)) ⌝ }
 {
     let done = jsonread::read_json(text, out);
     match done {
@@ -197,19 +195,29 @@ pub extern "C" fn kez_json_read(text: &[u8], out: &mut [u8]) -> KezAnswer
     }
 }
 
-// Neither accepts is 0, JSON alone is 1, both with the same bytes is 2; 3, that they differ, is never told.
+// The plain JSON reader's refusal; else 1 where it alone shows the event, 2 where the NSON reader shows it too.
 #[no_mangle]
-pub extern "C" fn kez_read_both(text: &[u8], first: &mut [u8], second: &mut [u8]) -> KezAnswer
-    ensures { λ a. ⌜ (a .refusal, a .value) ≡ twoNumbers (both (now (text .entry)) (now (first .entry)) (now (second .entry))) ⌝ }
+pub extern "C" fn kez_read_both(
+    text: &[u8],
+    first: &mut [u8],
+    second: &mut [u8],
+    written: &mut u64,
+) -> KezAnswer
+    ensures { λ a. ⌜ (a .refusal, a .value) ≡ twoNumbers (andThen (both (now (text .entry)) (now (first .entry)) (now (second .entry))) (λ c. shown (c .which))) ⌝ }
+    ensures { λ _. ⌜ now (written .exit) ≡ told (both (now (text .entry)) (now (first .entry)) (now (second .entry))) (λ c. c .len) (now (written .entry)) ⌝ }
     ensures { λ _. ⌜ now (first .exit) ≡ bothFirst (now (text .entry)) (now (first .entry)) (now (second .entry)) ⌝ }
     ensures { λ _. ⌜ now (second .exit) ≡ bothSecond (now (text .entry)) (now (first .entry)) (now (second .entry)) ⌝ }
 {
     let done = both::read_both(text, first, second);
     match done {
-        BothRead::Neither => shown(0),
-        BothRead::JsonAlone => shown(1),
-        BothRead::Same => shown(2),
-        BothRead::Differ => shown(3),
+        BothRead::JsonAlone(n) => {
+            *written = n as u64;
+            shown(1)
+        }
+        BothRead::Same(n) => {
+            *written = n as u64;
+            shown(2)
+        }
         BothRead::Refused(r) => refused(r),
     }
 }

@@ -4,6 +4,9 @@ use libc::STDIN_FILENO;
 use libc::STDOUT_FILENO;
 use notepack::Head;
 use notepack::HeadRead;
+ghost use Prim.Native.Nat.{_≤_};
+ghost use mathlib.Core.Path.{_≡_};
+ghost use lib.ListN.{length, take};
 ghost use Rattle.store.specs.Store.{Wrote};
 ghost use Rattle.notepack.specs.Views.{numbersOf};
 ghost use Rattle.lister.specs.Listing.{numbersText, refusalText, listing};
@@ -35,9 +38,11 @@ fn put_refusal(out: &mut [u8], at: usize, r: Refusal) -> usize
     store::put_bytes(out, d, b"\n")
 }
 
-// What is printed of packed bytes.
+// What is printed of packed bytes, whole: no text of the lister is longer than 128 bytes.
 fn list(out: &mut [u8], s: &[u8]) -> usize
-    ensures { λ r. ⌜ Wrote (now (out .entry)) 0 (listing (numbersOf (now (s .entry)))) (now (out .exit)) r ⌝ }
+    requires { ⌜ 128 ≤ length (now out) ⌝ }
+    ensures { λ r. ⌜ r ≡ length (listing (numbersOf (now (s .entry)))) ⌝ }
+    ensures { λ r. ⌜ take r (now (out .exit)) ≡ listing (numbersOf (now (s .entry))) ⌝ }
 {
     let found = notepack::read_packed(s);
     match found {

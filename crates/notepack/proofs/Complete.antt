@@ -11,6 +11,7 @@ use lib.Dec.{leb, eqb}
 use borrow.Author.Tests.{le-leb, eq-eqb, ne-eqb}
 use Rattle.scan.specs.Choice.{pick, Answer, shown, refused, Read, read, andThen, many}
 use Rattle.scan.specs.Span.{Span, here, All, none, also}
+use Rattle.scan.proofs.Reading.{read-same}
 use Rattle.scan.proofs.SpanLaws.{cut, cut-at, none-span, span-length, span-fits, from-span, input-span}
 use Rattle.varint.specs.Uleb.{Spells}
 use Rattle.varint.specs.Varint.{varintAt}
@@ -25,6 +26,14 @@ use Rattle.notepack.specs.declared.Part.{Part}
 use Rattle.notepack.specs.declared.Head.{Head}
 use Rattle.notepack.specs.Layout.{Element, as-text, as-bytes, Elements, TagLays, Tags, Lays}
 use Rattle.notepack.specs.Unpack.{partOf, bytesOf, textOf, payloadAt, textAt, numberAt, contentAt, elementAt, elementsAt, tagCountAt, tagAt, tagsAt, numbersAt, headAt, Packed, packedAt, eventOf, unpack}
+
+-- where everything of an event stands that the input lays out: no limit is asked here
+record Stands (s : List ℕ) (e : Event) : Type 0 where
+  head : Head
+  parts : List (List Part)
+  heads : headAt s ≡ shown head
+  tags : tagsAt (head .«tag_count») s (head .«tags_at») ≡ read parts (length s)
+  event : eventOf s (record { head = head; tags = parts }) ≡ e
 
 module _ {s : List ℕ} where
   -- the bytes of a span are the bytes of the part
@@ -95,10 +104,9 @@ module _ {s : List ℕ} where
   field-bytes : (n : ℕ) {a c : ℕ} {l : List ℕ} → length l ≡ n → Span s a l c → take n (drop a s) ≡ l
   field-bytes n e r = rw e at (span-bytes r)
 
-  -- the whole
-  complete-span : {e : Event} {l : List ℕ} → Lays e l → Valid e → Span s 0 l (length s) → length s ≤ 65_536 → unpack s ≡ shown e
-  unfolding unpack packedAt headAt numbersAt contentAt eventOf textOf
-  complete-span {e} (Lays.lays {time = time} {kind = kind} {size = size} {count = count} t k z n g) v r short =
+  stands : {e : Event} {l : List ℕ} → Lays e l → Valid e → Span s 0 l (length s) → Stands s e
+  unfolding headAt numbersAt contentAt eventOf textOf
+  stands {e} (Lays.lays {time = time} {kind = kind} {size = size} {count = count} t k z n g) v r =
       let ri = cut-at (e .id) 32 (v .id32 .count) r in
       let rp = cut-at (e .pubkey) 32 (v .pubkey32 .count) (ri .1) in
       let rs = cut-at (e .sig) 64 (v .sig64 .count) (rp .1) in
@@ -111,29 +119,55 @@ module _ {s : List ℕ} where
       let i = field-full 0 32 (v .id32 .count) (ri .0) in
       let p = field-full 32 32 (v .pubkey32 .count) (rp .0) in
       let y = field-full 64 64 (v .sig64 .count) (rs .0) in
-      rw (
-        le-leb (length s) 65_536 short,
-        i,
-        p,
-        y,
-        number-full 9_223_372_036_854_775 7 t (v .time) (rt .1),
-        number-full 65_535 6 k (v .kind16) (rk .1),
-        accepts z (rz .1),
-        text-full (rk .0) (v .text) (rc .1),
-        number-full 1_000 8 n (v .few) (rn .1),
-        ts .1,
-        eq-eqb (length s) (length s) refl,
-      )
-      (ap shown
-      (all-seven
-      (field-bytes 32 (v .id32 .count) (ri .0))
-      (field-bytes 32 (v .pubkey32 .count) (rp .0))
-      (field-bytes 64 (v .sig64 .count) (rs .0))
-      refl
-      refl
-      (ts .2)
-      (span-bytes (rc .1))))
+      record {
+        head =
+            record {
+              «created_at» = e .createdAt;
+              kind = e .kind;
+              content = partOf (rz .0) (length (e .content)) false;
+              «tag_count» = length (e .tags);
+              «tags_at» = rn .0;
+            };
+        parts = ts .0;
+        heads =
+            rw (
+              i,
+              p,
+              y,
+              number-full 9_223_372_036_854_775 7 t (v .time) (rt .1),
+              number-full 65_535 6 k (v .kind16) (rk .1),
+              accepts z (rz .1),
+              text-full (rk .0) (v .text) (rc .1),
+              number-full 1_000 8 n (v .few) (rn .1),
+            );
+        tags = ts .1;
+        event =
+            all-seven
+            (field-bytes 32 (v .id32 .count) (ri .0))
+            (field-bytes 32 (v .pubkey32 .count) (rp .0))
+            (field-bytes 64 (v .sig64 .count) (rs .0))
+            refl
+            refl
+            (ts .2)
+            (span-bytes (rc .1));
+      }
+
+  -- one input has one head and one list of tags
+  stands-once : {a b : Event} → Stands s a → Stands s b → a ≡ b
+  stands-once x y =
+      let h : x .head ≡ y .head = let q = sym (x .heads) ∙ y .heads in cc in
+      let t : x .parts ≡ y .parts = read-same (sym (rw h at (x .tags)) ∙ y .tags) .0 in
+      sym (x .event) ∙ ap (λ (d : Head). eventOf s (record { head = d; tags = x .parts })) h
+      ∙ ap (λ (p : List (List Part)). eventOf s (record { head = y .head; tags = p })) t
+      ∙ y .event
 
 -- Complete: whatever lays out a valid event within the limit is read as that event.
 pub complete : (s : List ℕ) (e : Event) → Lays e s → Valid e → length s ≤ 65_536 → unpack s ≡ shown e
-complete s e g v short = complete-span g v (input-span s) short
+unfolding unpack packedAt
+complete s e g v short =
+    let d = stands g v (input-span s) in
+    rw (le-leb (length s) 65_536 short, d .heads, d .tags, eq-eqb (length s) (length s) refl) (ap shown (d .event))
+
+-- One byte string, of any length, lays out at most one valid event.
+pub one-event : {s : List ℕ} {a b : Event} → Lays a s → Lays b s → Valid a → Valid b → a ≡ b
+one-event {s} g h v w = stands-once (stands g v (input-span s)) (stands h w (input-span s))

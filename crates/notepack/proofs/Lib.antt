@@ -6,3 +6,5 @@ pub mod Lengths
 pub mod Passing
 pub mod Walking
 pub mod Viewing
+pub mod Seen
+pub mod Telling

@@ -84,6 +84,10 @@ pack-lays e v h =
 pub reads-back : (e : Event) → Valid e → length (pack e) ≤ 65_536 → unpack (pack e) ≡ shown e
 reads-back e v h = complete (pack e) e (pack-lays e v h) v h
 
+-- What the strict writer writes of an accepted input reads back as the event that the input shows.
+pub reads-again : (s : List ℕ) (e : Event) → unpack s ≡ shown e → IsBytes s → unpack (pack e) ≡ shown e
+reads-again s e h bytes = let u = sound s bytes e h in reads-back e (u .valid) (omega (arith, u .least, u .short))
+
 -- Two valid events with one strict form are one event.
 pub pack-injective : (d e : Event) → Valid d → Valid e → length (pack d) ≤ 65_536 → pack d ≡ pack e → d ≡ e
 pack-injective d e v w h q =

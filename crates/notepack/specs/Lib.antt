@@ -3,4 +3,5 @@ pub mod Strict
 pub mod Unpack
 pub mod Tally
 pub mod Views
+pub mod Seen
 pub mod Answers

@@ -1,7 +1,7 @@
 -- Reading notepack at places of the input, with document 01's refusals and their places. `proofs/` shows that it is `Lays`. Assumes nothing.
 use Prim.Native.Nat.{ℕ, _+_, _-_, _/_, _%_}
 use mathlib.Core.Bool.{Bool, true, false}
-use mathlib.Core.List.{List, map}
+use mathlib.Core.List.{List, [], _∷_, map}
 use lib.ListN.{length, take, drop}
 use lib.Dec.{leb, eqb}
 use Rattle.scan.specs.Choice.{pick, Answer, shown, refused, Read, read, andThen, many}
@@ -100,6 +100,10 @@ packedAt s =
     andThen (tagsAt (h .«tag_count») s (h .«tags_at»)) λ t.
     pick (eqb (t .next) (length s)) (shown (record { head = h; tags = t .value })) (refused 10 (t .next)))
     (refused 1 0)
+
+-- the numbers of its refusals: 1 to 10
+abbrev pub packedNumbers : List ℕ
+packedNumbers = 1 ∷ 2 ∷ 3 ∷ 4 ∷ 5 ∷ 6 ∷ 7 ∷ 8 ∷ 9 ∷ 10 ∷ []
 
 -- the event whose parts stand there
 unfoldable pub eventOf : List ℕ → Packed → Event

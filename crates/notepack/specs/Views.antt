@@ -6,7 +6,7 @@ use lib.Dec.{ltb}
 use Rattle.scan.specs.Choice.{pick, Answer, shown, refused, Read, andThen}
 use Rattle.notepack.specs.declared.Part.{Part}
 use Rattle.notepack.specs.declared.Head.{Head}
-use Rattle.notepack.specs.Unpack.{bytesOf, elementAt, elementsAt, tagCountAt, tagsAt, Packed, packedAt}
+use Rattle.notepack.specs.Unpack.{bytesOf, elementAt, elementsAt, tagCountAt, tagsAt, Packed, packedAt, packedNumbers}
 
 -- the numbers of the event
 unfoldable pub numbersOf : List ℕ → Answer Head
@@ -17,6 +17,10 @@ abbrev pub nth : {A : Type 0} → ℕ → List A → Answer A
 nth i [] = refused 19 0
 nth zero (x ∷ l) = shown x
 nth (suc i) (x ∷ l) = nth i l
+
+-- the numbers of a view's refusals: the reader's, and 19
+abbrev pub viewNumbers : List ℕ
+viewNumbers = 19 ∷ packedNumbers
 
 -- tag i
 unfoldable pub tagOf : ℕ → List ℕ → Answer (List Part)

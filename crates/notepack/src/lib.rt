@@ -238,8 +238,8 @@ impl Cursor {
             len: t.len,
             hollow: t.hollow,
         };
-        let mut left = count;
-        while 0 < left {
+        let mut tags = count;
+        while 0 < tags {
             let found = c.pass_tag(s, sum);
             match found {
                 Pass::Done(u, next) => {
@@ -248,7 +248,7 @@ impl Cursor {
                         hollow: u.hollow,
                     };
                     c = next;
-                    left -= 1;
+                    tags -= 1;
                 }
                 Pass::Refused(r) => return Pass::Refused(r),
             }
@@ -294,7 +294,7 @@ pub fn text_len(t: &[u8]) -> usize
 }
 
 // The length of the strict element whose text is the hex of these bytes.
-pub fn bytes_len(b: &[u8]) -> usize
+fn bytes_len(b: &[u8]) -> usize
     ensures { λ r. ⌜ r ≡ length (packElement (hexes (now (b .entry)))) ⌝ }
     ensures { λ r. ⌜ r ≤ length (now (b .entry)) + 10 ⌝ }
 {
@@ -305,7 +305,7 @@ pub fn bytes_len(b: &[u8]) -> usize
 }
 
 // The length of the strict element that has a part's text.
-pub fn element_len(s: &[u8], p: Part) -> usize
+fn element_len(s: &[u8], p: Part) -> usize
     ensures { λ r. ⌜ r ≡ length (packElement (textOf (now (s .entry)) p)) ⌝ }
 {
     let bytes = scan::part(s, p.at, p.len);

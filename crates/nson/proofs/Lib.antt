@@ -10,6 +10,7 @@ pub mod Head
 pub mod Carrying
 pub mod Stands
 pub mod Sound
+pub mod Telling
 pub mod Complete
 pub mod Decision
 pub mod Example

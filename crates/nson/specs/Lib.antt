@@ -1,3 +1,4 @@
 pub mod Nson
 pub mod Carries
 pub mod Read
+pub mod Entries

@@ -14,6 +14,10 @@ use Rattle.jsontext.specs.Escape.{unescape}
 use Rattle.counted.specs.Counted.{faultIn}
 use Rattle.nson.specs.Nson.{idLabel, pubkeyLabel, sigLabel, timeLabel, nsonLabel, kindLabel, contentLabel, tagsLabel, endLabel, Counts}
 
+-- the numbers of refusal that the NSON reader has
+abbrev pub nsonNumbers : List ℕ
+nsonNumbers = 1 ∷ 5 ∷ 6 ∷ 9 ∷ 10 ∷ 12 ∷ 13 ∷ 14 ∷ []
+
 -- ---- pieces: the place behind them, or the refusal at their start
 
 -- a fixed piece; `number` is the refusal where another byte or the end stands

@@ -7,11 +7,11 @@ ghost use mathlib.Core.Bool.{false};
 ghost use lib.ListN.{length};
 ghost use Rattle.scan.specs.Choice.{shown, andThen, read, many};
 ghost use Rattle.store.specs.Store.{Wrote};
-ghost use Rattle.store.specs.Entry.{writes, leaves};
 ghost use Rattle.varint.specs.Uleb.{uleb};
 ghost use Rattle.jsontext.specs.Escape.{unescape};
 ghost use Rattle.notepack.specs.Strict.{packElement, packElements, packTag, packTags, pack};
-ghost use Rattle.nson.specs.Read.{partAt, pieceAt, hexAt, labelledAt, decimalAt, keysAt, timeAt, headAt, byteHere, wordHere, descriptorAt, wordCountAt, kindCountAt, itemCountAt, tagCountsAt, countsTo, countsAt, kindAt, commaAt, itemsAt, itemAt, tagAt, tagsAt, kindPartAt, contentPartAt, tagsPartAt, bodyAt, readNson};
+ghost use Rattle.nson.specs.Read.{partAt, pieceAt, hexAt, labelledAt, decimalAt, keysAt, timeAt, headAt, byteHere, wordHere, descriptorAt, wordCountAt, kindCountAt, itemCountAt, tagCountsAt, countsTo, countsAt, kindAt, commaAt, itemsAt, itemAt, tagAt, tagsAt, kindPartAt, contentPartAt, tagsPartAt, bodyAt};
+ghost use Rattle.nson.specs.Entries.{nsonReads, nsonLeaves, nsonNeeds};
 ghost use Rattle.nsonread.specs.Walk.{nextOf, sized, textSizeAt, fieldDigits, itemSizes, tagSizes, sizesOf, countsOf, bodySize, kept, walkAt};
 ghost use Rattle.nsonread.specs.Copy.{itemsText, itemsEnd, tagsText, contentPlace, tagsPlace, frontText, wholeText};
 ghost use Rattle.nsonread.specs.Answers.{nsonRead, skip, numberRead, sizesRead, bodyRead, walk, numberIn, sizesIn, placeIn, contentIn, tagsIn, sizesOfWalk, tagsPlaceOf};
@@ -889,8 +889,8 @@ fn put_whole(out: &mut [u8], s: &[u8], w: Walked) -> usize
 
 // The event of an NSON text, in strict form: every refusal first, then 11 with the length needed; else written from the start.
 pub fn read_nson(s: &[u8], out: &mut [u8]) -> NsonRead
-    ensures { λ r. ⌜ nsonRead r ≡ writes pack (readNson (now (s .entry))) (now (out .entry)) ⌝ }
-    ensures { λ _. ⌜ now (out .exit) ≡ leaves pack (readNson (now (s .entry))) (now (out .entry)) ⌝ }
+    ensures { λ r. ⌜ nsonRead r ≡ nsonReads (now (s .entry)) (now (out .entry)) ⌝ }
+    ensures { λ _. ⌜ now (out .exit) ≡ nsonLeaves (now (s .entry)) (now (out .entry)) ⌝ }
 {
     let walked = walk_text(s);
     match walked {
@@ -910,7 +910,7 @@ pub fn read_nson(s: &[u8], out: &mut [u8]) -> NsonRead
 
 // The length that the event of an NSON text takes in strict form, or the refusal.
 pub fn nson_len(s: &[u8]) -> NsonRead
-    ensures { λ r. ⌜ nsonRead r ≡ andThen (readNson (now (s .entry))) (λ e. shown (length (pack e))) ⌝ }
+    ensures { λ r. ⌜ nsonRead r ≡ nsonNeeds (now (s .entry)) ⌝ }
 {
     let walked = walk_text(s);
     match walked {

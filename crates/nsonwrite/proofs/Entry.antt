@@ -23,7 +23,7 @@ use Rattle.notepack.specs.Answers.{Walked, walkAt}
 use Rattle.notepack.proofs.Walking.{walk-refuses}
 use Rattle.nson.specs.Nson.{counts, nson}
 use Rattle.nson.specs.Carries.{tagBytes, carries}
-use Rattle.nsonwrite.specs.Carried.{carried}
+use Rattle.nson.specs.Entries.{carried}
 use Rattle.nsonwrite.specs.Copy.{countsFrom, textsFit, lengthWith, measuredFit, wholeFrom}
 use Rattle.nsonwrite.proofs.Places.{ends}
 use Rattle.nsonwrite.proofs.Whole.{Shows}

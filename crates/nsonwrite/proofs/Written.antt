@@ -13,7 +13,7 @@ use Rattle.store.specs.Entry.{written, filled, writes, leaves}
 use Rattle.event.specs.Event.{Event}
 use Rattle.nson.specs.Nson.{nson}
 use Rattle.nson.specs.Carries.{carries}
-use Rattle.nsonwrite.specs.Carried.{carried}
+use Rattle.nson.specs.Entries.{carried}
 
 -- general: belongs to crate store. A text for which there is room; and an answer that is a length
 written-room : (text d : List ℕ) → length text ≤ length d → (written text d ≡ shown (length text)) × (filled text d ≡ text ++ drop (length text) d)

@@ -12,13 +12,11 @@ ghost use lib.ListN.{length};
 ghost use lib.Dec.{leb};
 ghost use Rattle.scan.specs.Choice.{pick};
 ghost use Rattle.store.specs.Store.{Wrote};
-ghost use Rattle.store.specs.Entry.{writes, leaves};
 ghost use Rattle.escape.specs.Escape.{nsonByte, escaped, nsonText};
-ghost use Rattle.notepack.specs.Unpack.{textOf, unpack};
+ghost use Rattle.notepack.specs.Unpack.{textOf};
 ghost use Rattle.tagtext.specs.Copy.{elementsFrom, elementsEnd, tagsFrom};
-ghost use Rattle.nson.specs.Nson.{nson};
 ghost use Rattle.nson.specs.Carries.{allFit, tagsFit};
-ghost use Rattle.nsonwrite.specs.Carried.{carried};
+ghost use Rattle.nson.specs.Entries.{nsonWrites, writerLeaves};
 ghost use Rattle.nsonwrite.specs.Copy.{cutWord, textsFrom, cutWords, tagsOver, tagWords, countsFrom, textsFit, textsLength, lengthWith, measuredFit, headFrom, fieldOf, bodyFrom, wholeFrom};
 ghost use Rattle.nsonwrite.specs.Answers.{nsonWrite};
 
@@ -281,8 +279,8 @@ fn put_whole(out: &mut [u8], at: usize, s: &[u8], h: Head, d: &[u8]) -> usize
 
 // The NSON of a packed event: the reader's refusals, 17 where NSON can't carry it, then 11 with the length needed; else written from the start.
 pub fn write_nson(s: &[u8], out: &mut [u8]) -> NsonWrite
-    ensures { λ r. ⌜ nsonWrite r ≡ writes nson (carried (unpack (now (s .entry)))) (now (out .entry)) ⌝ }
-    ensures { λ _. ⌜ now (out .exit) ≡ leaves nson (carried (unpack (now (s .entry)))) (now (out .entry)) ⌝ }
+    ensures { λ r. ⌜ nsonWrite r ≡ nsonWrites (now (s .entry)) (now (out .entry)) ⌝ }
+    ensures { λ _. ⌜ now (out .exit) ≡ writerLeaves (now (s .entry)) (now (out .entry)) ⌝ }
 {
     let walked = notepack::walk_packed(s);
     match walked {

@@ -1,3 +1,4 @@
 pub mod Loops
 pub mod Keys
 pub mod Order
+pub mod Telling

@@ -31,13 +31,13 @@ pub enum RivalsRead {
 }
 
 // Where a label's text stands, or that there is none.
-pub enum LabelRead {
+enum LabelRead {
     Found(Part),
     Nothing,
 }
 
 // Whether two byte strings are the same.
-pub fn same_bytes(a: &[u8], b: &[u8]) -> bool
+fn same_bytes(a: &[u8], b: &[u8]) -> bool
     ensures { λ r. ⌜ r ≡ sameText (now (a .entry)) (now (b .entry)) ⌝ }
 {
     let mut i = 0;
@@ -57,7 +57,7 @@ pub fn same_bytes(a: &[u8], b: &[u8]) -> bool
 }
 
 // Whether a text is the lowercase hex of the bytes a.
-pub fn is_hex_of(a: &[u8], t: &[u8]) -> bool
+fn is_hex_of(a: &[u8], t: &[u8]) -> bool
     ensures { λ r. ⌜ r ≡ sameText (hexes (now (a .entry))) (now (t .entry)) ⌝ }
 {
     let mut i = 0;
@@ -82,7 +82,7 @@ pub fn is_hex_of(a: &[u8], t: &[u8]) -> bool
 }
 
 // Whether a is lower than b as bytes.
-pub fn is_lower(a: &[u8], b: &[u8]) -> bool
+fn is_lower(a: &[u8], b: &[u8]) -> bool
     ensures { λ r. ⌜ r ≡ lower (now (a .entry)) (now (b .entry)) ⌝ }
 {
     let mut i = 0;
@@ -105,7 +105,7 @@ pub fn is_lower(a: &[u8], b: &[u8]) -> bool
 }
 
 // Whether two parts of two inputs have the same text, whichever way each is stored.
-pub fn same_text(s: &[u8], p: Part, t: &[u8], q: Part) -> bool
+fn same_text(s: &[u8], p: Part, t: &[u8], q: Part) -> bool
     ensures { λ r. ⌜ r ≡ sameText (textOf (now (s .entry)) p) (textOf (now (t .entry)) q) ⌝ }
 {
     let a = scan::part(s, p.at, p.len);

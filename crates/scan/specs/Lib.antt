@@ -1,3 +1,4 @@
 pub mod Choice
 pub mod Place
 pub mod Span
+pub mod Ascii

@@ -18,6 +18,7 @@ use Rattle.store.specs.Store.{Wrote}
 use Rattle.store.specs.Entry.{writes, leaves}
 use Rattle.store.proofs.EntryLaws.{short, fitted}
 use Rattle.varint.specs.Uleb.{uleb}
+use Rattle.event.specs.declared.Refusal.{Refusal}
 use Rattle.event.specs.Event.{Event, sameText}
 use Rattle.event.proofs.Laws.{same-text, text-same}
 use Rattle.notepack.specs.declared.Part.{Part}
@@ -28,9 +29,11 @@ use Rattle.notepack.specs.declared.PartRead.{PartRead}
 use Rattle.notepack.specs.declared.PartRead.the-variants as part
 use Rattle.notepack.specs.declared.NumberRead.{NumberRead}
 use Rattle.notepack.specs.declared.NumberRead.the-variants as number
+use Rattle.notepack.specs.declared.Walk.{Walk}
+use Rattle.notepack.specs.declared.Walk.the-variants as walk-by
 use Rattle.notepack.specs.Strict.{packElement, packElements, packTag, packTags, pack}
 use Rattle.notepack.specs.Unpack.{textOf, elementAt, elementsAt, tagCountAt, tagAt, tagsAt, Packed, packedAt, eventOf, unpack}
-use Rattle.notepack.specs.Answers.{partRead, numberRead, Walked, walkAt}
+use Rattle.notepack.specs.Answers.{partRead, numberRead, Walked, walk, walkAt}
 use Rattle.notepack.proofs.Piece.{piece-decides}
 use Rattle.notepack.proofs.Lengths.{tag-form}
 use Rattle.notepack.proofs.Walking.{Shown, walk-shows, walk-refuses}
@@ -151,10 +154,15 @@ copies-pieces s bytes h t {d} {d′} {r} e w =
 
 -- ---- the entry: its answer and what it leaves
 
-module _ (s : List ℕ) (bytes : IsBytes s) (d : List ℕ) where
-  pub write-refused : (r : Answer Walked) (n q : ℕ) → r ≡ walkAt s → r ≡ refused n q → (refused n q ≡ writes pack (unpack s) d) × (d ≡ leaves pack (unpack s) d)
-  write-refused r n q e k = let u = walk-refuses s n q (sym e ∙ k) in (rw u, rw u)
+-- the reader's refusal is told
+pub refusal-told : (s d : List ℕ) (f : Walk) (k : Refusal) → walk f ≡ walkAt s → f ≡ walk-by.Refused k → refused (k .number) (k .place) ≡ writes pack (unpack s) d
+refusal-told s d f k e g = rw (walk-refuses s (k .number) (k .place) (sym e ∙ ap walk g))
 
+-- and the buffer is left as it was
+pub refusal-leaves : (s d : List ℕ) (f : Walk) (k : Refusal) → walk f ≡ walkAt s → f ≡ walk-by.Refused k → d ≡ leaves pack (unpack s) d
+refusal-leaves s d f k e g = rw (walk-refuses s (k .number) (k .place) (sym e ∙ ap walk g))
+
+module _ (s : List ℕ) (bytes : IsBytes s) (d : List ℕ) where
   pub write-short : (r : Answer Walked) (w : Walked) → r ≡ walkAt s → r ≡ shown w → length d < w .tally .len
       → (refused 11 (w .tally .len) ≡ writes pack (unpack s) d) × (d ≡ leaves pack (unpack s) d)
   write-short r w e k l = go (walk-shows s bytes w (sym e ∙ k))

@@ -66,7 +66,7 @@ pub fn put_text(out: &mut [u8], at: usize, t: &[u8]) -> usize
 }
 
 // The strict element whose text is the hex of these bytes.
-pub fn put_raw(out: &mut [u8], at: usize, b: &[u8]) -> usize
+fn put_raw(out: &mut [u8], at: usize, b: &[u8]) -> usize
     ensures { λ r. ⌜ Wrote (now (out .entry)) at (packElement (hexes (now (b .entry)))) (now (out .exit)) r ⌝ }
 {
     if b.len() == 0 {
@@ -77,7 +77,7 @@ pub fn put_raw(out: &mut [u8], at: usize, b: &[u8]) -> usize
 }
 
 // The strict element that has a part's text.
-pub fn put_element(out: &mut [u8], at: usize, s: &[u8], p: Part) -> usize
+fn put_element(out: &mut [u8], at: usize, s: &[u8], p: Part) -> usize
     ensures { λ r. ⌜ Wrote (now (out .entry)) at (packElement (textOf (now (s .entry)) p)) (now (out .exit)) r ⌝ }
 {
     let bytes = scan::part(s, p.at, p.len);

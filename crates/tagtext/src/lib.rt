@@ -56,7 +56,7 @@ pub fn text_len(all: bool, s: &[u8], p: Part) -> usize
 
 // ---- texts
 
-pub fn put_comma(out: &mut [u8], at: usize, left: u64) -> usize
+fn put_comma(out: &mut [u8], at: usize, left: u64) -> usize
     ensures { λ r. ⌜ Wrote (now (out .entry)) at (comma left) (now (out .exit)) r ⌝ }
 {
     if 0 < left {
@@ -86,14 +86,7 @@ pub fn put_quoted(all: bool, out: &mut [u8], at: usize, s: &[u8], p: Part) -> us
 }
 
 // count elements from a place on.
-pub fn put_elements(
-    all: bool,
-    out: &mut [u8],
-    at: usize,
-    s: &[u8],
-    from: usize,
-    count: u64,
-) -> Copied
+fn put_elements(all: bool, out: &mut [u8], at: usize, s: &[u8], from: usize, count: u64) -> Copied
     ensures { λ r. ⌜ Wrote (now (out .entry)) at (elementsFrom (byteOf all) count (now (s .entry)) from) (now (out .exit)) (r .out) ⌝ }
     ensures { λ r. ⌜ r .next ≡ elementsEnd count (now (s .entry)) from ⌝ }
 {

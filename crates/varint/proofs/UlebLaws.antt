@@ -128,7 +128,8 @@ uleb-unique (more {b = b} {n = n} h u) e =
 pub length-one : (n : ℕ) → 1 ≤ length (uleb n)
 length-one n = digits-one (uleb-digits n)
 
-length-uleb : (k n : ℕ) → n < 128 ^ suc k → length (uleb n) ≤ suc k
+-- a number below 128 ^ (k + 1) takes at most k + 1 bytes
+pub length-uleb : (k n : ℕ) → n < 128 ^ suc k → length (uleb n) ≤ suc k
 length-uleb zero n h = omega (arith, length-last n h)
 length-uleb (suc k) n h =
     dite (decLt n 128) (λ p. omega (arith, length-last n p))

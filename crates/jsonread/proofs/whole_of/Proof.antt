@@ -15,7 +15,7 @@ returns c =
     let a = c .before .before .before .before .before .before .before .before .args in
     let e = sym (ap decimalRead (c .before .before .before .before .found .given .1)) ∙ c .before .before .before .before .before .before .decimal .ensures in (
       ap (field.under field.number) (whole-number (a .max) (a .over) (a .l .now) (a .at) (a .next) e (c .before .if1 .taken)),
-      found (number-weighs _ _ (a .next) (c .before .before .before .before .before .before .before .before .pre .1) (c .varint-len .ensures .0) (c .varint-len .ensures .1)),
+      found (number-weighs _ _ (c .varint-len .ensures .0) (c .varint-len .ensures .1)),
     )
 
 over : tie.Need-returns-2
@@ -40,7 +40,7 @@ none : tie.Need-returns-5
 none c =
     let a = c .before .before .before .before .before .args in
     let e = sym (ap decimalRead (c .before .enum-told .given .1)) ∙ c .before .before .before .decimal .ensures in
-    (rw (c .no-spot4 .ensures) (ap (field.under field.number) (whole-none (a .max) (a .over) (a .l .now) (a .at) (a .next) e (c .before .before .before .before .before .pre .0))), rw (c .no-spot4 .ensures) refused)
+    (rw (c .no-spot4 .ensures) (ap (field.under field.number) (whole-none (a .max) (a .over) (a .l .now) (a .at) (a .next) e (c .before .before .before .before .before .pre))), rw (c .no-spot4 .ensures) refused)
 
 pub whole-of-spec : {M : Type 1} → statement M
 whole-of-spec =

@@ -5,7 +5,7 @@ use native.Mathlib.Omega.{arith}
 use borrow.Author.Needs.{needs}
 use Rattle.scan.proofs.AllLaws.{all-places}
 use Rattle.notepack.specs.Answers.{walk}
-use Rattle.strict.proofs.Laws.{write-refused, write-short, write-fitted}
+use Rattle.strict.proofs.Laws.{refusal-told, refusal-leaves, write-short, write-fitted}
 use Rattle.strict.proofs.write_strict.Statement.{statement}
 use Rattle.strict.proofs.write_strict.Tie as tie
 
@@ -24,12 +24,7 @@ walked c κs =
     sym (told .before .before .walk-packed .ensures) ∙ ap walk (told .walked2 .given .1)
 
 refused : tie.Need-returns-2
-refused c =
-    let called = c .before .before .before in
-    let known = called .before .before in
-    let a = known .before .args in
-    let bytes = all-places (a .s .now) (λ i. omega (arith, known .shared-slice-known .given i)) in
-    write-refused (a .s .now) bytes (a .out .now) _ _ _ (called .walk-packed .ensures) (ap walk (c .before .walked .given .1))
+refused c = search (refusal-told, refusal-leaves)
 
 fitted : tie.Need-returns-3
 fitted c =

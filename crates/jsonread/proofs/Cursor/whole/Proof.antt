@@ -16,10 +16,8 @@ whole-spec =
     (λ c. let a = c .before .before .before .before .before .args in omega (arith, number-place (a .s .now) (a .self .at) (a .max) (a .over) _ (c .before .before .before .number .ensures) (c .before .found .given .1)))
     (λ c κs. search needs)
     (λ c κs.
-    let a = c .before .before .before .before .before .before .args in (
-      number-some (a .s .now) (a .self .at) (a .max) (a .over) _ (c .before .before .before .before .number .ensures) (c .before .before .found .given .1) (c .part .ensures),
-      omega (arith, number-place (a .s .now) (a .self .at) (a .max) (a .over) _ (c .before .before .before .before .number .ensures) (c .before .before .found .given .1)),
-    ))
+    let a = c .before .before .before .before .before .before .args in
+    number-some (a .s .now) (a .self .at) (a .max) (a .over) _ (c .before .before .before .before .number .ensures) (c .before .before .found .given .1) (c .part .ensures))
     (λ c. search needs)
     (λ c.
     let a = c .before .before .before .before .before .before .before .args in (

@@ -14,11 +14,11 @@ use Rattle.notepack.proofs.Cursor.pass_tags.Statement.{statement}
 use Rattle.notepack.proofs.Cursor.pass_tags.Tie as tie
 
 abbrev Inv-loop : tie.InvT-loop
-Inv-loop s count c₀ sum₀ left₀ c sum left =
-    (andThen (tagsAt left₀ s (c₀ .at)) (passTags s sum₀) ≡ andThen (tagsAt left s (c .at)) (passTags s sum)) × (sum .len ≤ c .at)
+Inv-loop s count c₀ sum₀ tags₀ c sum tags =
+    (andThen (tagsAt tags₀ s (c₀ .at)) (passTags s sum₀) ≡ andThen (tagsAt tags s (c .at)) (passTags s sum)) × (sum .len ≤ c .at)
 
 abbrev μ-loop : tie.MeasureT-loop
-μ-loop s count c₀ sum₀ left₀ c sum left = left
+μ-loop s count c₀ sum₀ tags₀ c sum tags = tags
 
 again : tie.Need-loop-again Inv-loop μ-loop
 again c =
@@ -30,7 +30,7 @@ again c =
     let e = called .pass-tag .ensures in
     let f = c .before .found .given .1 in
     let bytes = all-places s (λ i. omega (arith, known .shared-slice-known .given i)) in (
-      tags-again s _ (q .left) (q .c .at) (q .sum) _ _ _ (q .inv .0) (turn .loop-test .taken) e f,
+      tags-again s _ (q .tags) (q .c .at) (q .sum) _ _ _ (q .inv .0) (turn .loop-test .taken) e f,
       tag-room s bytes (q .c .at) (q .sum) _ _ _ e f (q .inv .1),
     )
 
@@ -40,10 +40,10 @@ returns c =
     let turn = called .before in
     let q = turn .before .loop in
     let start = turn .before .before .before in
-    tags-refused (start .args .s .now) _ (q .left) (q .c .at) (q .sum) (called .pass-tag .result) _ _ (q .inv .0) (turn .loop-test .taken) (called .pass-tag .ensures) (ap pass (c .before .found2 .given .1))
+    tags-refused (start .args .s .now) _ (q .tags) (q .c .at) (q .sum) (called .pass-tag .result) _ _ (q .inv .0) (turn .loop-test .taken) (called .pass-tag .ensures) (ap pass (c .before .found2 .given .1))
 
 returns-2 : tie.Need-returns-2 Inv-loop μ-loop
-returns-2 c = let q = c .before .loop in tags-done (c .before .before .before .args .s .now) _ (q .left) (q .c .at) (q .sum) (q .inv .0) (c .loop-test .left)
+returns-2 c = let q = c .before .loop in tags-done (c .before .before .before .args .s .now) _ (q .tags) (q .c .at) (q .sum) (q .inv .0) (c .loop-test .left)
 
 pub pass-tags-spec : {M : Type 1} → statement M
 pass-tags-spec =

@@ -1,0 +1,66 @@
+-- Demand 2, whole.
+-- Each sentence by the laws of the crate that it is about.
+use mathlib.Core.Path.{_≡_}
+use Prim.Native.Nat.{ℕ}
+use mathlib.Core.List.{List, [], _∷_, _++_, append-assoc}
+use mathlib.Core.Bool.{true}
+use Rattle.hex.specs.Hex.{hexes}
+use Rattle.decimal.specs.Decimal.{decimal}
+use Rattle.escape.specs.Escape.{canonicalByte, escaped}
+use Rattle.tagtext.specs.TagText.{quoted, array, tagsText}
+use Rattle.tagtext.proofs.Texts.{hexes-stand}
+use Rattle.canonical.specs.Canonical.{canonical}
+use Rattle.notepack.specs.Strict.{pack}
+use Rattle.notepack.proofs.Sound.{sound}
+use Rattle.notepack.proofs.Complete.{complete, one-event}
+use Rattle.notepack.proofs.StrictLaws.{reads-again, equal-exactly}
+use Rattle.notepack.proofs.Seen.{seen}
+use Rattle.strict.proofs.Laws.{strict-exactly}
+use Rattle.json.proofs.Whole as whole
+use Rattle.json.proofs.OneEvent.{one-value, event-one}
+use Rattle.agreement.specs.Demand2.{ReadsLayout, WritesStrict, CanonicalText, WritesCanonical, ReadsJson, Demand2}
+use Rattle.agreement.proofs.Entries.{fits}
+
+reads-layout : ReadsLayout
+reads-layout s bytes e =
+    ((λ r. let h = sound s bytes e r in (h .lays, h .valid, h .short)), (λ h. complete s e (h .0) (h .1) (h .2)))
+
+writes-strict : WritesStrict
+writes-strict s d e r h = fits pack d r h
+
+-- six items between brackets, with all brackets to the right
+items-right : (key time kind tags content : List ℕ)
+    → array ((0x30 ∷ []) ∷ (0x22 ∷ (key ++ (0x22 ∷ []))) ∷ time ∷ kind ∷ tags ∷ (0x22 ∷ (content ++ (0x22 ∷ []))) ∷ [])
+    ≡ (0x5B ∷ 0x30 ∷ 0x2C ∷ 0x22 ∷ []) ++ key ++ (0x22 ∷ 0x2C ∷ []) ++ time ++ (0x2C ∷ []) ++ kind ++ (0x2C ∷ []) ++ tags ++ (0x2C ∷ 0x22 ∷ []) ++ content ++ (0x22 ∷ 0x5D ∷ [])
+items-right key time kind tags content = simp append-assoc
+
+canonical-text : CanonicalText
+unfolding canonical quoted
+canonical-text e v =
+    let h : escaped canonicalByte (hexes (e .pubkey)) ≡ hexes (e .pubkey) = hexes-stand true (v .pubkey32 .each) in
+    rw h (items-right (hexes (e .pubkey)) (decimal (e .createdAt)) (decimal (e .kind)) (tagsText canonicalByte (e .tags)) (escaped canonicalByte (e .content)))
+
+writes-canonical : WritesCanonical
+writes-canonical s d e r h = fits canonical d r h
+
+reads-json : ReadsJson
+reads-json s e =
+    ((λ r. let h = whole.sound r in (h .value, h .text, h .event, h .short)), (λ h. whole.complete (h .1) (h .2) (h .3)))
+
+-- THE demand
+pub demand-2 : Demand2
+demand-2 =
+    record {
+      reads-layout = reads-layout;
+      one-laid-out = λ s d e g h v w. one-event g h v w;
+      views-event = seen;
+      writes-strict = writes-strict;
+      one-strict = equal-exactly;
+      reads-again = λ s bytes e r. reads-again s e r bytes;
+      strict-question = strict-exactly;
+      canonical-text = canonical-text;
+      writes-canonical = writes-canonical;
+      reads-json = reads-json;
+      one-tree = λ s v w g h. one-value g h;
+      one-meaning = λ v d e g h. event-one g h;
+    }

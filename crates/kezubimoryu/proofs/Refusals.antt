@@ -1,0 +1,148 @@
+-- Every entry's refusals are its own, with a number that is not 0 and a place in the input.
+-- From what each reading tells; an entry that writes adds 11 alone.
+use Prim.{Unit, tt}
+use Prim.Native.Nat.{ℕ}
+use mathlib.Core.Path.{_≡_, refl}
+use mathlib.Core.Bool.{Bool, true, false}
+use mathlib.Core.List.{List}
+use native.Mathlib.Omega.{arith}
+use lib.ListN.{length}
+use lib.Dec.{leb}
+use borrow.Author.Tests.{leb-false}
+use Rattle.scan.specs.Choice.{pick, Answer, shown, refused, andThen}
+use Rattle.store.specs.Entry.{written, filled, writes, leaves}
+use Rattle.event.specs.Event.{Event}
+use Rattle.event.specs.Tells.{among, Tells, value, refusal}
+use Rattle.event.proofs.TellsLaws.{then-tells, pick-tells, wider}
+use Rattle.notepack.specs.Unpack.{packedNumbers, unpack}
+use Rattle.notepack.specs.Strict.{pack}
+use Rattle.notepack.proofs.Telling.{unpack-tells, numbers-tells, texts-tells, element-of-tells}
+use Rattle.strict.proofs.Telling.{strict-tells}
+use Rattle.canonical.specs.Canonical.{canonical}
+use Rattle.nson.specs.Nson.{nson}
+use Rattle.nson.specs.Carries.{carries}
+use Rattle.nson.specs.Entries.{carried}
+use Rattle.nson.proofs.Telling.{nson-tells}
+use Rattle.json.specs.Object.{jsonNumbers, readJson}
+use Rattle.json.proofs.Telling.{json-tells}
+use Rattle.both.specs.Both.{Compared, compared, bothOf, firstOf, secondOf, both, bothFirst, bothSecond}
+use Rattle.nson.specs.Read.{readNson}
+use Rattle.rivals.proofs.Telling.{rivals-tells}
+use Rattle.kezubimoryu.specs.Refusals.{Asks, Fills, too-short, FillsBoth, first-short, second-short, writerNumbers, Refusals}
+
+-- a question of which only the answer's being there is told, or a number of it
+told : {A : Type 0} {P : A → Type 0} {numbers : List ℕ} (s : List ℕ) {r : Answer A} (f : A → ℕ) → Tells numbers (length s) P r
+    → Asks numbers s (andThen r (λ (a : A). shown (f a)))
+told s f (value p) = value tt
+told s f (refusal o h) = refusal o h
+
+asked : {P : ℕ → Type 0} {numbers : List ℕ} (s : List ℕ) {r : Answer ℕ} → Tells numbers (length s) P r → Asks numbers s r
+asked s (value p) = value tt
+asked s (refusal o h) = refusal o h
+
+-- an entry that writes the text of what was read
+fills : {A : Type 0} {P : A → Type 0} {numbers : List ℕ} (s : List ℕ) (text : A → List ℕ) (r : Answer A) (d : List ℕ) → Tells numbers (length s) P r
+    → Fills numbers s d (writes text r d)
+unfolding written
+fills {numbers = numbers} s text (shown a) d (value p) = go (leb (length (text a)) (length d)) refl
+  where
+    go : (t : Bool) → leb (length (text a)) (length d) ≡ t → Fills numbers s d (pick t (shown (length (text a))) (refused 11 (length (text a))))
+    go true e = Fills.written
+    go false e = too-short (leb-false (length (text a)) (length d) e)
+fills s text (refused n q) d (refusal o h) = Fills.refusal o h
+
+-- what NSON can't carry is 17 at 0
+carried-tells : (s : List ℕ) → Tells writerNumbers (length s) (λ (e : Event). Unit {0}) (carried (unpack s))
+carried-tells s =
+    then-tells _ (wider {a = packedNumbers} refl (omega arith) (unpack-tells s)) (λ e p. pick-tells (carries e) (λ t. value tt) (λ f. refusal refl (omega arith)))
+
+-- both readers: the plain JSON reader's refusals, or 11
+both-fills : (s d₁ d₂ : List ℕ) → FillsBoth jsonNumbers s d₁ d₂ (andThen (both s d₁ d₂) (λ (c : Compared). shown (c .which)))
+both-fills s d₁ d₂ = by (readNson s) (readJson s) (json-tells s)
+  where
+    one : (n : ℕ) (t : Bool) → leb n (length d₂) ≡ t → (c : Compared)
+        → FillsBoth jsonNumbers s d₁ d₂ (andThen (pick t (shown c) (refused 11 n)) (λ (x : Compared). shown (x .which)))
+    one n true e c = FillsBoth.written
+    one n false e c = second-short (leb-false n (length d₂) e)
+
+    two : (n m : ℕ) (t u : Bool) → leb n (length d₂) ≡ t → leb m (length d₁) ≡ u → (c : Compared)
+        → FillsBoth jsonNumbers s d₁ d₂ (andThen (pick t (pick u (shown c) (refused 11 m)) (refused 11 n)) (λ (x : Compared). shown (x .which)))
+    two n m true true e f c = FillsBoth.written
+    two n m true false e f c = first-short (leb-false m (length d₁) f)
+    two n m false u e f c = second-short (leb-false n (length d₂) e)
+
+    by : (a b : Answer Event) → Tells jsonNumbers (length s) (λ (e : Event). Unit {0}) b
+        → FillsBoth jsonNumbers s d₁ d₂ (andThen (bothOf a b d₁ d₂) (λ (c : Compared). shown (c .which)))
+    by (shown a) (shown e) h =
+        two (length (pack e)) (length (pack a)) (leb (length (pack e)) (length d₂)) (leb (length (pack a)) (length d₁)) refl refl (compared a e)
+    by (refused m q) (shown e) h = one (length (pack e)) (leb (length (pack e)) (length d₂)) refl (record { which = 1; len = length (pack e) })
+    by (shown a) (refused n p) (refusal o h) = FillsBoth.refusal o h
+    by (refused m q) (refused n p) (refusal o h) = FillsBoth.refusal o h
+
+-- ---- what is lent keeps its bytes
+
+no-value : {A R : Type 0} {a : A} {n p : ℕ} → shown a ≡ refused n p → R
+no-value e = let z : _≡_ {A = ℕ} 0 1 = cc in absurd (omega arith)
+
+-- a text that does not fit leaves the buffer
+kept : (text d : List ℕ) → leb (length text) (length d) ≡ false → filled text d ≡ d
+unfolding filled
+kept text d h = rw h refl
+
+write-keeps : (text : Event → List ℕ) (a : Answer Event) (d : List ℕ) (n p : ℕ) → writes text a d ≡ refused n p → leaves text a d ≡ d
+unfolding written
+write-keeps text (shown x) d n p = go (leb (length (text x)) (length d)) refl
+  where
+    go : (t : Bool) → leb (length (text x)) (length d) ≡ t → pick t (shown (length (text x))) (refused 11 (length (text x))) ≡ refused n p → filled (text x) d ≡ d
+    go true e h = no-value h
+    go false e h = kept (text x) d e
+write-keeps text (refused k q) d n p = λ h. refl
+
+either-way : (t : Bool) {x d : List ℕ} → x ≡ d → pick t x d ≡ d
+either-way true e = e
+either-way false e = refl
+
+both-keeps : (s d₁ d₂ : List ℕ) (n p : ℕ) → both s d₁ d₂ ≡ refused n p → (bothFirst s d₁ d₂ ≡ d₁) × (bothSecond s d₁ d₂ ≡ d₂)
+both-keeps s d₁ d₂ n p = by (readNson s) (readJson s)
+  where
+    two : (a e : Event) (t u : Bool) → leb (length (pack e)) (length d₂) ≡ t → leb (length (pack a)) (length d₁) ≡ u
+        → pick t (pick u (shown (compared a e)) (refused 11 (length (pack a)))) (refused 11 (length (pack e))) ≡ refused n p
+        → (pick t (filled (pack a) d₁) d₁ ≡ d₁) × (pick u (filled (pack e) d₂) d₂ ≡ d₂)
+    two a e true true f g h = no-value h
+    two a e true false f g h = (kept (pack a) d₁ g, refl)
+    two a e false u f g h = (refl, either-way u (kept (pack e) d₂ f))
+
+    one : (e : Event) (t : Bool) → leb (length (pack e)) (length d₂) ≡ t
+        → pick {A = Answer Compared} t (shown (record { which = 1; len = length (pack e) })) (refused 11 (length (pack e))) ≡ refused n p
+        → filled (pack e) d₂ ≡ d₂
+    one e true f h = no-value h
+    one e false f h = kept (pack e) d₂ f
+
+    by : (a b : Answer Event) → bothOf a b d₁ d₂ ≡ refused n p → (firstOf a b d₁ d₂ ≡ d₁) × (secondOf a b d₁ d₂ ≡ d₂)
+    by (shown a) (shown e) h = two a e (leb (length (pack e)) (length d₂)) (leb (length (pack a)) (length d₁)) refl refl h
+    by (refused m q) (shown e) h = (refl, one e (leb (length (pack e)) (length d₂)) refl h)
+    by (shown a) (refused k q) h = (refl, refl)
+    by (refused m q) (refused k r) h = (refl, refl)
+
+-- THE refusals of the C entries
+pub entries-refuse : Refusals
+entries-refuse =
+    record {
+      notepack-read = λ s. told s (λ h. 0) (numbers-tells s);
+      notepack-is-strict = λ s. told s (λ b. pick b 1 0) (strict-tells s);
+      notepack-write = λ s d. fills s pack (unpack s) d (unpack-tells s);
+      notepack-tag-len = λ i s. asked s (texts-tells s i);
+      notepack-element = λ i j s. told s (λ p. 0) (element-of-tells s i j);
+      canonical-write = λ s d. fills s canonical (unpack s) d (unpack-tells s);
+      nson-write = λ s d. fills s nson (carried (unpack s)) d (carried-tells s);
+      nson-read = λ s d. fills s pack (readNson s) d (nson-tells s);
+      json-read = λ s d. fills s pack (readJson s) d (json-tells s);
+      read-both = both-fills;
+      which-is-kept = rivals-tells;
+      write-keeps = write-keeps;
+      both-keeps = both-keeps;
+      packed-not-0 = refl;
+      view-not-0 = refl;
+      nson-not-0 = refl;
+      json-not-0 = refl;
+    }

@@ -1,0 +1,20 @@
+-- Whose refusal a choice between two inputs tells, and where it stands. `proofs/Telling` shows it. Assumes nothing.
+use Prim.Native.Nat.{ℕ, _≤_}
+use mathlib.Core.Path.{_≡_}
+use mathlib.Core.Bool.{true}
+use mathlib.Core.List.{List}
+use lib.ListN.{length}
+use Rattle.scan.specs.Choice.{Answer, shown, refused}
+use Rattle.event.specs.Event.{Event}
+use Rattle.event.specs.Tells.{among}
+use Rattle.notepack.specs.Unpack.{packedNumbers, unpack}
+use Rattle.rivals.specs.declared.Kept.{Kept}
+
+pub data RivalsTell (s t : List ℕ) : Answer Kept → Type 0 where
+  -- which is kept
+  told : {k : Kept} → RivalsTell s t (shown k)
+  -- the first input is refused: its refusal, at a place in the first or at its end
+  of-first : {n p : ℕ} → unpack s ≡ refused n p → among packedNumbers n ≡ true → p ≤ length s → RivalsTell s t (refused n p)
+  -- the first shows an event and the second is refused: the second's refusal, at a place in the second or at its end
+  of-second : {d : Event} {n p : ℕ} → unpack s ≡ shown d → unpack t ≡ refused n p → among packedNumbers n ≡ true → p ≤ length t
+      → RivalsTell s t (refused n p)

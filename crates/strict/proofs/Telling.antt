@@ -1,0 +1,15 @@
+-- The strict question refuses as the reader does: one of the numbers 1 to 10, at a place in the input or at its end.
+use Prim.{Unit, tt}
+use Prim.Native.Nat.{ℕ}
+use mathlib.Core.Bool.{Bool}
+use mathlib.Core.List.{List}
+use lib.ListN.{length}
+use Rattle.event.specs.Tells.{Tells, value}
+use Rattle.event.proofs.TellsLaws.{then-tells}
+use Rattle.notepack.specs.Unpack.{packedNumbers}
+use Rattle.notepack.proofs.Telling.{unpack-tells}
+use Rattle.strict.specs.Strict.{strict}
+
+pub strict-tells : (s : List ℕ) → Tells packedNumbers (length s) (λ (b : Bool). Unit {0}) (strict s)
+unfolding strict
+strict-tells s = then-tells _ (unpack-tells s) (λ e _. value tt)

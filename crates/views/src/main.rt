@@ -1,0 +1,50 @@
+// Two packed records of one length on standard input: what is seen of the first, and which is kept.
+use libc::STDIN_FILENO;
+use libc::STDOUT_FILENO;
+
+fn say(text: &[u8]) {
+    io::write_all(STDOUT_FILENO, text);
+}
+
+// Bytes as hex, as many as have room.
+fn say_hex(bytes: &[u8]) {
+    let mut text = [0u8; 128];
+    let k = hex::put_hex(&mut text, 0, bytes);
+    say(scan::part(&text, 0, k));
+}
+
+// The content of a record.
+fn content(label: &[u8], s: &[u8]) {
+    say(label);
+    say(notepack::content(s));
+    say(b"\n");
+}
+
+// The payload of element j of tag i, as hex.
+fn element(label: &[u8], s: &[u8], i: u64, j: u64) {
+    say(label);
+    say_hex(notepack::element(s, i, j));
+    say(b"\n");
+}
+
+// The content of that one of two records which is kept.
+fn kept<'a>(label: &[u8], s: &'a [u8], t: &'a [u8]) {
+    content(label, rivals::choose(s, t));
+}
+
+fn main() {
+    let mut input = [0u8; 65537];
+    let n = io::read_full(STDIN_FILENO, &mut input);
+    let half = n / 2;
+    let first = scan::part(&input, 0, half);
+    let second = scan::part(&input, half, half);
+    content(b"content: ", first);
+    element(b"tag 0, element 0: ", first, 0, 0);
+    element(b"tag 0, element 1: ", first, 0, 1);
+    element(b"no element 2: ", first, 0, 2);
+    element(b"no tag 1: ", first, 1, 0);
+    kept(b"first and second: ", first, second);
+    kept(b"second and first: ", second, first);
+    kept(b"first and itself: ", first, first);
+    kept(b"cut short and second: ", scan::part(first, 0, 127), second);
+}

@@ -1,0 +1,302 @@
+/* Records made to be slow, each to every entry that takes its kind: the best of several calls, in microseconds. The last
+ * line names the slowest. Ordinary records are measured by bench.c. Built with all kinds of host/kinds. */
+#define _GNU_SOURCE
+#include "kezubimoryu.h"
+
+#include <stdio.h>
+#include <stdlib.h>
+#include <string.h>
+#include <time.h>
+
+enum { MOST = KEZ_MOST, CALLS = 15 };
+
+typedef struct {
+    uint8_t at[2 * MOST];
+    size_t len;
+} bytes;
+
+static bytes record;
+
+static void put(const void *part, size_t len)
+{
+    memcpy(record.at + record.len, part, len);
+    record.len += len;
+}
+
+static void put_text(const char *text)
+{
+    put(text, strlen(text));
+}
+
+static void fill(uint8_t byte, size_t count)
+{
+    memset(record.at + record.len, byte, count);
+    record.len += count;
+}
+
+/* The unit, again and again, as long as the record stays below this length. */
+static size_t repeat(const char *unit, size_t below)
+{
+    size_t count = 0, len = strlen(unit);
+    for (; record.len + len < below; count++)
+        put(unit, len);
+    return count;
+}
+
+static void put_varint(uint64_t n)
+{
+    for (; n >= 0x80; n >>= 7)
+        fill((uint8_t)(n | 0x80), 1);
+    fill((uint8_t)n, 1);
+}
+
+/* Times */
+
+static uint8_t out[KEZ_CANONICAL_MOST], beside[MOST];
+static uint64_t numbers[5];
+static uint64_t tag, element; /* what kez_notepack_element is asked for */
+
+static double slowest;
+static char slowest_said[200];
+
+static double now(void)
+{
+    struct timespec t;
+    clock_gettime(CLOCK_MONOTONIC, &t);
+    return 1e6 * (double)t.tv_sec + 1e-3 * (double)t.tv_nsec;
+}
+
+typedef kez_answer call(void);
+
+static void measure(const char *entry, call *of, const char *what)
+{
+    double best = 0;
+    kez_answer a = {0, 0};
+    for (int i = 0; i < CALLS; i++) {
+        double start = now();
+        a = of();
+        double took = now() - start;
+        if (i == 0 || took < best)
+            best = took;
+    }
+    char said[160];
+    snprintf(said, sizeof said, "%-22s %-44s %6zu bytes %8.1f", entry, what, record.len, best);
+    if (a.refusal)
+        printf("%s  refused %d at %d\n", said, (int)a.refusal, (int)a.value);
+    else
+        printf("%s\n", said);
+    if (best > slowest) {
+        slowest = best;
+        snprintf(slowest_said, sizeof slowest_said, "%s on %s, %zu bytes: %.2f ms", entry, what, record.len, best / 1000);
+    }
+}
+
+/* Texts */
+
+static kez_answer json_read(void) { return kez_json_read(record.at, record.len, out, MOST); }
+static kez_answer nson_read(void) { return kez_nson_read(record.at, record.len, out, MOST); }
+static kez_answer read_both(void)
+{
+    return kez_read_both(record.at, record.len, beside, MOST, out, MOST, numbers);
+}
+
+static void text_is_slow(const char *what)
+{
+    measure("kez_json_read", json_read, what);
+    measure("kez_read_both", read_both, what);
+    if (!nson_read().refusal)
+        measure("kez_nson_read", nson_read, what);
+}
+
+/* Six of the seven fields; what is left is the tags, with a content, or the content, with the tags. */
+static void start_json(const char *rest)
+{
+    record.len = 0;
+    put_text("{\"id\":\"");
+    fill('0', 64);
+    put_text("\",\"pubkey\":\"");
+    fill('0', 64);
+    put_text("\",\"sig\":\"");
+    fill('0', 128);
+    put_text("\",\"created_at\":1700000000,\"kind\":1,");
+    put_text(rest);
+}
+
+static void json_content(const char *what, const char *unit, const char *end, size_t below)
+{
+    start_json("\"tags\":[],\"content\":\"");
+    repeat(unit, below - 40);
+    put_text(end);
+    put_text("\"}");
+    text_is_slow(what);
+}
+
+/* As many tags of so many elements as there is room for. */
+static void json_tags(const char *what, const char *unit, int elements, size_t below)
+{
+    start_json("\"content\":\"\",\"tags\":[");
+    size_t each = (size_t)elements * (strlen(unit) + 1) + 2;
+    for (int tags = 0; tags < 1000 && record.len + each + 4 < below; tags++) {
+        put_text(tags ? ",[" : "[");
+        for (int i = 0; i < elements; i++) {
+            put_text(i ? "," : "");
+            put_text(unit);
+        }
+        put_text("]");
+    }
+    put_text("]}");
+    text_is_slow(what);
+}
+
+static void json_ignored(const char *what, const char *unit, const char *end)
+{
+    start_json("\"content\":\"\",\"tags\":[]");
+    repeat(unit, MOST - 40);
+    put_text(end);
+    text_is_slow(what);
+}
+
+static void texts(void)
+{
+    json_content("content of \\u00e9", "\\u00e9", "", MOST);
+    json_content("content of surrogate pairs", "\\ud83d\\udc42", "", MOST);
+    json_content("content of \\\\", "\\\\", "", MOST);
+    json_content("content of \\t", "\\t", "", MOST);
+    json_content("content of \\n", "\\n", "", MOST);
+    json_content("content of a\\/", "a\\/", "", MOST);
+    json_content("content of two bytes a character", "\xc3\xa9", "", MOST);
+    json_content("content of \\t, then no UTF-8", "\\t", "\xff", MOST);
+    json_content("content of \\u00e9, then a lone surrogate", "\\u00e9", "\\ud83d", MOST);
+    json_content("content of two bytes a character, then none", "\xc3\xa9", "\xff", MOST);
+    json_tags("tags of one empty text", "\"\"", 1, MOST);
+    json_tags("tags of 255 empty texts", "\"\"", 255, MOST);
+    json_tags("tags of 255 texts of a letter", "\"z\"", 255, MOST);
+    json_tags("tags of 255 texts of two digits", "\"ab\"", 255, MOST);
+    json_tags("tags of 255 texts of one escape", "\"\\t\"", 255, MOST);
+    json_tags("tags of 255 texts of one \\u", "\"\\u0061\"", 255, MOST);
+    json_tags("tags of 255 texts, digits by \\u", "\"\\u0061\\u0062\"", 255, MOST);
+    json_tags("tags of 255 texts of two bytes", "\"\xc3\xa9\"", 255, MOST);
+    json_tags("tags of hex of 64 digits", "\"0123456789abcdef0123456789abcdef0123456789abcdef0123456789abcdef\"", 1, MOST);
+    json_tags("tags of 64 digits, the last no digit",
+              "\"0123456789abcdef0123456789abcdef0123456789abcdef0123456789abcdeg\"", 1, MOST);
+    json_tags("tags of long texts, digits by \\u at the end",
+              "\"0123456789abcdef0123456789abcdef0123456789abcdef0123456789abcde\\u0066\"", 1, MOST);
+    json_ignored("ignored numbers", ",\"a\":0", "}");
+    json_ignored("ignored names by \\u", ",\"\\u0061\":0", "}");
+    json_ignored("ignored names near created_at", ",\"created_aT\":0", "}");
+    json_ignored("ignored arrays, 16 deep", ",\"a\":[[[[[[[[[[[[[[[[]]]]]]]]]]]]]]]]", "}");
+    json_ignored("ignored objects, 16 deep",
+                 ",\"a\":{\"\":{\"\":{\"\":{\"\":{\"\":{\"\":{\"\":{\"\":{\"\":{\"\":{\"\":{\"\":{\"\":{\"\":{\"\":{"
+                 "}}}}}}}}}}}}}}}}", "}");
+    json_ignored("ignored fractions", ",\"a\":-0.5e+7", "}");
+    json_ignored("white space", " ", "}");
+    /* the longest digits that are no kind */
+    record.len = 0;
+    put_text("{\"kind\":");
+    fill('9', MOST - 9);
+    put_text("}");
+    text_is_slow("a kind of 65,527 digits");
+}
+
+/* Packed bytes */
+
+static kez_answer pack_read(void)
+{
+    return kez_notepack_read(record.at, record.len, numbers, numbers + 1, numbers + 2, numbers + 3, numbers + 4);
+}
+static kez_answer is_strict(void) { return kez_notepack_is_strict(record.at, record.len); }
+static kez_answer pack(void) { return kez_notepack_write(record.at, record.len, out, MOST); }
+static kez_answer canonical(void) { return kez_canonical_write(record.at, record.len, out, sizeof out); }
+static kez_answer nson_write(void) { return kez_nson_write(record.at, record.len, out, MOST); }
+static kez_answer tag_len(void) { return kez_notepack_tag_len(record.at, record.len, tag); }
+static kez_answer show_element(void)
+{
+    return kez_notepack_element(record.at, record.len, tag, element, numbers, numbers + 1, numbers + 2);
+}
+static kez_answer rivals(void) { return kez_rivals(record.at, record.len, record.at, record.len); }
+
+/* The packed event, and its NSON where there is one. */
+static void packed_is_slow(const char *what)
+{
+    measure("kez_notepack_read", pack_read, what);
+    measure("kez_notepack_is_strict", is_strict, what);
+    measure("kez_notepack_write", pack, what);
+    measure("kez_canonical_write", canonical, what);
+    measure("kez_nson_write", nson_write, what);
+    measure("kez_notepack_tag_len", tag_len, what);
+    measure("kez_notepack_element", show_element, what);
+    measure("kez_rivals", rivals, what);
+    kez_answer a = nson_write();
+    if (a.refusal)
+        return;
+    memcpy(record.at, out, a.value);
+    record.len = a.value;
+    text_is_slow(what);
+}
+
+/* An event of kind 30000 with this content. */
+static void start_packed(const char *unit, size_t len)
+{
+    record.len = 0;
+    fill(0, 128);
+    put_varint(1700000000);
+    put_varint(30000);
+    size_t unit_len = strlen(unit), count = unit_len ? len / unit_len : 0;
+    put_varint(count * unit_len);
+    for (size_t i = 0; i < count; i++)
+        put_text(unit);
+}
+
+static void packed_content(const char *what, const char *unit, size_t len)
+{
+    start_packed(unit, len);
+    put_varint(0);
+    tag = element = 0;
+    packed_is_slow(what);
+}
+
+/* Elements are spelled as they are lent here, with their word in front. */
+static void packed_tags(const char *what, const char *unit, size_t unit_len, uint64_t elements)
+{
+    start_packed("", 0);
+    size_t each = (elements > 127 ? 2 : 1) + elements * unit_len, room = MOST - record.len - 2;
+    uint64_t tags = room / each < 1000 ? room / each : 1000;
+    put_varint(tags);
+    for (uint64_t i = 0; i < tags; i++) {
+        put_varint(elements);
+        for (uint64_t j = 0; j < elements; j++)
+            put(unit, unit_len);
+    }
+    tag = tags - 1;
+    element = elements - 1;
+    packed_is_slow(what);
+}
+
+#define UNIT(text) text, sizeof(text) - 1
+
+static void packed(void)
+{
+    packed_content("content of two bytes a character", "\xc3\xa9", MOST - 200);
+    packed_content("content of a letter and two bytes", "a\xc3\xa9", MOST - 200);
+    packed_content("content of quotes", "\"", MOST - 200);
+    packed_content("content of quotes, as long as NSON takes", "\"", MOST / 2 - 400);
+    packed_content("content of \\, as long as NSON takes", "\\", MOST / 2 - 400);
+    packed_content("content of two bytes, as long as NSON takes", "\xc3\xa9", MOST - 700);
+    packed_tags("tags of one empty text", UNIT("\x00"), 1);
+    packed_tags("tags of 255 empty texts", UNIT("\x00"), 255);
+    packed_tags("tags of 255 texts of a letter", UNIT("\x02z"), 255);
+    packed_tags("tags of 255 texts of raw bytes", UNIT("\x03\xab"), 255);
+    packed_tags("tags of 255 texts of digits, not raw", UNIT("\x04""ab"), 255);
+    packed_tags("tags of 255 texts of two bytes", UNIT("\x04\xc3\xa9"), 255);
+    packed_tags("tags of 255 texts with long varints", UNIT("\x82\x80\x80\x80\x80\x80\x80\x80\x80\x00z"), 255);
+    packed_tags("tags of d and an empty text", UNIT("\x02""d"), 2);
+}
+
+int main(void)
+{
+    printf("%-22s %-44s %12s %8s\n", "entry", "record", "", "us");
+    texts();
+    packed();
+    printf("slowest: %s\n", slowest_said);
+    return 0;
+}
