@@ -9,7 +9,8 @@ use Rattle.scan.specs.Choice.{shown}
 use Rattle.scan.specs.Place.{within}
 use Rattle.hex.specs.Hex.{hexes}
 use Rattle.hex.proofs.Texts.{length-hexes}
-use Rattle.event.specs.Event.{Text, Tag, Event, Valid, sameText}
+use Rattle.scan.specs.Compare.{sameBytes}
+use Rattle.event.specs.Event.{Text, Tag, Event, Valid}
 use Rattle.jsontext.specs.Grammar as json
 use Rattle.json.specs.Meaning.{kindName, contentName, tagsName, Values, IsHex, is-hex, Each, IsArray, is-array, once}
 use Rattle.json.proofs.Tracks.{chars-one}
@@ -46,7 +47,7 @@ unfolding field
 field-long c = omega (arith, length-hexes (descriptors c))
 
 true-counts : (e : Event) → TrueCounts (members e) (2 * length (descriptors (counts e))) (counts e)
-unfolding counts bytesIn sameText within
+unfolding counts bytesIn sameBytes within
 true-counts e =
     record {
       behind = once (plain-values nsonName (members e) refl) (subst (StringOf (json.string (field (counts e)))) (field-long (counts e)) string-of);
@@ -58,7 +59,7 @@ true-counts e =
 -- ---- what the field holds
 
 field-values : (e : Event) → Values nsonName (members e) (json.string (field (counts e)) ∷ [])
-unfolding sameText within
+unfolding sameBytes within
 field-values e = plain-values nsonName (members e) refl
 
 holds-own : {e : Event} → Carries e → Valid e → FieldHolds (members e) (2 * length (descriptors (counts e))) (counts e)

@@ -7,8 +7,8 @@ use mathlib.Core.Bool.{true}
 use Rattle.hex.specs.Hex.{hexes}
 use Rattle.decimal.specs.Decimal.{decimal}
 use Rattle.escape.specs.Escape.{canonicalByte, escaped}
-use Rattle.tagtext.specs.TagText.{quoted, array, tagsText}
-use Rattle.tagtext.proofs.Texts.{hexes-stand}
+use Rattle.jsontags.specs.TagText.{quoted, array, tagsText}
+use Rattle.jsontags.proofs.Texts.{hexes-stand}
 use Rattle.canonical.specs.Canonical.{canonical}
 use Rattle.notepack.specs.Strict.{pack}
 use Rattle.notepack.proofs.Sound.{sound}

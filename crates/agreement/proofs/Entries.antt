@@ -12,7 +12,7 @@ use borrow.Author.Tests.{leb-true, leb-false, le-leb, lt-leb}
 use Rattle.scan.specs.Choice.{pick, Answer, shown, refused}
 use Rattle.scan.proofs.Step.{false-true}
 use Rattle.event.specs.Tells.{among, Tells, value, refusal}
-use Rattle.store.specs.Entry.{written, filled, writes, leaves}
+use Rattle.buffer.specs.Entry.{written, filled, writes, leaves}
 
 -- ---- general: all of these belong to crate store
 

@@ -10,7 +10,8 @@ use Rattle.utf8.specs.Utf8.{Utf8}
 use Rattle.hex.specs.Hex.{hexes}
 use Rattle.decimal.specs.Decimal.{decimal}
 use Rattle.decimal.proofs.Spelling.{number-decimal}
-use Rattle.event.specs.Event.{Text, Tag, Event, ValidTag, Valid, sameText}
+use Rattle.scan.specs.Compare.{sameBytes}
+use Rattle.event.specs.Event.{Text, Tag, Event, ValidTag, Valid}
 use Rattle.jsontext.specs.Grammar as json
 use Rattle.json.specs.Meaning.{idName, pubkeyName, sigName, createdAtName, kindName, tagsName, contentName, Values, IsText, is-text, IsHex, is-hex, IsNumber, is-number, Each, is-array, IsTag, once, Says, first, later, Shallow, no-member, known, ignored, IsEvent, is-event}
 use Rattle.nson.specs.Nson.{counts, field}
@@ -53,7 +54,7 @@ unfolding within
 values e t = plain-values t (members e) refl
 
 says : {e : Event} → Carries e → Valid e → Says (members e) e
-unfolding sameText
+unfolding sameBytes
 says {e} c v =
     record {
       id = once (values e idName) (hex-is (v .id32 .each));

@@ -3,7 +3,7 @@
 use Prim.Native.Nat.{ℕ}
 use mathlib.Core.List.{List, [], _∷_, _++_, map}
 use Rattle.scan.specs.Span.{All, none, also}
-use Rattle.tagtext.specs.TagText.{commaed, array}
+use Rattle.jsontags.specs.TagText.{commaed, array}
 use Rattle.jsontext.specs.Grammar as json
 
 -- ---- the text

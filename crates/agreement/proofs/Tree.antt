@@ -7,7 +7,7 @@ use Rattle.hex.specs.Hex.{hexes}
 use Rattle.decimal.specs.Decimal.{decimal}
 use Rattle.escape.specs.Escape.{nsonByte, escaped}
 use Rattle.event.specs.Event.{Text, Tag, Event}
-use Rattle.tagtext.specs.TagText.{tagsText}
+use Rattle.jsontags.specs.TagText.{tagsText}
 use Rattle.jsontext.specs.Grammar as json
 use Rattle.json.specs.Meaning.{idName, pubkeyName, sigName, createdAtName, kindName, tagsName, contentName}
 use Rattle.nson.specs.Nson.{idLabel, pubkeyLabel, sigLabel, timeLabel, nsonLabel, kindLabel, contentLabel, tagsLabel, endLabel, counts, field, headText, bodyText, nson}

@@ -10,7 +10,7 @@ use native.Mathlib.Decide.{decLe}
 use lib.ListN.{length, take}
 use Rattle.scan.specs.Choice.{Answer, shown, refused}
 use Rattle.scan.proofs.Step.{false-true}
-use Rattle.store.specs.Entry.{writes, leaves}
+use Rattle.buffer.specs.Entry.{writes, leaves}
 use Rattle.event.specs.Event.{Event}
 use Rattle.notepack.specs.Unpack.{unpack}
 use Rattle.notepack.specs.Strict.{pack}

@@ -11,7 +11,7 @@ use Rattle.scan.proofs.AllLaws.{all-append}
 use Rattle.utf8.specs.Utf8.{Utf8}
 use Rattle.escape.specs.Escape.{nsonByte}
 use Rattle.event.specs.Event.{Text, Tag, Event, ValidTag, Valid}
-use Rattle.tagtext.specs.TagText.{quoted, tagText, tagsText}
+use Rattle.jsontags.specs.TagText.{quoted, tagText, tagsText}
 use Rattle.jsontext.specs.Grammar as json
 use Rattle.json.specs.Meaning.{idName, pubkeyName, sigName, createdAtName, kindName, tagsName, contentName}
 use Rattle.nson.specs.Nson.{Counts, counts, word, words, tagCounts, descriptors, field, nson}

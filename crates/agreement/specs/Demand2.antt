@@ -7,7 +7,7 @@ use mathlib.Core.Logic.{_↔_}
 use lib.ListN.{length, drop}
 use Rattle.scan.specs.Choice.{shown}
 use Rattle.scan.specs.Span.{IsBytes}
-use Rattle.store.specs.Entry.{writes, leaves}
+use Rattle.buffer.specs.Entry.{writes, leaves}
 use Rattle.hex.specs.Hex.{hexes}
 use Rattle.decimal.specs.Decimal.{decimal}
 use Rattle.escape.specs.Escape.{canonicalByte, escaped}
@@ -18,7 +18,7 @@ use Rattle.notepack.specs.Strict.{pack}
 use Rattle.notepack.specs.Unpack.{unpack}
 use Rattle.notepack.specs.Seen.{Seen}
 use Rattle.strict.specs.Strict.{strict}
-use Rattle.tagtext.specs.TagText.{tagsText}
+use Rattle.jsontags.specs.TagText.{tagsText}
 use Rattle.canonical.specs.Canonical.{canonical}
 use Rattle.json.specs.Meaning.{IsEvent}
 use Rattle.json.specs.Object.{readJson}

@@ -12,8 +12,8 @@ use Rattle.escape.specs.Escape.{canonicalByte, escaped}
 use Rattle.escape.proofs.TextLaws.{canonical-injective}
 use Rattle.escape.proofs.QuotedLaws.{canonical-quoted, canonical-ends}
 use Rattle.event.specs.Event.{Event}
-use Rattle.tagtext.specs.TagText.{quoted, tagsText}
-use Rattle.tagtext.proofs.Texts.{length-quoted, length-quoted-hexes}
+use Rattle.jsontags.specs.TagText.{quoted, tagsText}
+use Rattle.jsontags.proofs.Texts.{length-quoted, length-quoted-hexes}
 use Rattle.canonical.specs.Canonical.{canonical}
 
 -- a string ends where its text ends: two strings, whatever stands behind them, are the same where the bytes are

@@ -13,9 +13,9 @@ use Rattle.scan.proofs.SpanLaws.{span-length, span-fits}
 use Rattle.scan.proofs.Reading.{shown-gives}
 use Rattle.scan.proofs.Many.{then-shown}
 use Rattle.varint.proofs.UlebLaws.{spells-one}
-use Rattle.store.specs.Store.{Wrote}
-use Rattle.store.specs.Entry.{writes, leaves}
-use Rattle.store.proofs.EntryLaws.{short, fitted}
+use Rattle.buffer.specs.Store.{Wrote}
+use Rattle.buffer.specs.Entry.{writes, leaves}
+use Rattle.buffer.proofs.EntryLaws.{short, fitted}
 use Rattle.hex.specs.Hex.{hexes}
 use Rattle.hex.proofs.Texts.{length-hexes}
 use Rattle.decimal.specs.Decimal.{decimal}
@@ -28,11 +28,11 @@ use Rattle.notepack.specs.Answers.{Walked, walkAt}
 use Rattle.notepack.proofs.Sound.{sized-text, head-gives, sound}
 use Rattle.notepack.proofs.Walking.{walked-packed, walk-refuses}
 use Rattle.notepack.proofs.Viewing.{packed-head, packed-apart}
-use Rattle.tagtext.specs.TagText.{quoted, array, tagsText}
-use Rattle.tagtext.specs.Copy.{tagsFrom}
-use Rattle.tagtext.proofs.Texts.{quoted-hexes}
-use Rattle.tagtext.proofs.Again.{tags-again}
-use Rattle.tagtext.proofs.Room.{quoted-room, tags-room}
+use Rattle.jsontags.specs.TagText.{quoted, array, tagsText}
+use Rattle.jsontags.specs.Copy.{tagsFrom}
+use Rattle.jsontags.proofs.Texts.{quoted-hexes}
+use Rattle.jsontags.proofs.Again.{tags-again}
+use Rattle.jsontags.proofs.Room.{quoted-room, tags-room}
 use Rattle.canonical.specs.Canonical.{canonical}
 use Rattle.canonical.specs.Copy.{frontText, wholeText}
 

@@ -5,7 +5,7 @@ use Rattle.hex.specs.Hex.{hexes}
 use Rattle.decimal.specs.Decimal.{decimal}
 use Rattle.escape.specs.Escape.{canonicalByte}
 use Rattle.event.specs.Event.{Event}
-use Rattle.tagtext.specs.TagText.{quoted, array, tagsText}
+use Rattle.jsontags.specs.TagText.{quoted, array, tagsText}
 
 -- [0,"pubkey",created_at,kind,tags,"content"], item by item
 abbrev pub items : Event → List (List ℕ)

@@ -7,8 +7,8 @@ use Rattle.decimal.specs.Decimal.{decimal}
 use Rattle.escape.specs.Escape.{canonicalByte}
 use Rattle.notepack.specs.declared.Head.{Head}
 use Rattle.notepack.specs.Unpack.{textOf}
-use Rattle.tagtext.specs.TagText.{quoted}
-use Rattle.tagtext.specs.Copy.{tagsFrom}
+use Rattle.jsontags.specs.TagText.{quoted}
+use Rattle.jsontags.specs.Copy.{tagsFrom}
 
 -- all in front of the tags: [0,"pubkey",created_at,kind,[
 unfoldable pub frontText : List ℕ → Head → List ℕ

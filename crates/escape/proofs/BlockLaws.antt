@@ -9,8 +9,8 @@ use lib.ListN.{length, getD, take, drop, length-append, length-take, length-drop
 use lib.Seq.{drop-drop, drop-append-le, take-all, length-take-le, getD-take, getD-drop}
 use Rattle.scan.specs.Choice.{pick}
 use Rattle.scan.proofs.Step.{rest-none, rest-more, pick-by}
-use Rattle.store.specs.Store.{Wrote}
-use Rattle.store.proofs.Laws.{Left, also}
+use Rattle.buffer.specs.Store.{Wrote}
+use Rattle.buffer.proofs.Laws.{Left, also}
 use Rattle.escape.specs.Escape.{behind, escaped, isControl, controls}
 use Rattle.escape.specs.Block.{byteOf, isEscaped, letterOf, runOf}
 use Rattle.escape.proofs.ByteLaws.{escaping, byte-tests}

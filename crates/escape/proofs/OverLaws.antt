@@ -8,8 +8,8 @@ use native.Mathlib.Omega.{arith}
 use native.Mathlib.Decide.{decLt}
 use lib.ListN.{length, set, length-set}
 use lib.Seq.{set-set, set-comm}
-use Rattle.store.specs.Store.{Buffer, puts, Wrote}
-use Rattle.store.proofs.Laws.{Left, byte, length-puts, puts-append, put-room, puts-full, puts-eq}
+use Rattle.buffer.specs.Store.{Buffer, puts, Wrote}
+use Rattle.buffer.proofs.Laws.{Left, byte, length-puts, puts-append, put-room, puts-full, puts-eq}
 
 -- a store before the place where writing goes on
 set-before : (d : List ℕ) (p q u : ℕ) (vs : List ℕ) → p < q → set (puts (d, q) vs .0) p u ≡ puts (set d p u, q) vs .0

@@ -3,7 +3,7 @@ ghost use Prim.Native.Nat.{_+_, _*_, _≤_, min};
 ghost use mathlib.Core.Path.{_≡_};
 ghost use lib.ListN.{length};
 ghost use Rattle.scan.specs.Choice.{pick};
-ghost use Rattle.store.specs.Store.{Wrote};
+ghost use Rattle.buffer.specs.Store.{Wrote};
 ghost use Rattle.escape.specs.Escape.{nsonByte, escaped, isControl, controls, nsonText};
 ghost use Rattle.escape.specs.Block.{byteOf, isEscaped, letterOf, runOf};
 
@@ -96,10 +96,10 @@ fn put_one(all: bool, out: &mut [u8], at: usize, b: u8) -> usize
     ensures { λ r. ⌜ Wrote (now (out .entry)) at (byteOf all b) (now (out .exit)) r ⌝ }
 {
     if is_escaped(all, b) {
-        let o = store::put_byte(out, at, b'\\');
-        return store::put_byte(out, o, letter_of(b));
+        let o = buffer::put_byte(out, at, b'\\');
+        return buffer::put_byte(out, o, letter_of(b));
     }
-    store::put_byte(out, at, b)
+    buffer::put_byte(out, at, b)
 }
 
 fn put_each(all: bool, out: &mut [u8], at: usize, s: &[u8]) -> usize
@@ -148,7 +148,7 @@ fn put_rest(all: bool, out: &mut [u8], at: usize, s: &[u8]) -> usize
 {
     if s.len() <= 64 {
         if escapes(all, s) == 0 {
-            return store::put_bytes(out, at, s);
+            return buffer::put_bytes(out, at, s);
         }
     }
     put_each(all, out, at, s)
@@ -169,7 +169,7 @@ pub fn put_escaped(all: bool, out: &mut [u8], at: usize, s: &[u8]) -> usize
             return put_rest(all, out, o, &s[i..]);
         }
         let e = i + 64;
-        store::put_bytes(out, o, &s[i..e]);
+        buffer::put_bytes(out, o, &s[i..e]);
         let m = plain_run(all, &s[i..e]) as usize;
         if m == 64 {
             i = e;

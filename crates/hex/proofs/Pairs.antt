@@ -8,8 +8,8 @@ use native.Mathlib.Omega.{arith}
 use lib.ListN.{length, getD, take, drop, length-take, length-drop, take-append-drop}
 use lib.Seq.{drop-drop, take-all}
 use Rattle.scan.proofs.Step.{rest-none, rest-more}
-use Rattle.store.specs.Store.{Buffer, Wrote}
-use Rattle.store.proofs.Laws.{puts-eq, Left, part, also, finish, kept}
+use Rattle.buffer.specs.Store.{Buffer, Wrote}
+use Rattle.buffer.proofs.Laws.{puts-eq, Left, part, also, finish, kept}
 use Rattle.hex.specs.Hex.{valueOf, unhex}
 use Rattle.hex.specs.Block.{valuesOf, pairsOf}
 use Rattle.hex.proofs.Texts.{unhex-append, length-unhex}

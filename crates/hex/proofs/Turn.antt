@@ -9,8 +9,8 @@ use lib.ListN.{length, getD, set, take, drop, length-set, length-take, length-dr
 use lib.Seq.{take-append-le, append-snoc}
 use Rattle.scan.specs.Place.{within}
 use Rattle.scan.proofs.Step.{rest-more}
-use Rattle.store.specs.Store.{puts, Wrote}
-use Rattle.store.proofs.Laws.{Left, byte, then, cut}
+use Rattle.buffer.specs.Store.{puts, Wrote}
+use Rattle.buffer.proofs.Laws.{Left, byte, then, cut}
 use Rattle.hex.specs.Hex.{valueOf, digitOf, hexes, unhex}
 use Rattle.hex.proofs.Digits.{in-range}
 use Rattle.hex.proofs.Texts.{hexes-append, length-hexes, unhex-append, length-unhex}

@@ -12,8 +12,9 @@ use Rattle.scan.specs.Place.{standsAt}
 use Rattle.scan.proofs.Step.{pick-by, false-true}
 use Rattle.scan.proofs.SpanLaws.{whole-span, input-span}
 use Rattle.scan.proofs.PlaceLaws.{span-stands, stands-span}
-use Rattle.event.specs.Event.{Text, sameText}
-use Rattle.event.proofs.Laws.{same-text, text-same}
+use Rattle.scan.specs.Compare.{sameBytes}
+use Rattle.event.specs.Event.{Text}
+use Rattle.scan.proofs.CompareLaws.{same-same, bytes-same}
 use Rattle.json.specs.Meaning.{names}
 use Rattle.json.specs.Field.{indexIn, fieldOf}
 use Rattle.json.proofs.Names.{name, number-name, name-number, by-seven}
@@ -23,7 +24,7 @@ use Rattle.json.proofs.Names.{name, number-name, name-number, by-seven}
 index-most : (l : List Text) (t : Text) → indexIn l t ≤ length l
 unfolding indexIn
 index-most [] t = omega arith
-index-most (n ∷ l) t = pick-by (λ (i : ℕ). i ≤ suc (length l)) (sameText t n) (λ e. omega arith) (λ e. omega (arith, index-most l t))
+index-most (n ∷ l) t = pick-by (λ (i : ℕ). i ≤ suc (length l)) (sameBytes t n) (λ e. omega arith) (λ e. omega (arith, index-most l t))
 
 pub number-most : (t : Text) → fieldOf t ≤ 7
 unfolding fieldOf
@@ -31,11 +32,11 @@ number-most t = index-most names t
 
 -- ---- a name that was compared
 
-pub is-name : (k : ℕ) (t : Text) {b : Bool} → k < 7 → b ≡ sameText t (name k) → b ≡ true → k ≡ fieldOf t
-is-name k t h e f = sym (ap fieldOf (text-same t (name k) (sym e ∙ f)) ∙ name-number k h)
+pub is-name : (k : ℕ) (t : Text) {b : Bool} → k < 7 → b ≡ sameBytes t (name k) → b ≡ true → k ≡ fieldOf t
+is-name k t h e f = sym (ap fieldOf (bytes-same t (name k) (sym e ∙ f)) ∙ name-number k h)
 
-pub not-name : (k : ℕ) (t : Text) {b : Bool} → b ≡ sameText t (name k) → b ≡ false → name k ≡ t → ⊥
-not-name k t e f g = false-true (sym (sym e ∙ f) ∙ ap (λ (n : Text). sameText t n) g ∙ same-text t)
+pub not-name : (k : ℕ) (t : Text) {b : Bool} → b ≡ sameBytes t (name k) → b ≡ false → name k ≡ t → ⊥
+not-name k t e f g = false-true (sym (sym e ∙ f) ∙ ap (λ (n : Text). sameBytes t n) g ∙ same-same t)
 
 pub other-length : (k m : ℕ) (t : Text) {n : ℕ} → length (name k) ≡ m → n ≡ length t → (n ≡ m → ⊥) → name k ≡ t → ⊥
 other-length k m t e f g h = g (f ∙ ap length (sym h) ∙ e)

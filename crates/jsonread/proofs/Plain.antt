@@ -12,7 +12,7 @@ use lib.Seq.{getD-drop, getD-take}
 use lib.Dec.{eqb, ltb}
 use borrow.Author.Tests.{eq-eqb, ne-eqb, eqb-true, lt-ltb, le-ltb}
 use Rattle.scan.specs.Choice.{refused, read}
-use Rattle.store.specs.Store.{Wrote}
+use Rattle.buffer.specs.Store.{Wrote}
 use Rattle.notepack.specs.Strict.{packElement}
 use Rattle.scan.specs.Span.{All, none, also}
 use Rattle.scan.proofs.Step.{rest-more, false-true}

@@ -8,9 +8,9 @@ use lib.ListN.{length}
 use lib.Dec.{eqb}
 use borrow.Author.Tests.{eq-eqb, ne-eqb, le-leb, lt-leb}
 use Rattle.scan.specs.Choice.{pick, Answer, shown, refused, Read, andThen}
-use Rattle.store.specs.Store.{Wrote}
-use Rattle.store.specs.Entry.{writes, leaves}
-use Rattle.store.proofs.EntryLaws.{short, fitted}
+use Rattle.buffer.specs.Store.{Wrote}
+use Rattle.buffer.specs.Entry.{writes, leaves}
+use Rattle.buffer.proofs.EntryLaws.{short, fitted}
 use Rattle.event.specs.declared.Refusal.{Refusal}
 use Rattle.event.specs.Answers.{told}
 use Rattle.event.specs.Event.{Event}

@@ -17,8 +17,6 @@ use Rattle.jsonread.specs.declared.SpotRead.{SpotRead}
 use Rattle.jsonread.specs.declared.SpotRead.the-variants as spot-by
 use Rattle.jsonread.specs.declared.FieldsRead.{FieldsRead}
 use Rattle.jsonread.specs.declared.FieldsRead.the-variants as fields-by
-use Rattle.jsonread.specs.declared.JsonRead.{JsonRead}
-use Rattle.jsonread.specs.declared.JsonRead.the-variants as json-by
 use Rattle.jsonread.specs.Found.{saysAs, fieldsOf, eventBy}
 
 -- a string as spelled, or the refusal
@@ -55,8 +53,3 @@ objectRead s (fields-by.Refused r) = told r
 abbrev pub wholeRead : List ℕ → FieldsRead → Answer Event
 wholeRead s (fields-by.Found f c) = shown (eventBy s f)
 wholeRead s (fields-by.Refused r) = told r
-
--- the length written, or the refusal
-abbrev pub jsonRead : JsonRead → Answer ℕ
-jsonRead (json-by.Written n) = shown n
-jsonRead (json-by.Refused r) = told r

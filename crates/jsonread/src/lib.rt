@@ -1,6 +1,7 @@
 // The plain JSON reader. One pass over the text decides on every refusal and measures; then the strict form is written from what it found.
 use decimal::DecimalRead;
 use event::Refusal;
+use event::Writing;
 use jsontext::Skip;
 use jsontext::Spelled;
 use jsontext::StringRead;
@@ -10,7 +11,8 @@ ghost use mathlib.Core.List.{[]};
 ghost use lib.ListN.{length};
 ghost use lib.Dec.{eqb};
 ghost use Rattle.scan.specs.Choice.{pick};
-ghost use Rattle.store.specs.Store.{Wrote};
+ghost use Rattle.buffer.specs.Store.{Wrote};
+ghost use Rattle.event.specs.Answers.{writing};
 ghost use Rattle.hex.specs.Hex.{unhex};
 ghost use Rattle.notepack.specs.Strict.{packElement};
 ghost use Rattle.jsontext.specs.Block.{specialOf, PlainTo};
@@ -26,7 +28,7 @@ ghost use Rattle.jsonread.specs.Run.{plainRun};
 ghost use Rattle.jsonread.specs.Size.{elementSize, tagSize, sized};
 ghost use Rattle.jsonread.specs.Copy.{behindAt, textEnd, countTexts, textsText, textsEnd, tagsText, partOf, contentText, fieldsText, measured};
 ghost use Rattle.jsonread.specs.Found.{PlainText, fieldsOf, noSpot, spotOf, withSpot, noneFound, allFound, SpotGood, Good, FieldsGood, ObjectGood};
-ghost use Rattle.jsonread.specs.Answers.{textRead, lenRead, sizedRead, spotRead, fieldsRead, objectRead, wholeRead, jsonRead};
+ghost use Rattle.jsonread.specs.Answers.{textRead, lenRead, sizedRead, spotRead, fieldsRead, objectRead, wholeRead};
 
 // A place in the input. A cursor past the end reads as the end.
 struct Cursor {
@@ -96,12 +98,6 @@ enum LenRead {
 // Items with the cursor behind their closing bracket, or the refusal.
 enum SizedRead {
     Done(Sized, Cursor),
-    Refused(Refusal),
-}
-
-// The length written, or the refusal.
-pub enum JsonRead {
-    Written(usize),
     Refused(Refusal),
 }
 
@@ -1048,7 +1044,7 @@ fn put_content(out: &mut [u8], at: usize, s: &[u8], p: Spot) -> usize
     ensures { λ r. ⌜ Wrote (now (out .entry)) at (contentText (now (s .entry)) p) (now (out .exit)) r ⌝ }
 {
     if p.number == p.count as u64 {
-        return store::put_part(out, at, s, p.from, p.count);
+        return buffer::put_part(out, at, s, p.from, p.count);
     }
     jsontext::put_unescaped(out, at, s, p.from, p.count)
 }
@@ -1092,45 +1088,45 @@ fn whole_text(s: &[u8]) -> FieldsRead
 }
 
 // The event that a plain JSON text shows, in strict form from the start of the lent buffer; or the refusal, 11 with the length needed.
-pub fn read_json(s: &[u8], out: &mut [u8]) -> JsonRead
-    ensures { λ r. ⌜ jsonRead r ≡ jsonReads (now (s .entry)) (now (out .entry)) ⌝ }
+pub fn read_json(s: &[u8], out: &mut [u8]) -> Writing
+    ensures { λ r. ⌜ writing r ≡ jsonReads (now (s .entry)) (now (out .entry)) ⌝ }
     ensures { λ _. ⌜ now (out .exit) ≡ jsonLeaves (now (s .entry)) (now (out .entry)) ⌝ }
 {
     if s.len() > event::MAX_INPUT {
-        return JsonRead::Refused(Refusal {
+        return Writing::Refused(Refusal {
             number: event::INPUT_TOO_LONG,
             place: 0,
         });
     }
     let found = whole_text(s);
     match found {
-        FieldsRead::Refused(r) => JsonRead::Refused(r),
+        FieldsRead::Refused(r) => Writing::Refused(r),
         FieldsRead::Found(f, _) => {
             let need = f.strict_len();
             if out.len() < need {
-                return JsonRead::Refused(Refusal {
+                return Writing::Refused(Refusal {
                     number: event::TOO_LITTLE_ROOM,
                     place: need,
                 });
             }
-            JsonRead::Written(put_event(out, 0, s, f))
+            Writing::Written(put_event(out, 0, s, f))
         }
     }
 }
 
 // The length that the event of a plain JSON text takes in strict form, or the refusal.
-pub fn json_len(s: &[u8]) -> JsonRead
-    ensures { λ r. ⌜ jsonRead r ≡ jsonNeeds (now (s .entry)) ⌝ }
+pub fn json_len(s: &[u8]) -> Writing
+    ensures { λ r. ⌜ writing r ≡ jsonNeeds (now (s .entry)) ⌝ }
 {
     if s.len() > event::MAX_INPUT {
-        return JsonRead::Refused(Refusal {
+        return Writing::Refused(Refusal {
             number: event::INPUT_TOO_LONG,
             place: 0,
         });
     }
     let found = whole_text(s);
     match found {
-        FieldsRead::Refused(r) => JsonRead::Refused(r),
-        FieldsRead::Found(f, _) => JsonRead::Written(f.strict_len()),
+        FieldsRead::Refused(r) => Writing::Refused(r),
+        FieldsRead::Found(f, _) => Writing::Written(f.strict_len()),
     }
 }

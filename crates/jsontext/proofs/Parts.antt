@@ -17,15 +17,15 @@ use Rattle.scan.specs.Span.{All}
 use Rattle.scan.proofs.Step.{pick-by, rest-none, rest-more}
 use Rattle.scan.proofs.SpanLaws.{span-fits}
 use Rattle.scan.proofs.PlaceLaws.{stands-span}
-use Rattle.store.specs.Store.{Buffer, Wrote}
-use Rattle.store.proofs.Laws.{Left, puts-eq}
+use Rattle.buffer.specs.Store.{Buffer, Wrote}
+use Rattle.buffer.proofs.Laws.{Left, puts-eq}
 use Rattle.utf8.specs.Encode.{Scalar, below, above, encode}
 use Rattle.utf8.proofs.EncodeLaws.{encode-length, encode-none}
 use Rattle.hex.specs.Hex.{valueOf, digitOf, unhex, allDigits}
 use Rattle.hex.proofs.Digits.{value-of-digit}
 use Rattle.hex.proofs.Texts.{digits-pass}
 use Rattle.hex.proofs.Turn.{unhex-two, unhex-ended}
-use Rattle.event.specs.Event.{sameText}
+use Rattle.scan.specs.Compare.{sameBytes}
 use Rattle.jsontext.specs.Half.{held, halfBehind}
 use Rattle.jsontext.specs.declared.Escape.{Escape}
 use Rattle.jsontext.specs.Escape.{escapeAt, plainAt, orItself, unescape}
@@ -78,20 +78,20 @@ digits-none = digits-pass All.none
 
 -- ---- a name in parts (general: of event)
 
-same-append : (a b c : List ℕ) → sameText (a ++ b) c ≡ pick (begins a c) (sameText b (drop (length a) c)) false
-unfolding sameText begins
+same-append : (a b c : List ℕ) → sameBytes (a ++ b) c ≡ pick (begins a c) (sameBytes b (drop (length a) c)) false
+unfolding sameBytes begins
 same-append [] b c = refl
 same-append (x ∷ a) b [] = refl
 same-append (x ∷ a) b (y ∷ c) = go (same-append a b c) (eqb x y)
   where
-    go : sameText (a ++ b) c ≡ pick (begins a c) (sameText b (drop (length a) c)) false → (t : Bool)
-        → pick t (sameText (a ++ b) c) false ≡ pick (pick t (begins a c) false) (sameText b (drop (length a) c)) false
+    go : sameBytes (a ++ b) c ≡ pick (begins a c) (sameBytes b (drop (length a) c)) false → (t : Bool)
+        → pick t (sameBytes (a ++ b) c) false ≡ pick (pick t (begins a c) false) (sameBytes b (drop (length a) c)) false
     go e true = e
     go e false = refl
 
-module _ {x : Bool} (a b name : List ℕ) (j : ℕ) (e : x ≡ sameText (a ++ b) (drop j name)) where
+module _ {x : Bool} (a b name : List ℕ) (j : ℕ) (e : x ≡ sameBytes (a ++ b) (drop j name)) where
   -- the part stands in the name: the rest decides
-  pub same-on : {k : ℕ} → length a ≡ k → standsAt a name j ≡ true → x ≡ sameText b (drop (j + k) name)
+  pub same-on : {k : ℕ} → length a ≡ k → standsAt a name j ≡ true → x ≡ sameBytes b (drop (j + k) name)
   unfolding standsAt
   same-on n t = e ∙ same-append a b (drop j name) ∙ rw (t, n, drop-drop)
 
@@ -105,8 +105,8 @@ pub stands-inside : (a name : List ℕ) (j : ℕ) {k : ℕ} → length a ≡ k �
 stands-inside a name j n t h = omega (arith, n, span-fits (stands-span a name j t))
 
 -- behind the last part the name is at its end, or not
-pub same-end : {x : Bool} (name : List ℕ) (j : ℕ) → x ≡ sameText [] (drop j name) → j ≤ length name → eqb j (length name) ≡ x
-unfolding sameText
+pub same-end : {x : Bool} (name : List ℕ) (j : ℕ) → x ≡ sameBytes [] (drop j name) → j ≤ length name → eqb j (length name) ≡ x
+unfolding sameBytes
 same-end {x} name j e h =
     dite (decLt j (length name)) (λ l. ne-eqb j (length name) (λ q. omega arith) ∙ sym (e ∙ rw (rest-more name j l)))
     (λ g. eq-eqb j (length name) (omega (arith, g)) ∙ sym (e ∙ rw (rest-none name j (omega (arith, g)))))
@@ -206,7 +206,7 @@ module _ {t : List ℕ} {i : ℕ} (v : InDigits t i) where
 
 -- whether the text is the name is what the text from i on and the name from j on say
 pub record InName (t name : List ℕ) (i j : ℕ) : Type 0 where
-  pub same : sameText (unescape t) name ≡ sameText (unescape (drop i t)) (drop j name)
+  pub same : sameBytes (unescape t) name ≡ sameBytes (unescape (drop i t)) (drop j name)
   pub inside : i ≤ length t
   pub within : j ≤ length name
 
@@ -224,30 +224,30 @@ module _ {t name : List ℕ} {i j : ℕ} (v : InName t name i j) where
         let l : length (take (e - i) (drop i t)) ≡ e - i = simp (length-take, length-drop) (omega arith) in
         let s = sym name-part ∙ y in
         record {
-          same = same-on (take (e - i) (drop i t)) (unescape (drop e t)) name j (v .same ∙ ap (λ (m : List ℕ). sameText m (drop j name)) (unescape-run t i q)) l s;
+          same = same-on (take (e - i) (drop i t)) (unescape (drop e t)) name j (v .same ∙ ap (λ (m : List ℕ). sameBytes m (drop j name)) (unescape-run t i q)) l s;
           inside = m;
           within = stands-inside (take (e - i) (drop i t)) name j l s (v .within);
         }
 
-    pub name-run-off : r ≡ false → false ≡ sameText (unescape t) name
+    pub name-run-off : r ≡ false → false ≡ sameBytes (unescape t) name
     name-run-off y =
-        same-off (take (e - i) (drop i t)) (unescape (drop e t)) name j (v .same ∙ ap (λ (m : List ℕ). sameText m (drop j name)) (unescape-run t i q)) (sym name-part ∙ y)
+        same-off (take (e - i) (drop i t)) (unescape (drop e t)) name j (v .same ∙ ap (λ (m : List ℕ). sameBytes m (drop j name)) (unescape-run t i q)) (sym name-part ∙ y)
 
   module _ {x : Escape} {r : Bool} (h : i < length t) (s : getD t i 0 ≡ 0x5C) (f : x ≡ orItself (escapeAt t i)) (a : r ≡ standsAt (encode (x .scalar)) name j) where
     pub name-escape : {k : ℕ} → r ≡ true → k ≡ length (encode (x .scalar)) → InName t name (i + x .width) (j + k)
     name-escape y k = record {
       same =
-          same-on (encode (x .scalar)) (unescape (drop (i + x .width) t)) name j (v .same ∙ ap (λ (m : List ℕ). sameText m (drop j name)) (unescape-escape t i h s f)) (sym k) (sym a ∙ y);
+          same-on (encode (x .scalar)) (unescape (drop (i + x .width) t)) name j (v .same ∙ ap (λ (m : List ℕ). sameBytes m (drop j name)) (unescape-escape t i h s f)) (sym k) (sym a ∙ y);
       inside = taken t i h s f .inside;
       within = stands-inside (encode (x .scalar)) name j (sym k) (sym a ∙ y) (v .within);
     }
 
-    pub name-escape-off : r ≡ false → false ≡ sameText (unescape t) name
+    pub name-escape-off : r ≡ false → false ≡ sameBytes (unescape t) name
     name-escape-off y =
-        same-off (encode (x .scalar)) (unescape (drop (i + x .width) t)) name j (v .same ∙ ap (λ (m : List ℕ). sameText m (drop j name)) (unescape-escape t i h s f)) (sym a ∙ y)
+        same-off (encode (x .scalar)) (unescape (drop (i + x .width) t)) name j (v .same ∙ ap (λ (m : List ℕ). sameBytes m (drop j name)) (unescape-escape t i h s f)) (sym a ∙ y)
 
-  pub name-end : length t ≤ i → eqb j (length name) ≡ sameText (unescape t) name
-  name-end h = same-end name j (v .same ∙ ap (λ (m : List ℕ). sameText m (drop j name)) (unescape-end t i h)) (v .within)
+  pub name-end : length t ≤ i → eqb j (length name) ≡ sameBytes (unescape t) name
+  name-end h = same-end name j (v .same ∙ ap (λ (m : List ℕ). sameBytes m (drop j name)) (unescape-end t i h)) (v .within)
 
 -- two digits for a byte, over a run and over an escape of a spelled string
 pub unhex-run : (t : List ℕ) (i h : ℕ) {e : ℕ} → e ≡ plainAt t i

@@ -10,8 +10,8 @@ use Rattle.scan.proofs.Step.{rest-more}
 use Rattle.scan.specs.Span.{Span}
 use Rattle.scan.proofs.SpanLaws.{join, span-unique}
 use Rattle.scan.proofs.Reading.{part-span}
-use Rattle.store.specs.Store.{Wrote}
-use Rattle.store.proofs.Laws.{then, nothing, stored}
+use Rattle.buffer.specs.Store.{Wrote}
+use Rattle.buffer.proofs.Laws.{then, nothing, stored}
 use Rattle.jsontext.specs.Block.{isSlash, sumOf}
 use Rattle.jsontext.specs.Escape.{plainAt}
 use Rattle.jsontext.specs.Run.{stopOf, Ran}

@@ -3,7 +3,7 @@ use Prim.Native.Nat.{ℕ, _+_, _-_, _≤_}
 use mathlib.Core.Path.{_≡_}
 use mathlib.Core.List.{List}
 use lib.ListN.{length, take, drop}
-use Rattle.store.specs.Store.{Wrote}
+use Rattle.buffer.specs.Store.{Wrote}
 use Rattle.jsontext.specs.Block.{isOne, isControl, isSlash}
 use Rattle.jsontext.specs.Escape.{plainAt}
 

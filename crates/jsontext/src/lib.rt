@@ -6,10 +6,10 @@ ghost use mathlib.Core.Bool.{true};
 ghost use lib.ListN.{length, getD, take, drop};
 ghost use Rattle.scan.specs.Choice.{pick, refused};
 ghost use Rattle.scan.specs.Place.{byteAt, standsAt};
-ghost use Rattle.store.specs.Store.{Wrote};
+ghost use Rattle.buffer.specs.Store.{Wrote};
 ghost use Rattle.utf8.specs.Encode.{encode};
 ghost use Rattle.hex.specs.Hex.{unhex, allDigits, goesAsBytes};
-ghost use Rattle.event.specs.Event.{sameText};
+ghost use Rattle.scan.specs.Compare.{sameBytes};
 ghost use Rattle.jsontext.specs.Token.{isSpace, spaceAt, wordAt, isDigit, digitsOr, minusAt, signAt, intAt, fracAt, isE, expAt, numberFrom, unsignedFrom, numberAt};
 ghost use Rattle.jsontext.specs.Escape.{hexValue, unitOf, unitAt, letterOf, letterEscape, pairOf, unicodeAt, escapeAt, plainAt, orItself, unescape};
 ghost use Rattle.jsontext.specs.Half.{held, halfBehind};
@@ -984,7 +984,7 @@ fn put_plain(out: &mut [u8], at: usize, t: &[u8], from: usize) -> Copied
         if b == 0x5C {
             break;
         }
-        o = store::put_byte(out, o, b);
+        o = buffer::put_byte(out, o, b);
         i += 1;
     }
     Copied { out: o, next: i }
@@ -997,7 +997,7 @@ fn put_run(out: &mut [u8], at: usize, t: &[u8], from: usize) -> Copied
     ensures { λ r. ⌜ r .next ≡ plainAt (now (t .entry)) from ⌝ }
 {
     let i = pass_stops(t, from);
-    let o = store::put_bytes(out, at, &t[from..i]);
+    let o = buffer::put_bytes(out, at, &t[from..i]);
     let c = put_fours(out, o, t, i);
     put_plain(out, c.out, t, c.next)
 }
@@ -1017,7 +1017,7 @@ fn put_text(out: &mut [u8], at: usize, t: &[u8]) -> usize
         }
         let b = letter_of(scan::byte_at(t, e + 1));
         if b != 0 {
-            o = store::put_byte(out, o, b);
+            o = buffer::put_byte(out, o, b);
             i = e + 2;
             continue;
         }
@@ -1074,7 +1074,7 @@ fn scalar_stands(n: u32, s: &[u8], at: usize) -> bool
 
 // Whether the text is the name.
 fn text_is(t: &[u8], name: &[u8]) -> bool
-    ensures { λ r. ⌜ r ≡ sameText (unescape (now (t .entry))) (now (name .entry)) ⌝ }
+    ensures { λ r. ⌜ r ≡ sameBytes (unescape (now (t .entry))) (now (name .entry)) ⌝ }
 {
     let mut i = 0;
     let mut j = 0;
@@ -1118,7 +1118,7 @@ fn put_halves(out: &mut [u8], at: usize, half: u8, t: &[u8]) -> Half
         let v = hex::value_of(t[i]) % 16;
         i += 1;
         if h < 16 {
-            o = store::put_byte(out, o, 16 * h + v);
+            o = buffer::put_byte(out, o, 16 * h + v);
             h = 16;
             continue;
         }
@@ -1205,7 +1205,7 @@ pub fn put_unescaped_unhex(out: &mut [u8], at: usize, s: &[u8], from: usize, n: 
 
 // Whether it is the name.
 pub fn unescaped_is(s: &[u8], from: usize, n: usize, name: &[u8]) -> bool
-    ensures { λ r. ⌜ r ≡ sameText (unescape (take n (drop from (now (s .entry))))) (now (name .entry)) ⌝ }
+    ensures { λ r. ⌜ r ≡ sameBytes (unescape (take n (drop from (now (s .entry))))) (now (name .entry)) ⌝ }
 {
     text_is(scan::part(s, from, n), name)
 }

@@ -9,7 +9,7 @@ use Rattle.scan.specs.Span.{Span, here, All, none, also}
 use Rattle.scan.proofs.SpanLaws.{join, cut, none-span}
 use Rattle.escape.specs.Escape.{nsonByte}
 use Rattle.event.specs.Event.{Tag}
-use Rattle.tagtext.specs.TagText.{quoted, commaed, array, tagText, tagsText}
+use Rattle.jsontags.specs.TagText.{quoted, commaed, array, tagText, tagsText}
 use Rattle.nson.specs.Nson.{bytesIn}
 use Rattle.nson.specs.Read.{pieceAt, commaAt, itemsAt, arrayAt, itemAt, tagAt, tagsAt}
 use Rattle.nson.proofs.Pieces.{after, shown-same, respell, piece-shown, piece-accepts}

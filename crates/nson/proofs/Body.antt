@@ -12,7 +12,7 @@ use Rattle.decimal.specs.Decimal.{decimal}
 use Rattle.escape.specs.Escape.{nsonByte, escaped}
 use Rattle.event.specs.Event.{Text, Tag}
 use Rattle.jsontext.specs.Escape.{unescape}
-use Rattle.tagtext.specs.TagText.{tagsText}
+use Rattle.jsontags.specs.TagText.{tagsText}
 use Rattle.nson.specs.Nson.{kindLabel, contentLabel, tagsLabel, endLabel, Counts, bytesIn}
 use Rattle.nson.specs.Read.{pieceAt, partAt, decimalAt, textAt, kindAt, tagsAt, kindPartAt, contentPartAt, tagsPartAt, Body, bodyAt}
 use Rattle.nson.proofs.Pieces.{after, pick-shown, shown-same, respell, piece-shown, piece-accepts, decimal-shown, decimal-accepts}

@@ -18,7 +18,7 @@ use Rattle.hex.specs.Hex.{Digit}
 use Rattle.hex.proofs.Texts.{digits-pass, pass-digits}
 use Rattle.decimal.specs.Decimal.{decimal, numberOf}
 use Rattle.decimal.proofs.Spelling.{number-decimal}
-use Rattle.event.proofs.Laws.{same-text, text-same}
+use Rattle.scan.proofs.CompareLaws.{same-same, bytes-same}
 use Rattle.nson.specs.Read.{pieceAt, partAt, hexAt, isDecimal, decimalAt}
 
 -- ---- general: these six belong to crate scan
@@ -96,11 +96,11 @@ decimal-shown number n s at v e =
     let t = pick-true _ _ (u .0) in
     let c = eqb-true (length l) n (t .0) in
     let f = read-same (u .1) in
-    let d : l ≡ decimal (v .value) = text-same l (decimal (numberOf l)) (t .1) ∙ ap decimal (f .0) in
+    let d : l ≡ decimal (v .value) = bytes-same l (decimal (numberOf l)) (t .1) ∙ ap decimal (f .0) in
     (ap length (sym d) ∙ c, rw (d, f .1) at (span-of-part s at n c))
 
 pub decimal-accepts : {s : List ℕ} {at c : ℕ} (number n x : ℕ) → Span s at (decimal x) c → length (decimal x) ≡ n → decimalAt number n s at ≡ read x c
 unfolding decimalAt isDecimal
 decimal-accepts {s} {at} {c} number n x r e =
     let f : at + n ≡ c = ap (λ (k : ℕ). at + k) (sym e) ∙ sym (span-length r) in
-    rw (part-of-span n e r, eq-eqb (length (decimal x)) n e, number-decimal x, same-text (decimal x)) (ap (read x) f)
+    rw (part-of-span n e r, eq-eqb (length (decimal x)) n e, number-decimal x, same-same (decimal x)) (ap (read x) f)

@@ -19,9 +19,9 @@ use Rattle.event.specs.Event.{Text}
 use Rattle.jsontext.specs.Grammar as json
 use Rattle.jsontext.specs.Escape.{unescape}
 use Rattle.jsontext.proofs.Meaning.{unescape-none, unescape-byte, unescape-char}
-use Rattle.counted.specs.Counted.{faultIn}
-use Rattle.counted.proofs.Faults.{no-fault, faultless}
-use Rattle.tagtext.specs.TagText.{quoted}
+use Rattle.nsonstring.specs.Counted.{faultIn}
+use Rattle.nsonstring.proofs.Faults.{no-fault, faultless}
+use Rattle.jsontags.specs.TagText.{quoted}
 use Rattle.nson.specs.Nson.{bytesIn}
 use Rattle.nson.specs.Read.{pieceAt, partAt, textAt, itemAt}
 use Rattle.nson.proofs.Pieces.{after, pick-shown, shown-same, part-of-span, span-of-part, piece-shown, piece-accepts}

@@ -9,9 +9,10 @@ use Rattle.scan.specs.Choice.{pick, Answer, shown, refused, Read, read, andThen
 use Rattle.scan.specs.Place.{byteAt, standsAt, within}
 use Rattle.hex.specs.Hex.{valueOf, unhex, allDigits}
 use Rattle.decimal.specs.Decimal.{decimal, numberOf}
-use Rattle.event.specs.Event.{Text, Tag, Event, sameText}
+use Rattle.scan.specs.Compare.{sameBytes}
+use Rattle.event.specs.Event.{Text, Tag, Event}
 use Rattle.jsontext.specs.Escape.{unescape}
-use Rattle.counted.specs.Counted.{faultIn}
+use Rattle.nsonstring.specs.Counted.{faultIn}
 use Rattle.nson.specs.Nson.{idLabel, pubkeyLabel, sigLabel, timeLabel, nsonLabel, kindLabel, contentLabel, tagsLabel, endLabel, Counts}
 
 -- the numbers of refusal that the NSON reader has
@@ -34,7 +35,7 @@ hexAt n s at = pick (eqb (length (partAt n s at)) n) (pick (allDigits (partAt n 
 
 -- a number in n digits with no leading zero unless it is 0: the spelling that `decimal` gives
 unfoldable pub isDecimal : ℕ → List ℕ → Bool
-isDecimal n l = pick (eqb (length l) n) (sameText l (decimal (numberOf l))) false
+isDecimal n l = pick (eqb (length l) n) (sameBytes l (decimal (numberOf l))) false
 
 unfoldable pub decimalAt : ℕ → ℕ → List ℕ → ℕ → Answer (Read ℕ)
 decimalAt number n s at = pick (isDecimal n (partAt n s at)) (read (numberOf (partAt n s at)) (at + n)) (refused number at)

@@ -15,7 +15,7 @@ use Rattle.event.specs.Event.{Text, Tag}
 use Rattle.jsontext.specs.Escape.{unescape}
 use Rattle.notepack.specs.Strict.{packElement, packElements, packTag, packTags}
 use Rattle.notepack.proofs.Lengths.{tag-form}
-use Rattle.counted.specs.Counted.{faultIn}
+use Rattle.nsonstring.specs.Counted.{faultIn}
 use Rattle.nson.specs.Read.{pieceAt, partAt, textAt, commaAt, itemsAt, arrayAt, itemAt, tagAt, wordHere, byteHere}
 use Rattle.nson.proofs.Pieces.{pick-shown, after, shown-same, piece-shown}
 use Rattle.nsonread.specs.Walk.{itemSizes, tagSizes}

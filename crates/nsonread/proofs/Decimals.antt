@@ -17,8 +17,8 @@ use Rattle.scan.proofs.SpanLaws.{whole-span, input-span, span-length, span-fits
 use Rattle.decimal.specs.Decimal.{Digit, Digits, number, over, decimal, numberOf, isDigit, digitsAt}
 use Rattle.decimal.proofs.Spelling.{decimal-first, decimal-last, decimal-unique, length-least}
 use Rattle.decimal.proofs.Reading.{decimal-reads, consumes-number}
-use Rattle.event.specs.Event.{sameText}
-use Rattle.event.proofs.Laws.{same-text, text-same}
+use Rattle.scan.specs.Compare.{sameBytes}
+use Rattle.scan.proofs.CompareLaws.{same-same, bytes-same}
 use Rattle.nson.specs.Read.{isDecimal, decimalAt}
 use Rattle.nsonread.proofs.Laws.{part-fits}
 
@@ -47,8 +47,8 @@ spelled-by n m l e v k h =
 pub spelled : (n : ℕ) (l : List ℕ) → n ≤ 10 → isDecimal n l ≡ true → Spelled n l
 unfolding isDecimal
 spelled n l h t =
-    let p = pick-true (eqb (length l) n) (sameText l (decimal (numberOf l))) t in
-    spelled-by n (numberOf l) l (text-same l (decimal (numberOf l)) (p .1)) refl (eqb-true (length l) n (p .0)) h
+    let p = pick-true (eqb (length l) n) (sameBytes l (decimal (numberOf l))) t in
+    spelled-by n (numberOf l) l (bytes-same l (decimal (numberOf l)) (p .1)) refl (eqb-true (length l) n (p .0)) h
 
 -- what is not spelled is not the decimal spelling
 not-decimal : (n : ℕ) (l : List ℕ) → (isDecimal n l ≡ true → ⊥) → isDecimal n l ≡ false
@@ -109,7 +109,7 @@ digits-read n l {v} {c} m e k f = go (consumes-number most l 0 (sym e))
         record {
           whole = w;
           value = ap numberOf q ∙ t .5;
-          spelling = rw (eq-eqb (length l) n w, x) (same-text l);
+          spelling = rw (eq-eqb (length l) n w, x) (same-same l);
         }
 
 -- ---- the code's ways out

@@ -12,8 +12,8 @@ use Rattle.escape.specs.Quoted.{Quoted, none, bare, escape, NsonBare, nson-bare
 use Rattle.jsontext.specs.Grammar as json
 use Rattle.jsontext.specs.Escape.{unescape}
 use Rattle.jsontext.proofs.Meaning.{unescape-none, unescape-byte, unescape-char}
-use Rattle.counted.specs.Counted.{faultIn}
-use Rattle.counted.proofs.Faults.{no-fault}
+use Rattle.nsonstring.specs.Counted.{faultIn}
+use Rattle.nsonstring.proofs.Faults.{no-fault}
 use Rattle.nson.specs.Read.{partAt, textAt}
 use Rattle.nson.proofs.Pieces.{pick-shown}
 use Rattle.nsonread.specs.Walk.{textSizeAt}

@@ -10,9 +10,9 @@ use lib.Dec.{leb, eqb}
 use Rattle.scan.specs.Choice.{pick, Answer, shown, refused, Read, read, andThen}
 use Rattle.scan.proofs.SpanLaws.{span-length}
 use Rattle.scan.proofs.Reading.{read-same}
-use Rattle.store.specs.Store.{Wrote}
-use Rattle.store.specs.Entry.{writes, leaves}
-use Rattle.store.proofs.EntryLaws.{short, fitted}
+use Rattle.buffer.specs.Store.{Wrote}
+use Rattle.buffer.specs.Entry.{writes, leaves}
+use Rattle.buffer.proofs.EntryLaws.{short, fitted}
 use Rattle.varint.specs.Uleb.{uleb}
 use Rattle.event.specs.Event.{Text, Tag, Event}
 use Rattle.jsontext.specs.Escape.{unescape}

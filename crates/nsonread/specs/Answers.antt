@@ -6,8 +6,6 @@ use Rattle.nsonread.specs.Copy.{tagsPlace}
 use Rattle.nsonread.specs.declared.Sizes.{Sizes}
 use Rattle.nsonread.specs.declared.Body.{Body}
 use Rattle.nsonread.specs.declared.Walked.{Walked}
-use Rattle.nsonread.specs.declared.NsonRead.{NsonRead}
-use Rattle.nsonread.specs.declared.NsonRead.the-variants as nson-by
 use Rattle.nsonread.specs.declared.Skip.{Skip}
 use Rattle.nsonread.specs.declared.Skip.the-variants as skip-by
 use Rattle.nsonread.specs.declared.NumberRead.{NumberRead}
@@ -18,11 +16,6 @@ use Rattle.nsonread.specs.declared.BodyRead.{BodyRead}
 use Rattle.nsonread.specs.declared.BodyRead.the-variants as body-by
 use Rattle.nsonread.specs.declared.Walk.{Walk}
 use Rattle.nsonread.specs.declared.Walk.the-variants as walk-by
-
--- the length written, or the refusal
-abbrev pub nsonRead : NsonRead → Answer ℕ
-nsonRead (nson-by.Written n) = shown n
-nsonRead (nson-by.Refused r) = told r
 
 -- the place behind, or the refusal
 abbrev pub skip : Skip → Answer ℕ

@@ -1,12 +1,14 @@
 // The NSON reader. It follows the counts and checks every byte that they count; only then is the strict form written.
 use decimal::DecimalRead;
 use event::Refusal;
+use event::Writing;
 ghost use Prim.Native.Nat.{_+_, _*_, _≤_};
 ghost use mathlib.Core.Path.{_≡_};
 ghost use mathlib.Core.Bool.{false};
 ghost use lib.ListN.{length};
 ghost use Rattle.scan.specs.Choice.{shown, andThen, read, many};
-ghost use Rattle.store.specs.Store.{Wrote};
+ghost use Rattle.buffer.specs.Store.{Wrote};
+ghost use Rattle.event.specs.Answers.{writing};
 ghost use Rattle.varint.specs.Uleb.{uleb};
 ghost use Rattle.jsontext.specs.Escape.{unescape};
 ghost use Rattle.notepack.specs.Strict.{packElement, packElements, packTag, packTags, pack};
@@ -14,12 +16,7 @@ ghost use Rattle.nson.specs.Read.{partAt, pieceAt, hexAt, labelledAt, decimalAt
 ghost use Rattle.nson.specs.Entries.{nsonReads, nsonLeaves, nsonNeeds};
 ghost use Rattle.nsonread.specs.Walk.{nextOf, sized, textSizeAt, fieldDigits, itemSizes, tagSizes, sizesOf, countsOf, bodySize, kept, walkAt};
 ghost use Rattle.nsonread.specs.Copy.{itemsText, itemsEnd, tagsText, contentPlace, tagsPlace, frontText, wholeText};
-ghost use Rattle.nsonread.specs.Answers.{nsonRead, skip, numberRead, sizesRead, bodyRead, walk, numberIn, sizesIn, placeIn, contentIn, tagsIn, sizesOfWalk, tagsPlaceOf};
-
-pub enum NsonRead {
-    Written(usize),
-    Refused(Refusal),
-}
+ghost use Rattle.nsonread.specs.Answers.{skip, numberRead, sizesRead, bodyRead, walk, numberIn, sizesIn, placeIn, contentIn, tagsIn, sizesOfWalk, tagsPlaceOf};
 
 // A place in the input. A cursor past the end reads as the end.
 struct Cursor {
@@ -173,7 +170,7 @@ impl Cursor {
     {
         let at = self.at;
         let l = scan::part(s, at, n);
-        let seen = counted::look(l);
+        let seen = nsonstring::look(l);
         if seen.fault == 0 {
             if l.len() == n {
                 return NumberRead::Number(seen.len, Cursor { at: at + n });
@@ -485,7 +482,7 @@ fn element_len(s: &[u8], from: usize, n: usize, len: usize) -> usize
     if len == n {
         return notepack::text_len(scan::part(s, from, n));
     }
-    spelled::element_len(s, from, n)
+    stringelement::element_len(s, from, n)
 }
 
 impl Cursor {
@@ -818,7 +815,7 @@ fn put_items(out: &mut [u8], at: usize, s: &[u8], n: usize, d: usize, from: usiz
     let mut place = from;
     while 0 < left {
         let size = word_here(s, count_at);
-        o = spelled::put_element(out, o, s, place + 1, size);
+        o = stringelement::put_element(out, o, s, place + 1, size);
         place += size + 3;
         count_at += 4;
         left -= 1;
@@ -888,33 +885,33 @@ fn put_whole(out: &mut [u8], s: &[u8], w: Walked) -> usize
 }
 
 // The event of an NSON text, in strict form: every refusal first, then 11 with the length needed; else written from the start.
-pub fn read_nson(s: &[u8], out: &mut [u8]) -> NsonRead
-    ensures { λ r. ⌜ nsonRead r ≡ nsonReads (now (s .entry)) (now (out .entry)) ⌝ }
+pub fn read_nson(s: &[u8], out: &mut [u8]) -> Writing
+    ensures { λ r. ⌜ writing r ≡ nsonReads (now (s .entry)) (now (out .entry)) ⌝ }
     ensures { λ _. ⌜ now (out .exit) ≡ nsonLeaves (now (s .entry)) (now (out .entry)) ⌝ }
 {
     let walked = walk_text(s);
     match walked {
-        Walk::Refused(r) => NsonRead::Refused(r),
+        Walk::Refused(r) => Writing::Refused(r),
         Walk::Done(w) => {
             let need = w.len;
             if out.len() < need {
-                return NsonRead::Refused(Refusal {
+                return Writing::Refused(Refusal {
                     number: event::TOO_LITTLE_ROOM,
                     place: need,
                 });
             }
-            NsonRead::Written(put_whole(out, s, w))
+            Writing::Written(put_whole(out, s, w))
         }
     }
 }
 
 // The length that the event of an NSON text takes in strict form, or the refusal.
-pub fn nson_len(s: &[u8]) -> NsonRead
-    ensures { λ r. ⌜ nsonRead r ≡ nsonNeeds (now (s .entry)) ⌝ }
+pub fn nson_len(s: &[u8]) -> Writing
+    ensures { λ r. ⌜ writing r ≡ nsonNeeds (now (s .entry)) ⌝ }
 {
     let walked = walk_text(s);
     match walked {
-        Walk::Refused(r) => NsonRead::Refused(r),
-        Walk::Done(w) => NsonRead::Written(w.len),
+        Walk::Refused(r) => Writing::Refused(r),
+        Walk::Done(w) => Writing::Written(w.len),
     }
 }

@@ -17,7 +17,7 @@ use Rattle.event.specs.Event.{Text, Tag}
 use Rattle.notepack.specs.declared.Part.{Part}
 use Rattle.notepack.specs.Unpack.{textOf, elementAt, elementsAt, tagAt, tagsAt}
 use Rattle.notepack.proofs.Viewing.{tag-apart}
-use Rattle.tagtext.proofs.Again.{part-again, elements-again}
+use Rattle.jsontags.proofs.Again.{part-again, elements-again}
 use Rattle.nson.specs.Nson.{bytesIn, word, words, tagCounts}
 use Rattle.nson.specs.Carries.{tagBytes, fits, allFit, tagsFit}
 use Rattle.nsonwrite.specs.Copy.{cutWord, cutWords, textsFrom, tagsOver, tagWords}

@@ -13,9 +13,9 @@ use borrow.Author.Tests.{leb-true, lt-leb}
 use Rattle.scan.specs.Choice.{pick, Answer, shown, refused}
 use Rattle.scan.specs.Place.{within}
 use Rattle.scan.proofs.Step.{pick-true}
-use Rattle.store.specs.Store.{Wrote}
-use Rattle.store.specs.Entry.{writes, leaves}
-use Rattle.store.proofs.EntryLaws.{short, fitted}
+use Rattle.buffer.specs.Store.{Wrote}
+use Rattle.buffer.specs.Entry.{writes, leaves}
+use Rattle.buffer.proofs.EntryLaws.{short, fitted}
 use Rattle.event.specs.Event.{Event}
 use Rattle.notepack.specs.declared.Head.{Head}
 use Rattle.notepack.specs.Unpack.{unpack}

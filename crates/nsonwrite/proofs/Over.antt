@@ -9,7 +9,7 @@ use native.Mathlib.Omega.{arith}
 use lib.ListN.{length}
 use lib.Dec.{leb}
 use Rattle.scan.specs.Choice.{pick, refused}
-use Rattle.store.specs.Store.{Wrote}
+use Rattle.buffer.specs.Store.{Wrote}
 use Rattle.decimal.specs.Decimal.{decimal}
 use Rattle.escape.specs.Escape.{nsonByte, escaped, nsonText}
 use Rattle.event.specs.Event.{Text, Tag}
@@ -22,9 +22,9 @@ use Rattle.notepack.specs.declared.NumberRead.{NumberRead}
 use Rattle.notepack.specs.declared.NumberRead.the-variants as number
 use Rattle.notepack.specs.Unpack.{textOf, tagCountAt}
 use Rattle.notepack.specs.Answers.{partRead, numberRead}
-use Rattle.tagtext.specs.Copy.{partAt, comma, elementsFrom, elementsEnd, tagsFrom}
-use Rattle.tagtext.proofs.Texts.{length-quoted}
-use Rattle.tagtext.proofs.Again.{elements-count}
+use Rattle.jsontags.specs.Copy.{partAt, comma, elementsFrom, elementsEnd, tagsFrom}
+use Rattle.jsontags.proofs.Texts.{length-quoted}
+use Rattle.jsontags.proofs.Again.{elements-count}
 use Rattle.nson.specs.Nson.{bytesIn}
 use Rattle.nson.specs.Carries.{fits, allFit, tagsFit}
 use Rattle.nsonwrite.specs.Copy.{cutWord, cutWords, textsFrom, tagsOver, tagWords, countsFrom, textsFit, textsLength}

@@ -9,8 +9,8 @@ use native.Mathlib.Nat.{zero-add}
 use native.Mathlib.Omega.{arith}
 use native.Mathlib.Decide.{decLt}
 use lib.ListN.{length, take, drop, take-append-drop, length-take, length-drop, length-append}
-use Rattle.store.specs.Store.{Buffer, puts, Wrote}
-use Rattle.store.proofs.Laws.{puts-append, puts-eq, puts-full}
+use Rattle.buffer.specs.Store.{Buffer, puts, Wrote}
+use Rattle.buffer.proofs.Laws.{puts-append, puts-eq, puts-full}
 
 take-front : (x y : List ℕ) → take (length x) (x ++ y) ≡ x
 take-front [] y = refl

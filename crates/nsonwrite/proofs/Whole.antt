@@ -25,9 +25,9 @@ use Rattle.notepack.specs.Answers.{Walked, walkAt}
 use Rattle.notepack.proofs.Sound.{head-gives, sound}
 use Rattle.notepack.proofs.Walking.{walked-packed}
 use Rattle.notepack.proofs.Viewing.{packed-head, packed-apart}
-use Rattle.tagtext.specs.TagText.{commaed, tagText, tagsText}
-use Rattle.tagtext.specs.Copy.{tagsFrom}
-use Rattle.tagtext.proofs.Again.{tags-again}
+use Rattle.jsontags.specs.TagText.{commaed, tagText, tagsText}
+use Rattle.jsontags.specs.Copy.{tagsFrom}
+use Rattle.jsontags.proofs.Again.{tags-again}
 use Rattle.nson.specs.Nson.{idLabel, pubkeyLabel, sigLabel, timeLabel, nsonLabel, kindLabel, contentLabel, tagsLabel, endLabel, bytesIn, counts, word, descriptors, field, headText, bodyText, nson}
 use Rattle.nson.specs.Carries.{tagBytes, fits, tagsFit, carries}
 use Rattle.nsonwrite.specs.Copy.{tagWords, countsFrom, textsFit, textsLength, lengthWith, measuredFit, headFrom, fieldOf, bodyFrom, wholeFrom}

@@ -9,7 +9,7 @@ use lib.ListN.{length, drop}
 use lib.Dec.{leb}
 use borrow.Author.Tests.{le-leb, leb-true}
 use Rattle.scan.specs.Choice.{pick, Answer, shown, refused}
-use Rattle.store.specs.Entry.{written, filled, writes, leaves}
+use Rattle.buffer.specs.Entry.{written, filled, writes, leaves}
 use Rattle.event.specs.Event.{Event}
 use Rattle.nson.specs.Nson.{nson}
 use Rattle.nson.specs.Carries.{carries}

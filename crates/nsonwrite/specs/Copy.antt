@@ -12,7 +12,7 @@ use Rattle.escape.specs.Escape.{nsonByte, escaped}
 use Rattle.event.specs.Event.{Text, Tag}
 use Rattle.notepack.specs.declared.Head.{Head}
 use Rattle.notepack.specs.Unpack.{textOf, tagCountAt}
-use Rattle.tagtext.specs.Copy.{orElse, partAt, elementsEnd, tagsFrom}
+use Rattle.jsontags.specs.Copy.{orElse, partAt, elementsEnd, tagsFrom}
 use Rattle.nson.specs.Nson.{idLabel, pubkeyLabel, sigLabel, timeLabel, nsonLabel, kindLabel, contentLabel, tagsLabel, endLabel, bytesIn}
 use Rattle.nson.specs.Carries.{fits, tagsFit}
 

@@ -1,5 +1,6 @@
 // The NSON of a packed event: measured first, and written where NSON can carry the event and there is room for it.
 use event::Refusal;
+use event::Writing;
 use notepack::Head;
 use notepack::NumberRead;
 use notepack::Part;
@@ -11,19 +12,14 @@ ghost use mathlib.Core.Bool.{false};
 ghost use lib.ListN.{length};
 ghost use lib.Dec.{leb};
 ghost use Rattle.scan.specs.Choice.{pick};
-ghost use Rattle.store.specs.Store.{Wrote};
+ghost use Rattle.buffer.specs.Store.{Wrote};
+ghost use Rattle.event.specs.Answers.{writing};
 ghost use Rattle.escape.specs.Escape.{nsonByte, escaped, nsonText};
 ghost use Rattle.notepack.specs.Unpack.{textOf};
-ghost use Rattle.tagtext.specs.Copy.{elementsFrom, elementsEnd, tagsFrom};
+ghost use Rattle.jsontags.specs.Copy.{elementsFrom, elementsEnd, tagsFrom};
 ghost use Rattle.nson.specs.Carries.{allFit, tagsFit};
 ghost use Rattle.nson.specs.Entries.{nsonWrites, writerLeaves};
 ghost use Rattle.nsonwrite.specs.Copy.{cutWord, textsFrom, cutWords, tagsOver, tagWords, countsFrom, textsFit, textsLength, lengthWith, measuredFit, headFrom, fieldOf, bodyFrom, wholeFrom};
-ghost use Rattle.nsonwrite.specs.Answers.{nsonWrite};
-
-pub enum NsonWrite {
-    Written(usize),
-    Refused(Refusal),
-}
 
 // What NSON can carry: the times, the longest text between two quotes, and the most bytes of descriptors.
 const MIN_CREATED_AT: u64 = 1_000_000_000;
@@ -48,8 +44,8 @@ struct Measured {
 fn put_word(out: &mut [u8], at: usize, n: usize) -> usize
     ensures { λ r. ⌜ Wrote (now (out .entry)) at (cutWord n) (now (out .exit)) r ⌝ }
 {
-    let o = store::put_byte(out, at, (n / 256 % 256) as u8);
-    store::put_byte(out, o, (n % 256) as u8)
+    let o = buffer::put_byte(out, at, (n / 256 % 256) as u8);
+    buffer::put_byte(out, o, (n % 256) as u8)
 }
 
 // The length of a part's text between its quotes, and whether NSON can carry it.
@@ -100,14 +96,14 @@ fn measure_elements(s: &[u8], from: usize, count: u64, d: &mut [u8], at: usize) 
     let mut next = from;
     let mut left = count;
     while 0 < left {
-        let found = tagtext::read_part(s, next);
+        let found = jsontags::read_part(s, next);
         match found {
             PartRead::Found(p, behind) => {
                 left -= 1;
                 let size = text_size(s, p);
                 let n = size.len;
                 fits = both(fits, size.fits);
-                len += n + 2 + tagtext::comma_len(left);
+                len += n + 2 + jsontags::comma_len(left);
                 out = put_word(d, out, n);
                 next = behind.at;
             }
@@ -145,10 +141,10 @@ fn measure_tags(s: &[u8], from: usize, count: u64, d: &mut [u8], at: usize) -> M
         match found {
             NumberRead::Number(texts, first) => {
                 left -= 1;
-                out = store::put_byte(d, out, (texts % 256) as u8);
+                out = buffer::put_byte(d, out, (texts % 256) as u8);
                 let elements = measure_elements(s, first.at, texts, d, out);
                 fits = both(fits, elements.fits);
-                len += elements.len + 2 + tagtext::comma_len(left);
+                len += elements.len + 2 + jsontags::comma_len(left);
                 out = elements.out;
                 next = elements.next;
             }
@@ -180,9 +176,9 @@ fn measure_texts(s: &[u8], h: Head, d: &mut [u8]) -> Measured
     let kind = decimal::decimal_len(h.kind);
     let size = text_size(s, content);
     let n = size.len;
-    let a = store::put_byte(d, 0, kind as u8);
+    let a = buffer::put_byte(d, 0, kind as u8);
     let b = put_word(d, a, n);
-    let c = store::put_byte(d, b, (h.tag_count % 256) as u8);
+    let c = buffer::put_byte(d, b, (h.tag_count % 256) as u8);
     let tags = measure_tags(s, h.tags_at, h.tag_count, d, c);
     Measured {
         fits: both(size.fits, tags.fits),
@@ -235,15 +231,15 @@ fn is_carried(h: Head, m: Measured) -> bool
 fn put_head(out: &mut [u8], at: usize, s: &[u8], h: Head) -> usize
     ensures { λ r. ⌜ Wrote (now (out .entry)) at (headFrom (now (s .entry)) h) (now (out .exit)) r ⌝ }
 {
-    let a = store::put_bytes(out, at, b"{\"id\":\"");
+    let a = buffer::put_bytes(out, at, b"{\"id\":\"");
     let b = hex::put_hex(out, a, scan::part(s, 0, 32));
-    let c = store::put_bytes(out, b, b"\",\"pubkey\":\"");
+    let c = buffer::put_bytes(out, b, b"\",\"pubkey\":\"");
     let d = hex::put_hex(out, c, scan::part(s, 32, 32));
-    let e = store::put_bytes(out, d, b"\",\"sig\":\"");
+    let e = buffer::put_bytes(out, d, b"\",\"sig\":\"");
     let f = hex::put_hex(out, e, scan::part(s, 64, 64));
-    let g = store::put_bytes(out, f, b"\",\"created_at\":");
+    let g = buffer::put_bytes(out, f, b"\",\"created_at\":");
     let i = decimal::put_decimal(out, g, h.created_at);
-    store::put_bytes(out, i, b",\"nson\":\"")
+    buffer::put_bytes(out, i, b",\"nson\":\"")
 }
 
 // The size, which counts the hex characters behind it, and the descriptors.
@@ -259,13 +255,13 @@ fn put_field(out: &mut [u8], at: usize, d: &[u8]) -> usize
 fn put_body(out: &mut [u8], at: usize, s: &[u8], h: Head) -> usize
     ensures { λ r. ⌜ Wrote (now (out .entry)) at (bodyFrom (now (s .entry)) h) (now (out .exit)) r ⌝ }
 {
-    let a = store::put_bytes(out, at, b"\",\"kind\":");
+    let a = buffer::put_bytes(out, at, b"\",\"kind\":");
     let b = decimal::put_decimal(out, a, h.kind);
-    let c = store::put_bytes(out, b, b",\"content\":\"");
-    let d = tagtext::put_text(false, out, c, s, h.content);
-    let e = store::put_bytes(out, d, b"\",\"tags\":[");
-    let f = tagtext::put_tags(false, out, e, s, h.tags_at, h.tag_count);
-    store::put_bytes(out, f, b"]}")
+    let c = buffer::put_bytes(out, b, b",\"content\":\"");
+    let d = jsontags::put_text(false, out, c, s, h.content);
+    let e = buffer::put_bytes(out, d, b"\",\"tags\":[");
+    let f = jsontags::put_tags(false, out, e, s, h.tags_at, h.tag_count);
+    buffer::put_bytes(out, f, b"]}")
 }
 
 // The whole text, with the descriptors d.
@@ -278,27 +274,27 @@ fn put_whole(out: &mut [u8], at: usize, s: &[u8], h: Head, d: &[u8]) -> usize
 }
 
 // The NSON of a packed event: the reader's refusals, 17 where NSON can't carry it, then 11 with the length needed; else written from the start.
-pub fn write_nson(s: &[u8], out: &mut [u8]) -> NsonWrite
-    ensures { λ r. ⌜ nsonWrite r ≡ nsonWrites (now (s .entry)) (now (out .entry)) ⌝ }
+pub fn write_nson(s: &[u8], out: &mut [u8]) -> Writing
+    ensures { λ r. ⌜ writing r ≡ nsonWrites (now (s .entry)) (now (out .entry)) ⌝ }
     ensures { λ _. ⌜ now (out .exit) ≡ writerLeaves (now (s .entry)) (now (out .entry)) ⌝ }
 {
     let walked = notepack::walk_packed(s);
     match walked {
-        Walk::Refused(r) => NsonWrite::Refused(r),
+        Walk::Refused(r) => Writing::Refused(r),
         Walk::Done(h, _) => {
             let mut descriptors = [0u8; 128];
             let m = measure(s, h, &mut descriptors);
             if is_carried(h, m) {
                 if out.len() < m.len {
-                    return NsonWrite::Refused(Refusal {
+                    return Writing::Refused(Refusal {
                         number: event::TOO_LITTLE_ROOM,
                         place: m.len,
                     });
                 }
                 let d = scan::part(&descriptors, 0, m.out);
-                return NsonWrite::Written(put_whole(out, 0, s, h, d));
+                return Writing::Written(put_whole(out, 0, s, h, d));
             }
-            NsonWrite::Refused(Refusal {
+            Writing::Refused(Refusal {
                 number: event::NOT_CARRIED,
                 place: 0,
             })

@@ -17,8 +17,9 @@ use Rattle.scan.proofs.Reading.{read-same, shown-reads}
 use Rattle.scan.proofs.Many.{many-apart, many-count}
 use Rattle.hex.specs.Hex.{hexes}
 use Rattle.hex.proofs.Texts.{length-hexes}
-use Rattle.event.specs.Event.{Text, Tag, Event, sameText}
-use Rattle.event.proofs.Laws.{same-text, text-same}
+use Rattle.scan.specs.Compare.{sameBytes}
+use Rattle.event.specs.Event.{Text, Tag, Event}
+use Rattle.scan.proofs.CompareLaws.{same-same, bytes-same}
 use Rattle.notepack.specs.declared.Part.{Part}
 use Rattle.notepack.specs.declared.Head.{Head}
 use Rattle.notepack.specs.Unpack.{bytesOf, textOf, elementAt, elementsAt, tagCountAt, tagAt, tagsAt}
@@ -45,17 +46,17 @@ not-so true f = absurd (f refl)
 not-so false f = refl
 
 -- `d` by its part is `d` by its text
-is-d-text : (s : List ℕ) (p : Part) → isD s p ≡ sameText (textOf s p) (100 ∷ [])
+is-d-text : (s : List ℕ) (p : Part) → isD s p ≡ sameBytes (textOf s p) (100 ∷ [])
 unfolding isD
 is-d-text s p = by-raw (p .raw) refl
   where
-    by-raw : (r : Bool) → p .raw ≡ r → pick (p .raw) false (sameText (bytesOf s p) (100 ∷ [])) ≡ sameText (textOf s p) (100 ∷ [])
+    by-raw : (r : Bool) → p .raw ≡ r → pick (p .raw) false (sameBytes (bytesOf s p) (100 ∷ [])) ≡ sameBytes (textOf s p) (100 ∷ [])
     by-raw true e =
         let n = length-hexes (bytesOf s p) in
-        let f = not-so (sameText (hexes (bytesOf s p)) (100 ∷ [])) (λ h. let k = ap length (text-same (hexes (bytesOf s p)) (100 ∷ []) h) in omega (arith, n, k)) in
-        ap (λ (r : Bool). pick r false (sameText (bytesOf s p) (100 ∷ []))) e ∙ sym (ap (λ (l : List ℕ). sameText l (100 ∷ [])) (text-raw s p e) ∙ f)
+        let f = not-so (sameBytes (hexes (bytesOf s p)) (100 ∷ [])) (λ h. let k = ap length (bytes-same (hexes (bytesOf s p)) (100 ∷ []) h) in omega (arith, n, k)) in
+        ap (λ (r : Bool). pick r false (sameBytes (bytesOf s p) (100 ∷ []))) e ∙ sym (ap (λ (l : List ℕ). sameBytes l (100 ∷ [])) (text-raw s p e) ∙ f)
     by-raw false e =
-        ap (λ (r : Bool). pick r false (sameText (bytesOf s p) (100 ∷ []))) e ∙ sym (ap (λ (l : List ℕ). sameText l (100 ∷ [])) (text-plain s p e))
+        ap (λ (r : Bool). pick r false (sameBytes (bytesOf s p) (100 ∷ []))) e ∙ sym (ap (λ (l : List ℕ). sameBytes l (100 ∷ [])) (text-plain s p e))
 
 -- a tag with an element, taken apart: its first element and the rest
 tag-first : (s : List ℕ) (n c : ℕ) (v : Read (List Part)) → elementsAt (suc n) s c ≡ shown v
@@ -113,7 +114,7 @@ module _ (s : List ℕ) (bytes : IsBytes s) where
 sameLabelText : Label → Label → Bool
 sameLabelText none l = false
 sameLabelText (label a) none = false
-sameLabelText (label a) (label b) = sameText a b
+sameLabelText (label a) (label b) = sameBytes a b
 
 pick-no : (t : Bool) → pick t false false ≡ false
 pick-no true = refl
@@ -136,20 +137,20 @@ key-from e = go (labelOf (e .tags))
 
 -- the same kind: the pubkeys and, for a labelled kind, the labels decide
 keys-alike : (r u : Bool) (p q : List ℕ) (k : ℕ) (a b : Label)
-    → sameKey (keyFrom r u p k a) (keyFrom r u q k b) ≡ pick (sameText p q) (pick r true (pick u (sameLabelText a b) false)) false
-unfolding keyFrom sameLabelText sameText
+    → sameKey (keyFrom r u p k a) (keyFrom r u q k b) ≡ pick (sameBytes p q) (pick r true (pick u (sameLabelText a b) false)) false
+unfolding keyFrom sameLabelText sameBytes
 keys-alike true u p q k none none = rw (eq-eqb k k refl)
 keys-alike true u p q k none (label y) = rw (eq-eqb k k refl)
 keys-alike true u p q k (label x) none = rw (eq-eqb k k refl)
 keys-alike true u p q k (label x) (label y) = rw (eq-eqb k k refl)
-keys-alike false true p q k none none = sym (pick-no (sameText p q))
-keys-alike false true p q k none (label y) = sym (pick-no (sameText p q))
-keys-alike false true p q k (label x) none = sym (pick-no (sameText p q))
+keys-alike false true p q k none none = sym (pick-no (sameBytes p q))
+keys-alike false true p q k none (label y) = sym (pick-no (sameBytes p q))
+keys-alike false true p q k (label x) none = sym (pick-no (sameBytes p q))
 keys-alike false true p q k (label x) (label y) = rw (eq-eqb k k refl)
-keys-alike false false p q k none none = sym (pick-no (sameText p q))
-keys-alike false false p q k none (label y) = sym (pick-no (sameText p q))
-keys-alike false false p q k (label x) none = sym (pick-no (sameText p q))
-keys-alike false false p q k (label x) (label y) = sym (pick-no (sameText p q))
+keys-alike false false p q k none none = sym (pick-no (sameBytes p q))
+keys-alike false false p q k none (label y) = sym (pick-no (sameBytes p q))
+keys-alike false false p q k (label x) none = sym (pick-no (sameBytes p q))
+keys-alike false false p q k (label x) (label y) = sym (pick-no (sameBytes p q))
 
 -- keys of two kinds are never the same
 keys-apart : (r u r′ u′ : Bool) (p q : List ℕ) (k j : ℕ) (a b : Label) → eqb k j ≡ false → sameKey (keyFrom r u p k a) (keyFrom r′ u′ q j b) ≡ false

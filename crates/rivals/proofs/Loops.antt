@@ -17,8 +17,8 @@ use Rattle.scan.proofs.Reading.{shown-reads}
 use Rattle.scan.proofs.Step.{rest-none, rest-more}
 use Rattle.hex.specs.Hex.{digitOf, hexes}
 use Rattle.hex.proofs.Texts.{hexes-injective}
-use Rattle.event.specs.Event.{sameText}
-use Rattle.event.proofs.Laws.{same-text, text-same}
+use Rattle.scan.specs.Compare.{sameBytes}
+use Rattle.scan.proofs.CompareLaws.{same-same, bytes-same, both-ways}
 use Rattle.notepack.specs.declared.Cursor.{Cursor}
 use Rattle.notepack.specs.declared.Part.{Part}
 use Rattle.notepack.specs.declared.PartRead.{PartRead}
@@ -32,63 +32,7 @@ use Rattle.strict.specs.Copy.{elementsEnd}
 use Rattle.rivals.specs.declared.LabelRead.{LabelRead}
 use Rattle.rivals.specs.declared.LabelRead.the-variants.{Found, Nothing}
 use Rattle.rivals.specs.Label.{isD, secondAt, labelAt}
-use Rattle.rivals.specs.Texts.{lower}
-
--- ---- the same bytes
-
-module _ (a b : List ℕ) (i : ℕ) where
-  pub same-again : sameText a b ≡ sameText (drop i a) (drop i b) → i < length a → i < length b → getD a i 0 ≡ getD b i 0
-      → sameText a b ≡ sameText (drop (i + 1) a) (drop (i + 1) b)
-  unfolding sameText
-  same-again v h l e = v ∙ rw (rest-more a i, rest-more b i, eq-eqb _ _ e)
-
-  pub same-short : sameText a b ≡ sameText (drop i a) (drop i b) → i < length a → length b ≤ i → false ≡ sameText a b
-  unfolding sameText
-  same-short v h l = sym (v ∙ rw (rest-more a i, rest-none b i))
-
-  pub same-other : sameText a b ≡ sameText (drop i a) (drop i b) → i < length a → i < length b → (getD a i 0 ≡ getD b i 0 → ⊥) → false ≡ sameText a b
-  unfolding sameText
-  same-other v h l n = sym (v ∙ rw (rest-more a i, rest-more b i, ne-eqb _ _ n))
-
-  pub same-left : sameText a b ≡ sameText (drop i a) (drop i b) → length a ≤ i → i < length b → false ≡ sameText a b
-  unfolding sameText
-  same-left v h l = sym (v ∙ rw (rest-none a i, rest-more b i))
-
-  pub same-whole : sameText a b ≡ sameText (drop i a) (drop i b) → length a ≤ i → length b ≤ i → true ≡ sameText a b
-  unfolding sameText
-  same-whole v h l = sym (v ∙ rw (rest-none a i, rest-none b i))
-
-pub ruleset sames = (same-again, same-short, same-other, same-left, same-whole)
-
--- ---- lower as bytes
-
-module _ (a b : List ℕ) (i : ℕ) where
-  pub lower-again : lower a b ≡ lower (drop i a) (drop i b) → i < length a → i < length b → getD a i 0 ≡ getD b i 0
-      → lower a b ≡ lower (drop (i + 1) a) (drop (i + 1) b)
-  unfolding lower
-  lower-again v h l e = v ∙ rw (rest-more a i, rest-more b i, le-ltb (getD a i 0) (getD b i 0) (omega (arith, e)), eq-eqb _ _ e)
-
-  pub lower-short : lower a b ≡ lower (drop i a) (drop i b) → i < length a → length b ≤ i → false ≡ lower a b
-  unfolding lower
-  lower-short v h l = sym (v ∙ rw (rest-more a i, rest-none b i))
-
-  pub lower-so : lower a b ≡ lower (drop i a) (drop i b) → i < length a → i < length b → getD a i 0 < getD b i 0 → true ≡ lower a b
-  unfolding lower
-  lower-so v h l e = sym (v ∙ rw (rest-more a i, rest-more b i, lt-ltb _ _ e))
-
-  pub lower-not : lower a b ≡ lower (drop i a) (drop i b) → i < length a → i < length b → getD b i 0 ≤ getD a i 0 → (getD a i 0 ≡ getD b i 0 → ⊥) → false ≡ lower a b
-  unfolding lower
-  lower-not v h l e n = sym (v ∙ rw (rest-more a i, rest-more b i, le-ltb _ _ e, ne-eqb _ _ n))
-
-  pub lower-left : lower a b ≡ lower (drop i a) (drop i b) → length a ≤ i → i < length b → true ≡ lower a b
-  unfolding lower
-  lower-left v h l = sym (v ∙ rw (rest-none a i, rest-more b i))
-
-  pub lower-whole : lower a b ≡ lower (drop i a) (drop i b) → length a ≤ i → length b ≤ i → false ≡ lower a b
-  unfolding lower
-  lower-whole v h l = sym (v ∙ rw (rest-none a i, rest-none b i))
-
-pub ruleset lowers = (lower-again, lower-short, lower-so, lower-not, lower-left, lower-whole)
+use Rattle.scan.specs.Compare.{lower}
 
 -- ---- the hex of bytes
 
@@ -97,18 +41,18 @@ pick-false true = refl
 pick-false false = refl
 
 module _ (a t : List ℕ) (i j : ℕ) where
-  pub hex-again : sameText (hexes a) t ≡ sameText (hexes (drop i a)) (drop j t) → i < length a → 2 ≤ length t - j
+  pub hex-again : sameBytes (hexes a) t ≡ sameBytes (hexes (drop i a)) (drop j t) → i < length a → 2 ≤ length t - j
       → digitOf (getD a i 0 / 16 % 16) ≡ getD t j 0 → digitOf (getD a i 0 % 16) ≡ getD t (j + 1) 0 → getD a i 0 < 256
-      → sameText (hexes a) t ≡ sameText (hexes (drop (i + 1) a)) (drop (j + 2) t)
-  unfolding sameText
+      → sameBytes (hexes a) t ≡ sameBytes (hexes (drop (i + 1) a)) (drop (j + 2) t)
+  unfolding sameBytes
   hex-again v h l e f b =
       let k : j + 1 + 1 ≡ j + 2 = omega arith in
       let m : getD a i 0 / 16 % 16 ≡ getD a i 0 / 16 = omega arith in
       let u = rw m at e in
       v ∙ rw (rest-more a i h, rest-more t j (omega arith), rest-more t (j + 1) (omega arith), eq-eqb _ _ u, eq-eqb _ _ f, k)
 
-  pub hex-short : sameText (hexes a) t ≡ sameText (hexes (drop i a)) (drop j t) → i < length a → length t - j < 2 → false ≡ sameText (hexes a) t
-  unfolding sameText
+  pub hex-short : sameBytes (hexes a) t ≡ sameBytes (hexes (drop i a)) (drop j t) → i < length a → length t - j < 2 → false ≡ sameBytes (hexes a) t
+  unfolding sameBytes
   hex-short v h l =
       sym
       (v
@@ -117,45 +61,37 @@ module _ (a t : List ℕ) (i j : ℕ) where
       (λ k. rw (rest-more t j k, rest-none t (j + 1) (omega arith)) (pick-false (eqb (digitOf (getD a i 0 / 16)) (getD t j 0))))
       (λ n. rw (rest-none t j (omega (arith, n))))))
 
-  pub hex-first : sameText (hexes a) t ≡ sameText (hexes (drop i a)) (drop j t) → i < length a → 2 ≤ length t - j
-      → (digitOf (getD a i 0 / 16 % 16) ≡ getD t j 0 → ⊥) → getD a i 0 < 256 → false ≡ sameText (hexes a) t
-  unfolding sameText
+  pub hex-first : sameBytes (hexes a) t ≡ sameBytes (hexes (drop i a)) (drop j t) → i < length a → 2 ≤ length t - j
+      → (digitOf (getD a i 0 / 16 % 16) ≡ getD t j 0 → ⊥) → getD a i 0 < 256 → false ≡ sameBytes (hexes a) t
+  unfolding sameBytes
   hex-first v h l n b =
       let m : getD a i 0 / 16 % 16 ≡ getD a i 0 / 16 = omega arith in
       let u = rw m at n in
       sym (v ∙ rw (rest-more a i h, rest-more t j (omega arith), ne-eqb _ _ u))
 
-  pub hex-second : sameText (hexes a) t ≡ sameText (hexes (drop i a)) (drop j t) → i < length a → 2 ≤ length t - j
-      → digitOf (getD a i 0 / 16 % 16) ≡ getD t j 0 → (digitOf (getD a i 0 % 16) ≡ getD t (j + 1) 0 → ⊥) → getD a i 0 < 256 → false ≡ sameText (hexes a) t
-  unfolding sameText
+  pub hex-second : sameBytes (hexes a) t ≡ sameBytes (hexes (drop i a)) (drop j t) → i < length a → 2 ≤ length t - j
+      → digitOf (getD a i 0 / 16 % 16) ≡ getD t j 0 → (digitOf (getD a i 0 % 16) ≡ getD t (j + 1) 0 → ⊥) → getD a i 0 < 256 → false ≡ sameBytes (hexes a) t
+  unfolding sameBytes
   hex-second v h l e n b =
       let m : getD a i 0 / 16 % 16 ≡ getD a i 0 / 16 = omega arith in
       let u = rw m at e in
       sym (v ∙ rw (rest-more a i h, rest-more t j (omega arith), rest-more t (j + 1) (omega arith), eq-eqb _ _ u, ne-eqb _ _ n))
 
-  pub hex-left : sameText (hexes a) t ≡ sameText (hexes (drop i a)) (drop j t) → length a ≤ i → j < length t → false ≡ sameText (hexes a) t
-  unfolding sameText
+  pub hex-left : sameBytes (hexes a) t ≡ sameBytes (hexes (drop i a)) (drop j t) → length a ≤ i → j < length t → false ≡ sameBytes (hexes a) t
+  unfolding sameBytes
   hex-left v h l = sym (v ∙ rw (rest-none a i, rest-more t j))
 
-  pub hex-whole : sameText (hexes a) t ≡ sameText (hexes (drop i a)) (drop j t) → length a ≤ i → length t ≤ j → true ≡ sameText (hexes a) t
-  unfolding sameText
+  pub hex-whole : sameBytes (hexes a) t ≡ sameBytes (hexes (drop i a)) (drop j t) → length a ≤ i → length t ≤ j → true ≡ sameBytes (hexes a) t
+  unfolding sameBytes
   hex-whole v h l = sym (v ∙ rw (rest-none a i, rest-none t j))
 
 -- ---- texts, whichever way each is stored
 
-both-ways : (x y : Bool) → (x ≡ true → y ≡ true) → (y ≡ true → x ≡ true) → x ≡ y
-both-ways true y f g = sym (f refl)
-both-ways false true f g = g refl
-both-ways false false f g = refl
-
-pub same-sym : (a b : List ℕ) → sameText a b ≡ sameText b a
-same-sym a b = both-ways (sameText a b) (sameText b a) (λ h. rw (text-same a b h) (same-text b)) (λ h. rw (text-same b a h) (same-text a))
-
-pub same-hexes : {a b : List ℕ} → IsBytes a → IsBytes b → sameText (hexes a) (hexes b) ≡ sameText a b
+pub same-hexes : {a b : List ℕ} → IsBytes a → IsBytes b → sameBytes (hexes a) (hexes b) ≡ sameBytes a b
 same-hexes {a} {b} p q =
-    both-ways (sameText (hexes a) (hexes b)) (sameText a b)
-    (λ h. rw (hexes-injective p q (text-same (hexes a) (hexes b) h)) (same-text b))
-    (λ h. rw (text-same a b h) (same-text (hexes b)))
+    both-ways (sameBytes (hexes a) (hexes b)) (sameBytes a b)
+    (λ h. rw (hexes-injective p q (bytes-same (hexes a) (hexes b) h)) (same-same b))
+    (λ h. rw (bytes-same a b h) (same-same (hexes b)))
 
 -- ---- the label
 

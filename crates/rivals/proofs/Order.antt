@@ -12,7 +12,7 @@ use Rattle.scan.proofs.Step.{false-true}
 use Rattle.event.specs.Event.{Event}
 use Rattle.rivals.specs.declared.Kept.{Kept}
 use Rattle.rivals.specs.declared.Kept.the-variants.{First, Second, NotRivals}
-use Rattle.rivals.specs.Texts.{lower}
+use Rattle.scan.specs.Compare.{lower}
 use Rattle.rivals.specs.Rivals.{keeps}
 
 -- ---- one step of a comparison, over what the rest says

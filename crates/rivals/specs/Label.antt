@@ -5,7 +5,7 @@ use mathlib.Core.List.{List, [], _∷_}
 use lib.ListN.{take, drop}
 use lib.Dec.{ltb, eqb}
 use Rattle.scan.specs.Choice.{pick, Answer, Read}
-use Rattle.event.specs.Event.{sameText}
+use Rattle.scan.specs.Compare.{sameBytes}
 use Rattle.notepack.specs.declared.Head.{Head}
 use Rattle.notepack.specs.declared.Part.{Part}
 use Rattle.notepack.specs.Unpack.{bytesOf, textOf, elementAt, tagCountAt}
@@ -15,11 +15,11 @@ use Rattle.rivals.specs.declared.Kept.the-variants.{First, Second}
 use Rattle.rivals.specs.declared.LabelRead.{LabelRead}
 use Rattle.rivals.specs.declared.LabelRead.the-variants.{Found, Nothing}
 use Rattle.rivals.specs.Rivals.{isReplaceable, isLabelled}
-use Rattle.rivals.specs.Texts.{lower}
+use Rattle.scan.specs.Compare.{lower}
 
 -- whether a part's text is `d`: never a raw part's, whose text has an even length
 unfoldable pub isD : List ℕ → Part → Bool
-isD s p = pick (p .raw) false (sameText (bytesOf s p) (100 ∷ []))
+isD s p = pick (p .raw) false (sameBytes (bytesOf s p) (100 ∷ []))
 
 -- the second element of a tag with n, where the first ends at `at`
 unfoldable pub secondAt : ℕ → List ℕ → ℕ → LabelRead
@@ -37,13 +37,13 @@ labelAt (suc n) s at =
 abbrev pub sameLabels : List ℕ → LabelRead → List ℕ → LabelRead → Bool
 sameLabels s Nothing t b = false
 sameLabels s (Found p) t Nothing = false
-sameLabels s (Found p) t (Found q) = sameText (textOf s p) (textOf t q)
+sameLabels s (Found p) t (Found q) = sameBytes (textOf s p) (textOf t q)
 
 -- whether two packed events have the same key, by what stands in front of their tags and their labels
 unfoldable pub sameHeads : List ℕ → Head → List ℕ → Head → Bool
 sameHeads s h t k =
     pick (eqb (h .kind) (k .kind))
-    (pick (sameText (take 32 (drop 32 s)) (take 32 (drop 32 t)))
+    (pick (sameBytes (take 32 (drop 32 s)) (take 32 (drop 32 t)))
     (pick (isReplaceable (h .kind)) true
     (pick (isLabelled (h .kind)) (sameLabels s (labelAt (h .«tag_count») s (h .«tags_at»)) t (labelAt (k .«tag_count») t (k .«tags_at»))) false))
     false)

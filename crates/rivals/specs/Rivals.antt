@@ -5,11 +5,12 @@ use mathlib.Core.List.{List, [], _∷_}
 use lib.Dec.{ltb, eqb}
 use Rattle.scan.specs.Choice.{pick, Answer, shown, andThen}
 use Rattle.scan.specs.Place.{within}
-use Rattle.event.specs.Event.{Text, Tag, Event, sameText}
+use Rattle.scan.specs.Compare.{sameBytes}
+use Rattle.event.specs.Event.{Text, Tag, Event}
 use Rattle.notepack.specs.Unpack.{unpack}
 use Rattle.rivals.specs.declared.Kept.{Kept}
 use Rattle.rivals.specs.declared.Kept.the-variants.{First, Second, NotRivals}
-use Rattle.rivals.specs.Texts.{lower}
+use Rattle.scan.specs.Compare.{lower}
 
 -- kinds 0, 3 and 10000-19999 are replaceable
 unfoldable pub isReplaceable : ℕ → Bool
@@ -27,7 +28,7 @@ pub data Label : Type 0 where
 -- whether a tag's first text is `d`
 abbrev pub isDTag : Tag → Bool
 isDTag [] = false
-isDTag (t ∷ ts) = sameText t (100 ∷ [])
+isDTag (t ∷ ts) = sameBytes t (100 ∷ [])
 
 abbrev pub secondText : Tag → Label
 secondText [] = none
@@ -61,7 +62,7 @@ keyOf e =
 abbrev pub sameKey : Keyed → Keyed → Bool
 sameKey keyless k = false
 sameKey (keyed a) keyless = false
-sameKey (keyed a) (keyed b) = pick (eqb (a .kind) (b .kind)) (pick (sameText (a .pubkey) (b .pubkey)) (sameText (a .text) (b .text)) false) false
+sameKey (keyed a) (keyed b) = pick (eqb (a .kind) (b .kind)) (pick (sameBytes (a .pubkey) (b .pubkey)) (sameBytes (a .text) (b .text)) false) false
 
 -- the later created_at, then the lower id as bytes, then the first
 unfoldable pub keeps : Event → Event → Kept

@@ -9,11 +9,11 @@ ghost use Prim.Native.Nat.{_≤_};
 ghost use mathlib.Core.Path.{_≡_};
 ghost use mathlib.Core.List.{[], _∷_};
 ghost use lib.ListN.{length};
-ghost use Rattle.event.specs.Event.{sameText};
+ghost use Rattle.scan.specs.Compare.{sameBytes};
 ghost use Rattle.hex.specs.Hex.{hexes};
 ghost use Rattle.notepack.specs.Unpack.{textOf};
 ghost use Rattle.strict.specs.Copy.{elementsEnd};
-ghost use Rattle.rivals.specs.Texts.{lower};
+ghost use Rattle.scan.specs.Compare.{lower};
 ghost use Rattle.rivals.specs.Rivals.{isReplaceable, isLabelled, rivals};
 ghost use Rattle.rivals.specs.Label.{isD, secondAt, labelAt, sameLabels, sameHeads, keptHeads};
 ghost use Rattle.rivals.specs.Answers.{rivalsRead, keptBytes};
@@ -36,29 +36,9 @@ enum LabelRead {
     Nothing,
 }
 
-// Whether two byte strings are the same.
-fn same_bytes(a: &[u8], b: &[u8]) -> bool
-    ensures { λ r. ⌜ r ≡ sameText (now (a .entry)) (now (b .entry)) ⌝ }
-{
-    let mut i = 0;
-    while i < a.len() {
-        if b.len() <= i {
-            return false;
-        }
-        if a[i] != b[i] {
-            return false;
-        }
-        i += 1;
-    }
-    if i < b.len() {
-        return false;
-    }
-    true
-}
-
 // Whether a text is the lowercase hex of the bytes a.
 fn is_hex_of(a: &[u8], t: &[u8]) -> bool
-    ensures { λ r. ⌜ r ≡ sameText (hexes (now (a .entry))) (now (t .entry)) ⌝ }
+    ensures { λ r. ⌜ r ≡ sameBytes (hexes (now (a .entry))) (now (t .entry)) ⌝ }
 {
     let mut i = 0;
     let mut j = 0;
@@ -81,45 +61,22 @@ fn is_hex_of(a: &[u8], t: &[u8]) -> bool
     true
 }
 
-// Whether a is lower than b as bytes.
-fn is_lower(a: &[u8], b: &[u8]) -> bool
-    ensures { λ r. ⌜ r ≡ lower (now (a .entry)) (now (b .entry)) ⌝ }
-{
-    let mut i = 0;
-    while i < a.len() {
-        if b.len() <= i {
-            return false;
-        }
-        if a[i] < b[i] {
-            return true;
-        }
-        if a[i] != b[i] {
-            return false;
-        }
-        i += 1;
-    }
-    if i < b.len() {
-        return true;
-    }
-    false
-}
-
 // Whether two parts of two inputs have the same text, whichever way each is stored.
 fn same_text(s: &[u8], p: Part, t: &[u8], q: Part) -> bool
-    ensures { λ r. ⌜ r ≡ sameText (textOf (now (s .entry)) p) (textOf (now (t .entry)) q) ⌝ }
+    ensures { λ r. ⌜ r ≡ sameBytes (textOf (now (s .entry)) p) (textOf (now (t .entry)) q) ⌝ }
 {
     let a = scan::part(s, p.at, p.len);
     let b = scan::part(t, q.at, q.len);
     if p.raw {
         if q.raw {
-            return same_bytes(a, b);
+            return scan::same_bytes(a, b);
         }
         return is_hex_of(a, b);
     }
     if q.raw {
         return is_hex_of(b, a);
     }
-    same_bytes(a, b)
+    scan::same_bytes(a, b)
 }
 
 // Whether a part's text is `d`.
@@ -129,7 +86,7 @@ fn is_d(s: &[u8], p: Part) -> bool
     if p.raw {
         return false;
     }
-    same_bytes(scan::part(s, p.at, p.len), b"d")
+    scan::same_bytes(scan::part(s, p.at, p.len), b"d")
 }
 
 // The place behind count elements.
@@ -239,7 +196,7 @@ fn same_heads(s: &[u8], h: Head, t: &[u8], k: Head) -> bool
     ensures { λ r. ⌜ r ≡ sameHeads (now (s .entry)) h (now (t .entry)) k ⌝ }
 {
     if h.kind == k.kind {
-        if same_bytes(scan::part(s, 32, 32), scan::part(t, 32, 32)) {
+        if scan::same_bytes(scan::part(s, 32, 32), scan::part(t, 32, 32)) {
             if is_replaceable(h.kind) {
                 return true;
             }
@@ -261,7 +218,7 @@ fn kept_heads(s: &[u8], h: Head, t: &[u8], k: Head) -> Kept
     if h.created_at < k.created_at {
         return Kept::Second;
     }
-    if is_lower(scan::part(t, 0, 32), scan::part(s, 0, 32)) {
+    if scan::is_lower(scan::part(t, 0, 32), scan::part(s, 0, 32)) {
         return Kept::Second;
     }
     Kept::First

@@ -4,3 +4,4 @@ pub mod PlaceLaws
 pub mod Reading
 pub mod AllLaws
 pub mod Many
+pub mod CompareLaws

@@ -3,6 +3,7 @@ ghost use Prim.Native.Nat.{_-_};
 ghost use mathlib.Core.Path.{_≡_};
 ghost use lib.ListN.{length, take, drop};
 ghost use Rattle.scan.specs.Place.{byteAt, standsAt, within, runAt};
+ghost use Rattle.scan.specs.Compare.{sameBytes, lower};
 
 // The byte at a place, and 0 past the end.
 pub fn byte_at(s: &[u8], at: usize) -> u8
@@ -73,4 +74,47 @@ pub fn run_end(s: &[u8], at: usize, low: u8, high: u8) -> usize
         }
     }
     i
+}
+
+// Whether two byte strings are the same.
+pub fn same_bytes(a: &[u8], b: &[u8]) -> bool
+    ensures { λ r. ⌜ r ≡ sameBytes (now (a .entry)) (now (b .entry)) ⌝ }
+{
+    let mut i = 0;
+    while i < a.len() {
+        if b.len() <= i {
+            return false;
+        }
+        if a[i] != b[i] {
+            return false;
+        }
+        i += 1;
+    }
+    if i < b.len() {
+        return false;
+    }
+    true
+}
+
+// Whether a is lower than b as bytes.
+pub fn is_lower(a: &[u8], b: &[u8]) -> bool
+    ensures { λ r. ⌜ r ≡ lower (now (a .entry)) (now (b .entry)) ⌝ }
+{
+    let mut i = 0;
+    while i < a.len() {
+        if b.len() <= i {
+            return false;
+        }
+        if a[i] < b[i] {
+            return true;
+        }
+        if a[i] != b[i] {
+            return false;
+        }
+        i += 1;
+    }
+    if i < b.len() {
+        return true;
+    }
+    false
 }

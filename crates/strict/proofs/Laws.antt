@@ -14,13 +14,14 @@ use Rattle.scan.specs.Choice.{pick, Answer, shown, refused, Read, read, andThen
 use Rattle.scan.specs.Span.{IsBytes}
 use Rattle.scan.proofs.Reading.{read-same}
 use Rattle.scan.proofs.Many.{many-apart, many-count}
-use Rattle.store.specs.Store.{Wrote}
-use Rattle.store.specs.Entry.{writes, leaves}
-use Rattle.store.proofs.EntryLaws.{short, fitted}
+use Rattle.buffer.specs.Store.{Wrote}
+use Rattle.buffer.specs.Entry.{writes, leaves}
+use Rattle.buffer.proofs.EntryLaws.{short, fitted}
 use Rattle.varint.specs.Uleb.{uleb}
 use Rattle.event.specs.declared.Refusal.{Refusal}
-use Rattle.event.specs.Event.{Event, sameText}
-use Rattle.event.proofs.Laws.{same-text, text-same}
+use Rattle.scan.specs.Compare.{sameBytes}
+use Rattle.event.specs.Event.{Event}
+use Rattle.scan.proofs.CompareLaws.{same-same, bytes-same}
 use Rattle.notepack.specs.declared.Part.{Part}
 use Rattle.notepack.specs.declared.Head.{Head}
 use Rattle.notepack.specs.declared.Tally.{Tally}
@@ -188,9 +189,9 @@ pub strict-exactly : (s : List ℕ) → (strict s ≡ shown true) ↔ ((e : Even
 unfolding strict
 strict-exactly s = (λ h. there (unpack s) refl h, λ p. back (p .0) (p .1) (p .2))
   where
-    there : (r : Answer Event) → unpack s ≡ r → andThen r (λ (e : Event). shown (sameText s (pack e))) ≡ shown true → (e : Event) × (unpack s ≡ shown e) × (s ≡ pack e)
-    there (shown e) u h = let t : sameText s (pack e) ≡ true = cc in (e, u, text-same s (pack e) t)
+    there : (r : Answer Event) → unpack s ≡ r → andThen r (λ (e : Event). shown (sameBytes s (pack e))) ≡ shown true → (e : Event) × (unpack s ≡ shown e) × (s ≡ pack e)
+    there (shown e) u h = let t : sameBytes s (pack e) ≡ true = cc in (e, u, bytes-same s (pack e) t)
     there (refused n q) u h = let z : _≡_ {A = ℕ} 0 1 = cc in absurd (omega arith)
 
-    back : (e : Event) → unpack s ≡ shown e → s ≡ pack e → andThen (unpack s) (λ (x : Event). shown (sameText s (pack x))) ≡ shown true
-    back e u q = rw u (ap shown (ap (λ (l : List ℕ). sameText l (pack e)) q ∙ same-text (pack e)))
+    back : (e : Event) → unpack s ≡ shown e → s ≡ pack e → andThen (unpack s) (λ (x : Event). shown (sameBytes s (pack x))) ≡ shown true
+    back e u q = rw u (ap shown (ap (λ (l : List ℕ). sameBytes l (pack e)) q ∙ same-same (pack e)))

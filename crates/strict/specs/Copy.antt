@@ -4,7 +4,7 @@ use mathlib.Core.List.{List, [], _++_}
 use lib.ListN.{take}
 use Rattle.scan.specs.Choice.{Answer, shown, refused, Read}
 use mathlib.Core.Path.{_≡_}
-use Rattle.store.specs.Store.{Wrote}
+use Rattle.buffer.specs.Store.{Wrote}
 use Rattle.varint.specs.Uleb.{uleb}
 use Rattle.event.specs.Event.{Event}
 use Rattle.notepack.specs.declared.Part.{Part}

@@ -3,10 +3,10 @@ use Prim.Native.Nat.{ℕ}
 use mathlib.Core.Bool.{Bool}
 use mathlib.Core.List.{List}
 use Rattle.scan.specs.Choice.{Answer, shown, andThen}
-use Rattle.event.specs.Event.{sameText}
+use Rattle.scan.specs.Compare.{sameBytes}
 use Rattle.notepack.specs.Strict.{pack}
 use Rattle.notepack.specs.Unpack.{unpack}
 
 -- yes or no; bytes that the reader refuses get its refusal
 unfoldable pub strict : List ℕ → Answer Bool
-strict s = andThen (unpack s) λ e. shown (sameText s (pack e))
+strict s = andThen (unpack s) λ e. shown (sameBytes s (pack e))

@@ -1,5 +1,6 @@
 // The strict form of a packed event: the question whether bytes are it, and the writer.
 use event::Refusal;
+use event::Writing;
 use notepack::Head;
 use notepack::NumberRead;
 use notepack::Part;
@@ -10,23 +11,19 @@ ghost use Prim.Native.Nat.{_≤_};
 ghost use mathlib.Core.Path.{_≡_};
 ghost use lib.ListN.{length};
 ghost use Rattle.scan.specs.Choice.{shown};
-ghost use Rattle.store.specs.Store.{Wrote};
-ghost use Rattle.store.specs.Entry.{writes, leaves};
+ghost use Rattle.buffer.specs.Store.{Wrote};
+ghost use Rattle.buffer.specs.Entry.{writes, leaves};
+ghost use Rattle.event.specs.Answers.{writing};
 ghost use Rattle.hex.specs.Hex.{hexes};
 ghost use Rattle.notepack.specs.Strict.{packElement, pack};
 ghost use Rattle.notepack.specs.Unpack.{textOf, unpack};
 ghost use Rattle.notepack.specs.Answers.{walkAt};
 ghost use Rattle.strict.specs.Strict.{strict};
 ghost use Rattle.strict.specs.Copy.{elementsText, elementsEnd, tagsText, headText, Copies};
-ghost use Rattle.strict.specs.Answers.{strictRead, packWrite};
+ghost use Rattle.strict.specs.Answers.{strictRead};
 
 pub enum StrictRead {
     Strict(bool),
-    Refused(Refusal),
-}
-
-pub enum PackWrite {
-    Written(usize),
     Refused(Refusal),
 }
 
@@ -62,7 +59,7 @@ pub fn put_text(out: &mut [u8], at: usize, t: &[u8]) -> usize
         return hex::put_unhex(out, o, t);
     }
     let o = varint::put_varint(out, at, 2 * t.len() as u64);
-    store::put_bytes(out, o, t)
+    buffer::put_bytes(out, o, t)
 }
 
 // The strict element whose text is the hex of these bytes.
@@ -70,10 +67,10 @@ fn put_raw(out: &mut [u8], at: usize, b: &[u8]) -> usize
     ensures { λ r. ⌜ Wrote (now (out .entry)) at (packElement (hexes (now (b .entry)))) (now (out .exit)) r ⌝ }
 {
     if b.len() == 0 {
-        return store::put_byte(out, at, 0);
+        return buffer::put_byte(out, at, 0);
     }
     let o = varint::put_varint(out, at, 2 * b.len() as u64 + 1);
-    store::put_bytes(out, o, b)
+    buffer::put_bytes(out, o, b)
 }
 
 // The strict element that has a part's text.
@@ -137,11 +134,11 @@ fn put_head(out: &mut [u8], at: usize, s: &[u8], h: Head) -> usize
     ensures { λ r. ⌜ Wrote (now (out .entry)) at (headText (now (s .entry)) h) (now (out .exit)) r ⌝ }
 {
     let content = h.content;
-    let a = store::put_part(out, at, s, 0, 128);
+    let a = buffer::put_part(out, at, s, 0, 128);
     let b = varint::put_varint(out, a, h.created_at);
     let c = varint::put_varint(out, b, h.kind);
     let d = varint::put_varint(out, c, content.len as u64);
-    let e = store::put_part(out, d, s, content.at, content.len);
+    let e = buffer::put_part(out, d, s, content.at, content.len);
     varint::put_varint(out, e, h.tag_count)
 }
 
@@ -152,7 +149,7 @@ fn copy_packed(out: &mut [u8], s: &[u8], h: Head, t: Tally) -> usize
 {
     if t.len == s.len() {
         if !t.hollow {
-            return store::put_bytes(out, 0, s);
+            return buffer::put_bytes(out, 0, s);
         }
     }
     let o = put_head(out, 0, s, h);
@@ -160,21 +157,21 @@ fn copy_packed(out: &mut [u8], s: &[u8], h: Head, t: Tally) -> usize
 }
 
 // The strict form of a packed event: the reader's refusals, then 11 with the length needed; else written from the start.
-pub fn write_strict(s: &[u8], out: &mut [u8]) -> PackWrite
-    ensures { λ r. ⌜ packWrite r ≡ writes pack (unpack (now (s .entry))) (now (out .entry)) ⌝ }
+pub fn write_strict(s: &[u8], out: &mut [u8]) -> Writing
+    ensures { λ r. ⌜ writing r ≡ writes pack (unpack (now (s .entry))) (now (out .entry)) ⌝ }
     ensures { λ _. ⌜ now (out .exit) ≡ leaves pack (unpack (now (s .entry))) (now (out .entry)) ⌝ }
 {
     let walked = notepack::walk_packed(s);
     match walked {
-        Walk::Refused(r) => PackWrite::Refused(r),
+        Walk::Refused(r) => Writing::Refused(r),
         Walk::Done(h, t) => {
             if out.len() < t.len {
-                return PackWrite::Refused(Refusal {
+                return Writing::Refused(Refusal {
                     number: event::TOO_LITTLE_ROOM,
                     place: t.len,
                 });
             }
-            PackWrite::Written(copy_packed(out, s, h, t))
+            Writing::Written(copy_packed(out, s, h, t))
         }
     }
 }

@@ -9,9 +9,9 @@ use borrow.Author.Needs.{needs}
 use Rattle.scan.proofs.AllLaws.{all-places}
 use Rattle.notepack.specs.Answers.{partRead}
 use Rattle.escape.specs.Escape.{canonicalByte}
-use Rattle.tagtext.specs.Copy.{elementsFrom, elementsEnd}
-use Rattle.tagtext.proofs.Again.{elements-turn, elements-count, elements-stop, elements-left}
-use Rattle.tagtext.proofs.Room.{elements-room}
+use Rattle.jsontags.specs.Copy.{elementsFrom, elementsEnd}
+use Rattle.jsontags.proofs.Again.{elements-turn, elements-count, elements-stop, elements-left}
+use Rattle.jsontags.proofs.Room.{elements-room}
 use Rattle.canonical.proofs.elements_len.Statement.{statement}
 use Rattle.canonical.proofs.elements_len.Tie as tie
 

@@ -1,7 +1,7 @@
 -- `put_front` writes all in front of the tags, piece by piece.
 -- Seven writers in a row are one.
 use borrow.Author.Needs.{needs}
-use Rattle.store.proofs.Laws.{then}
+use Rattle.buffer.proofs.Laws.{then}
 use Rattle.canonical.specs.Copy.{frontText}
 use Rattle.canonical.proofs.put_front.Statement.{statement}
 use Rattle.canonical.proofs.put_front.Tie as tie

@@ -1,7 +1,7 @@
 -- `put_whole` writes the whole text, piece by piece.
 -- Five writers in a row are one.
 use borrow.Author.Needs.{needs}
-use Rattle.store.proofs.Laws.{then}
+use Rattle.buffer.proofs.Laws.{then}
 use Rattle.canonical.specs.Copy.{wholeText}
 use Rattle.canonical.proofs.put_whole.Statement.{statement}
 use Rattle.canonical.proofs.put_whole.Tie as tie

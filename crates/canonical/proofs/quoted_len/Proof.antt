@@ -4,7 +4,7 @@ use native.Mathlib.Omega.{arith}
 use borrow.Author.Needs.{needs}
 use Rattle.escape.specs.Escape.{canonicalByte}
 use Rattle.notepack.specs.Unpack.{textOf}
-use Rattle.tagtext.proofs.Texts.{length-quoted}
+use Rattle.jsontags.proofs.Texts.{length-quoted}
 use Rattle.canonical.proofs.quoted_len.Statement.{statement}
 use Rattle.canonical.proofs.quoted_len.Tie as tie
 

@@ -9,9 +9,9 @@ use borrow.Author.Needs.{needs}
 use Rattle.scan.proofs.AllLaws.{all-places}
 use Rattle.notepack.specs.Answers.{numberRead}
 use Rattle.escape.specs.Escape.{canonicalByte}
-use Rattle.tagtext.specs.Copy.{tagsFrom}
-use Rattle.tagtext.proofs.Again.{tags-count, tags-stop, tags-left}
-use Rattle.tagtext.proofs.Room.{tags-room}
+use Rattle.jsontags.specs.Copy.{tagsFrom}
+use Rattle.jsontags.proofs.Again.{tags-count, tags-stop, tags-left}
+use Rattle.jsontags.proofs.Room.{tags-room}
 use Rattle.canonical.proofs.tags_len.Statement.{statement}
 use Rattle.canonical.proofs.tags_len.Tie as tie
 

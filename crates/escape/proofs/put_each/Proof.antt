@@ -5,7 +5,7 @@ use native.Mathlib.Omega.{arith}
 use borrow.Author.Needs.{needs}
 use lib.ListN.{length, drop}
 use Rattle.scan.proofs.Step.{rest-none, rest-more}
-use Rattle.store.proofs.Laws.{Left, start, part, same, done}
+use Rattle.buffer.proofs.Laws.{Left, start, part, same, done}
 use Rattle.escape.specs.Escape.{escaped}
 use Rattle.escape.specs.Block.{byteOf}
 use Rattle.escape.proofs.TextLaws.{escaped-none, escaped-more}

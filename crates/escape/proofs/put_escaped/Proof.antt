@@ -5,7 +5,7 @@ use mathlib.Core.Path.{_≡_, refl, _∙_}
 use native.Mathlib.Omega.{arith}
 use borrow.Author.Needs.{needs}
 use lib.ListN.{length, drop, length-set, length-take, length-drop}
-use Rattle.store.proofs.Laws.{Left, start, also, full, finish, kept}
+use Rattle.buffer.proofs.Laws.{Left, start, also, full, finish, kept}
 use Rattle.escape.specs.Escape.{escaped}
 use Rattle.escape.specs.Block.{byteOf}
 use Rattle.escape.proofs.OverLaws.{two-bytes}

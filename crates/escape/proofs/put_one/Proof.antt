@@ -1,7 +1,7 @@
 -- `put_one` writes a byte as one or as two, by the test.
 -- Each return is what the byte becomes under the test's outcome: `byte-two`, `byte-one`.
 use borrow.Author.Needs.{needs}
-use Rattle.store.proofs.Laws.{then}
+use Rattle.buffer.proofs.Laws.{then}
 use Rattle.escape.proofs.ByteLaws.{byte-two, byte-one}
 use Rattle.escape.proofs.put_one.Statement.{statement}
 use Rattle.escape.proofs.put_one.Tie as tie

@@ -4,7 +4,7 @@ use mathlib.Core.Path.{_≡_, ap, _∙_}
 use native.Mathlib.Omega.{arith}
 use borrow.Author.Needs.{needs}
 use lib.ListN.{length}
-use Rattle.store.specs.Store.{Wrote}
+use Rattle.buffer.specs.Store.{Wrote}
 use Rattle.hex.specs.Hex.{unhex}
 use Rattle.hex.specs.Block.{valuesOf, pairsOf}
 use Rattle.hex.proofs.Pairs.{all-over, length-values, pairs-values}

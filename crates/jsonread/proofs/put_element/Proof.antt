@@ -2,7 +2,7 @@
 -- By the law of `packElement` for each form; two writers in a row are one.
 use native.Mathlib.Omega.{arith}
 use borrow.Author.Needs.{needs}
-use Rattle.store.proofs.Laws.{then}
+use Rattle.buffer.proofs.Laws.{then}
 use Rattle.jsonread.proofs.Strings.{part-most, form-as-bytes, form-as-text}
 use Rattle.jsonread.proofs.put_element.Statement.{statement}
 use Rattle.jsonread.proofs.put_element.Tie as tie

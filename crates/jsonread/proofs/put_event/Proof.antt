@@ -1,7 +1,7 @@
 -- `put_event` writes the seven fields in the order of the strict form.
 -- Nine writers in a row are one; content and tags are two writers each.
 use borrow.Author.Needs.{needs}
-use Rattle.store.proofs.Laws.{then, kept}
+use Rattle.buffer.proofs.Laws.{then, kept}
 use Rattle.jsonread.specs.Copy.{spotText, fieldsText}
 use Rattle.jsonread.proofs.put_event.Statement.{statement}
 use Rattle.jsonread.proofs.put_event.Tie as tie

@@ -3,7 +3,7 @@
 use Prim.Native.Nat.{_-_}
 use mathlib.Core.Path.{_≡_, refl, sym, ap, _∙_}
 use borrow.Author.Needs.{needs}
-use Rattle.store.proofs.Laws.{Left, start, part, done, also, same}
+use Rattle.buffer.proofs.Laws.{Left, start, part, done, also, same}
 use Rattle.jsonread.specs.Copy.{textsText, textsEnd}
 use Rattle.jsonread.specs.Answers.{textRead}
 use Rattle.jsonread.proofs.Plain.{plain-own, same-wrote}

@@ -1,7 +1,7 @@
 -- `read_json` answers as document 01 says: 1, the reader's refusal, 11 with the length needed, or the length written; and leaves the buffer so.
 -- By the laws of the entry for each outcome of the first pass.
 use borrow.Author.Needs.{needs}
-use Rattle.store.proofs.Laws.{kept}
+use Rattle.buffer.proofs.Laws.{kept}
 use Rattle.jsonread.proofs.Whole.{json-long, json-refused, json-small, json-short, json-fitted}
 use Rattle.jsonread.proofs.read_json.Statement.{statement}
 use Rattle.jsonread.proofs.read_json.Tie as tie

@@ -5,7 +5,7 @@ use native.Mathlib.Omega.{arith}
 use borrow.Author.Needs.{needs}
 use borrow.Author.Tests.{not-false}
 use lib.ListN.{length}
-use Rattle.store.proofs.Laws.{kept}
+use Rattle.buffer.proofs.Laws.{kept}
 use Rattle.jsontext.specs.Run.{Ran}
 use Rattle.jsontext.proofs.RunLaws.{ran-none, ran-four}
 use Rattle.jsontext.proofs.put_fours.Statement.{statement}

@@ -6,7 +6,7 @@ use native.Mathlib.Omega.{arith}
 use borrow.Author.Needs.{needs}
 use lib.ListN.{length, drop}
 use Rattle.scan.proofs.Step.{rest-more, rest-none}
-use Rattle.store.proofs.Laws.{Left, start, one, also, done, same}
+use Rattle.buffer.proofs.Laws.{Left, start, one, also, done, same}
 use Rattle.hex.specs.Hex.{unhex}
 use Rattle.jsontext.specs.Half.{held, halfBehind}
 use Rattle.jsontext.proofs.Parts.{held-byte, held-half, held-end, behind-byte, behind-half, behind-end}

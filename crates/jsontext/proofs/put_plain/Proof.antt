@@ -4,7 +4,7 @@ use Prim.Native.Nat.{_-_}
 use native.Mathlib.Omega.{arith}
 use borrow.Author.Needs.{needs}
 use lib.ListN.{length}
-use Rattle.store.proofs.Laws.{kept}
+use Rattle.buffer.proofs.Laws.{kept}
 use Rattle.jsontext.specs.Run.{Ran}
 use Rattle.jsontext.proofs.Turn.{plain-left, plain-broke}
 use Rattle.jsontext.proofs.RunLaws.{ran-none, ran-byte}

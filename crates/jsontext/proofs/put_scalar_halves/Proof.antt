@@ -2,7 +2,7 @@
 -- What was written from its start is there: `encoded`.
 use mathlib.Core.Path.{refl, _∙_}
 use borrow.Author.Needs.{needs}
-use Rattle.store.proofs.Laws.{kept}
+use Rattle.buffer.proofs.Laws.{kept}
 use Rattle.jsontext.proofs.Parts.{encoded}
 use Rattle.jsontext.proofs.put_scalar_halves.Statement.{statement}
 use Rattle.jsontext.proofs.put_scalar_halves.Tie as tie

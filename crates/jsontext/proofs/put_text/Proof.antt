@@ -4,7 +4,7 @@ use Prim.Native.Nat.{_-_}
 use native.Mathlib.Omega.{arith}
 use borrow.Author.Needs.{needs}
 use lib.ListN.{length, drop}
-use Rattle.store.proofs.Laws.{Left, start, part, one, also, done, same, kept}
+use Rattle.buffer.proofs.Laws.{Left, start, part, one, also, done, same, kept}
 use Rattle.jsontext.specs.Escape.{unescape}
 use Rattle.jsontext.proofs.Unescape.{unescape-run, unescape-end, turn-text, steps}
 use Rattle.jsontext.proofs.Letters.{letter-fits, letter-less, letter-text}

@@ -4,7 +4,7 @@ use Prim.Native.Nat.{_-_}
 use mathlib.Core.Path.{sym, ap}
 use borrow.Author.Needs.{needs}
 use lib.ListN.{length, drop}
-use Rattle.store.proofs.Laws.{Left, start, part, also, done, same, kept}
+use Rattle.buffer.proofs.Laws.{Left, start, part, also, done, same, kept}
 use Rattle.hex.specs.Hex.{unhex}
 use Rattle.jsontext.specs.Escape.{unescape}
 use Rattle.jsontext.specs.Half.{held}

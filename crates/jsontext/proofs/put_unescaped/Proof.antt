@@ -1,7 +1,7 @@
 -- `put_unescaped` hands the part of the input to `put_text`.
 -- The part is the bytes that the contract names.
 use borrow.Author.Needs.{needs}
-use Rattle.store.proofs.Laws.{kept}
+use Rattle.buffer.proofs.Laws.{kept}
 use Rattle.jsontext.proofs.put_unescaped.Statement.{statement}
 use Rattle.jsontext.proofs.put_unescaped.Tie as tie
 

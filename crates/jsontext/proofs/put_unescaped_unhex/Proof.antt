@@ -2,7 +2,7 @@
 -- A string that is one run is its own text: `unescape-whole`.
 use mathlib.Core.Path.{sym}
 use borrow.Author.Needs.{needs}
-use Rattle.store.proofs.Laws.{kept}
+use Rattle.buffer.proofs.Laws.{kept}
 use Rattle.jsontext.proofs.Unescape.{unescape-whole}
 use Rattle.jsontext.proofs.put_unescaped_unhex.Statement.{statement}
 use Rattle.jsontext.proofs.put_unescaped_unhex.Tie as tie

@@ -1,6 +1,6 @@
 -- `put_front` writes all in front of the tags, piece by piece.
 -- Eight writers in a row are one.
-use Rattle.store.proofs.Laws.{then, kept}
+use Rattle.buffer.proofs.Laws.{then, kept}
 use Rattle.nsonread.specs.Copy.{frontText}
 use borrow.Author.Needs.{needs}
 use Rattle.nsonread.proofs.put_front.Statement.{statement}

@@ -4,7 +4,7 @@ use borrow.Author.Needs.{needs}
 use Prim.Native.Nat.{_+_, _*_, _≤_}
 use mathlib.Core.Path.{_≡_, refl, sym, _∙_}
 use native.Mathlib.Omega.{arith}
-use Rattle.store.proofs.Laws.{Left, start, part, done, also, same}
+use Rattle.buffer.proofs.Laws.{Left, start, part, done, also, same}
 use Rattle.nsonread.specs.Copy.{itemsText, itemsEnd}
 use Rattle.nsonread.proofs.Writing.{items-write, items-written}
 use Rattle.nsonread.proofs.put_items.Statement.{statement}

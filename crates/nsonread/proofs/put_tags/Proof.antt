@@ -3,7 +3,7 @@
 use borrow.Author.Needs.{needs}
 use Prim.Native.Nat.{_+_, _*_, _≤_}
 use native.Mathlib.Omega.{arith}
-use Rattle.store.proofs.Laws.{Left, start, part, done, also, same}
+use Rattle.buffer.proofs.Laws.{Left, start, part, done, also, same}
 use Rattle.nsonread.specs.Copy.{tagsText}
 use Rattle.nsonread.proofs.Writing.{tags-write, tags-written}
 use Rattle.nsonread.proofs.put_tags.Statement.{statement}

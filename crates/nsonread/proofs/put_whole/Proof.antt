@@ -1,7 +1,7 @@
 -- `put_whole` writes all in front of the tags, then the tags.
 -- Two writers in a row are one.
 use native.Mathlib.Omega.{arith}
-use Rattle.store.proofs.Laws.{then}
+use Rattle.buffer.proofs.Laws.{then}
 use Rattle.nsonread.specs.Copy.{wholeText}
 use borrow.Author.Needs.{needs}
 use Rattle.nsonread.proofs.put_whole.Statement.{statement}

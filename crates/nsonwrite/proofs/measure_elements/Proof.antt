@@ -9,13 +9,13 @@ use lib.ListN.{length}
 use borrow.Author.Needs.{needs}
 use Rattle.scan.specs.Choice.{pick}
 use Rattle.scan.proofs.AllLaws.{all-places}
-use Rattle.store.proofs.Laws.{Left, start, part, done, also, same}
+use Rattle.buffer.proofs.Laws.{Left, start, part, done, also, same}
 use Rattle.escape.specs.Escape.{nsonByte}
 use Rattle.event.specs.Event.{Text}
 use Rattle.notepack.specs.Answers.{partRead}
-use Rattle.tagtext.specs.Copy.{elementsFrom, elementsEnd}
-use Rattle.tagtext.proofs.Again.{elements-turn, elements-stop, elements-left}
-use Rattle.tagtext.proofs.Room.{elements-room}
+use Rattle.jsontags.specs.Copy.{elementsFrom, elementsEnd}
+use Rattle.jsontags.proofs.Again.{elements-turn, elements-stop, elements-left}
+use Rattle.jsontags.proofs.Room.{elements-room}
 use Rattle.nson.specs.Carries.{allFit}
 use Rattle.nsonwrite.specs.Copy.{cutWords, textsFrom}
 use Rattle.nsonwrite.proofs.Over.{text-fit, all-fit-more, all-fit-none, words-none, words-more, texts-turn, count-turn, texts-stop, texts-left}

@@ -9,13 +9,13 @@ use lib.ListN.{length}
 use borrow.Author.Needs.{needs}
 use Rattle.scan.specs.Choice.{pick}
 use Rattle.scan.proofs.AllLaws.{all-places}
-use Rattle.store.proofs.Laws.{Left, start, part, done, also, same}
+use Rattle.buffer.proofs.Laws.{Left, start, part, done, also, same}
 use Rattle.escape.specs.Escape.{nsonByte}
 use Rattle.event.specs.Event.{Tag}
 use Rattle.notepack.specs.Answers.{numberRead}
-use Rattle.tagtext.specs.Copy.{tagsFrom}
-use Rattle.tagtext.proofs.Again.{tags-count, tags-stop, tags-left}
-use Rattle.tagtext.proofs.Room.{tags-room}
+use Rattle.jsontags.specs.Copy.{tagsFrom}
+use Rattle.jsontags.proofs.Again.{tags-count, tags-stop, tags-left}
+use Rattle.jsontags.proofs.Room.{tags-room}
 use Rattle.nson.specs.Carries.{tagsFit}
 use Rattle.nsonwrite.specs.Copy.{tagsOver, tagWords}
 use Rattle.nsonwrite.proofs.Over.{tags-fit-more, tags-fit-none, over-turn, over-stop, over-left}

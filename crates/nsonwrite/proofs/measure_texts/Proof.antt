@@ -2,7 +2,7 @@
 -- Four writers in a row are one; none ends behind the 128 bytes lent. The input is short, so the sum fits.
 use native.Mathlib.Omega.{arith}
 use borrow.Author.Needs.{needs}
-use Rattle.store.proofs.Laws.{then}
+use Rattle.buffer.proofs.Laws.{then}
 use Rattle.nsonwrite.proofs.Places.{ends}
 use Rattle.nsonwrite.proofs.Over.{text-fit, texts-fit, texts-length, counts-wrote}
 use Rattle.nsonwrite.proofs.measure_texts.Statement.{statement}

@@ -1,7 +1,7 @@
 -- `put_body` writes all behind the nson field, piece by piece.
 -- Seven writers in a row are one.
 use borrow.Author.Needs.{needs}
-use Rattle.store.proofs.Laws.{then}
+use Rattle.buffer.proofs.Laws.{then}
 use Rattle.nsonwrite.specs.Copy.{bodyFrom}
 use Rattle.nsonwrite.proofs.put_body.Statement.{statement}
 use Rattle.nsonwrite.proofs.put_body.Tie as tie

@@ -1,7 +1,7 @@
 -- `put_field` writes the nson field: the size, which counts two digits for each descriptor, and the descriptors in hex.
 -- Two writers in a row are one.
 use borrow.Author.Needs.{needs}
-use Rattle.store.proofs.Laws.{then}
+use Rattle.buffer.proofs.Laws.{then}
 use Rattle.nsonwrite.specs.Copy.{fieldOf}
 use Rattle.nsonwrite.proofs.put_field.Statement.{statement}
 use Rattle.nsonwrite.proofs.put_field.Tie as tie

@@ -1,7 +1,7 @@
 -- `put_head` writes all in front of the nson field, piece by piece.
 -- Nine writers in a row are one.
 use borrow.Author.Needs.{needs}
-use Rattle.store.proofs.Laws.{then, kept}
+use Rattle.buffer.proofs.Laws.{then, kept}
 use Rattle.nsonwrite.specs.Copy.{headFrom}
 use Rattle.nsonwrite.proofs.put_head.Statement.{statement}
 use Rattle.nsonwrite.proofs.put_head.Tie as tie

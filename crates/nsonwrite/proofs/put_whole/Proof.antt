@@ -1,7 +1,7 @@
 -- `put_whole` writes the whole text.
 -- Three writers in a row are one.
 use borrow.Author.Needs.{needs}
-use Rattle.store.proofs.Laws.{then}
+use Rattle.buffer.proofs.Laws.{then}
 use Rattle.nsonwrite.specs.Copy.{wholeFrom}
 use Rattle.nsonwrite.proofs.put_whole.Statement.{statement}
 use Rattle.nsonwrite.proofs.put_whole.Tie as tie

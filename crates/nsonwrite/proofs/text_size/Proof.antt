@@ -7,7 +7,7 @@ use lib.ListN.{length}
 use borrow.Author.Needs.{needs}
 use Rattle.scan.proofs.AllLaws.{all-places}
 use Rattle.notepack.proofs.Walking.{text-plain}
-use Rattle.tagtext.proofs.Again.{part-short, raw-length, plain-length}
+use Rattle.jsontags.proofs.Again.{part-short, raw-length, plain-length}
 use Rattle.nsonwrite.proofs.Plain.{raw-plain}
 use Rattle.nsonwrite.proofs.text_size.Statement.{statement}
 use Rattle.nsonwrite.proofs.text_size.Tie as tie

@@ -6,13 +6,13 @@ use native.Mathlib.Omega.{arith}
 use borrow.Author.Needs.{needs}
 use lib.ListN.{length, drop}
 use Rattle.hex.specs.Hex.{hexes}
-use Rattle.event.specs.Event.{sameText}
+use Rattle.scan.specs.Compare.{sameBytes}
 use Rattle.rivals.proofs.Loops.{hex-again, hex-short, hex-first, hex-second, hex-left, hex-whole}
 use Rattle.rivals.proofs.is_hex_of.Statement.{statement}
 use Rattle.rivals.proofs.is_hex_of.Tie as tie
 
 abbrev Inv-loop : tie.InvT-loop
-Inv-loop a t i₀ j₀ i j = (i ≤ length a) × (j ≤ length t) × (sameText (hexes a) t ≡ sameText (hexes (drop i a)) (drop j t))
+Inv-loop a t i₀ j₀ i j = (i ≤ length a) × (j ≤ length t) × (sameBytes (hexes a) t ≡ sameBytes (hexes (drop i a)) (drop j t))
 
 abbrev μ-loop : tie.MeasureT-loop
 μ-loop a t i₀ j₀ i j = length a - i

@@ -1,11 +1,12 @@
 -- `same_text` compares two parts as texts, whichever way each is stored.
--- By the laws of hex and of `sameText`; a slice's numbers are bytes.
+-- By the laws of hex and of `sameBytes`; a slice's numbers are bytes.
 use mathlib.Core.Path.{_≡_, sym, _∙_}
 use native.Mathlib.Omega.{arith}
 use borrow.Author.Needs.{needs}
 use Rattle.scan.proofs.AllLaws.{all-places, all-take, all-drop}
 use Rattle.notepack.proofs.Walking.{text-raw, text-plain}
-use Rattle.rivals.proofs.Loops.{same-sym, same-hexes}
+use Rattle.scan.proofs.CompareLaws.{same-sym}
+use Rattle.rivals.proofs.Loops.{same-hexes}
 use Rattle.rivals.proofs.same_text.Statement.{statement}
 use Rattle.rivals.proofs.same_text.Tie as tie
 

@@ -4,7 +4,7 @@ use Prim.Native.Nat.{_≤_}
 use mathlib.Core.Path.{_≡_, refl, sym, ap, _∙_}
 use native.Mathlib.Omega.{arith}
 use borrow.Author.Needs.{needs}
-use Rattle.store.proofs.Laws.{Left, start, part, done, also, same}
+use Rattle.buffer.proofs.Laws.{Left, start, part, done, also, same}
 use Rattle.notepack.specs.Answers.{partRead}
 use Rattle.strict.specs.Copy.{elementsText, elementsEnd}
 use Rattle.strict.proofs.Laws.{elements-turn, elements-stop, elements-left}

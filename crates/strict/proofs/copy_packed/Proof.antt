@@ -4,7 +4,7 @@ use native.Mathlib.Omega.{arith}
 use borrow.Author.Needs.{needs}
 use borrow.Author.Tests.{not-true}
 use Rattle.scan.proofs.AllLaws.{all-places}
-use Rattle.store.proofs.Laws.{then}
+use Rattle.buffer.proofs.Laws.{then}
 use Rattle.strict.proofs.Laws.{copies-whole, copies-pieces}
 use Rattle.strict.proofs.copy_packed.Statement.{statement}
 use Rattle.strict.proofs.copy_packed.Tie as tie

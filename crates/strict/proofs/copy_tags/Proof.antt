@@ -3,7 +3,7 @@
 use mathlib.Core.Path.{_≡_, refl, sym, ap, _∙_}
 use Prim.Native.Nat.{_-_}
 use borrow.Author.Needs.{needs}
-use Rattle.store.proofs.Laws.{Left, start, part, done, also, same}
+use Rattle.buffer.proofs.Laws.{Left, start, part, done, also, same}
 use Rattle.notepack.specs.Answers.{numberRead}
 use Rattle.strict.specs.Copy.{tagsText}
 use Rattle.strict.proofs.Laws.{tags-turn, tags-stop, tags-left}

@@ -1,7 +1,7 @@
 -- `put_head` writes all in front of the tags, piece by piece.
 -- Six writers in a row are one.
 use borrow.Author.Needs.{needs}
-use Rattle.store.proofs.Laws.{then}
+use Rattle.buffer.proofs.Laws.{then}
 use Rattle.strict.specs.Copy.{headText}
 use Rattle.strict.proofs.put_head.Statement.{statement}
 use Rattle.strict.proofs.put_head.Tie as tie

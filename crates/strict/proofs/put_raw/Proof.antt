@@ -4,7 +4,7 @@ use mathlib.Core.Path.{_≡_}
 use native.Mathlib.Omega.{arith}
 use borrow.Author.Needs.{needs}
 use Rattle.scan.proofs.AllLaws.{all-places}
-use Rattle.store.proofs.Laws.{then}
+use Rattle.buffer.proofs.Laws.{then}
 use Rattle.notepack.proofs.Lengths.{element-hex, element-none}
 use Rattle.strict.proofs.put_raw.Statement.{statement}
 use Rattle.strict.proofs.put_raw.Tie as tie

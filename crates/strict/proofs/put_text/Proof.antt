@@ -2,7 +2,7 @@
 -- By the law of `packElement` for each form; two writers in a row are one.
 use mathlib.Core.Path.{_≡_}
 use borrow.Author.Needs.{needs}
-use Rattle.store.proofs.Laws.{then}
+use Rattle.buffer.proofs.Laws.{then}
 use Rattle.notepack.proofs.Lengths.{element-bytes, element-text}
 use Rattle.strict.proofs.put_text.Statement.{statement}
 use Rattle.strict.proofs.put_text.Tie as tie
