@@ -2,18 +2,16 @@
 -- From the pieces of the head and the pass over the tags.
 use Prim.Native.Nat.{ℕ, _+_, _≤_, _<_}
 use mathlib.Core.Path.{_≡_, refl, sym, ap, _∙_, subst}
-use mathlib.Core.Bool.{Bool, true, false}
-use mathlib.Core.List.{List, [], _∷_, _++_, map, append-assoc}
+use mathlib.Core.Bool.{true, false}
+use mathlib.Core.List.{List, map}
 use native.Mathlib.Omega.{arith}
-use lib.ListN.{length, take, drop, length-append, length-map}
-use lib.Seq.{take-add, drop-drop}
+use lib.ListN.{length, length-append, length-map}
 use lib.Dec.{eqb}
 use borrow.Author.Tests.{le-leb, lt-leb, eq-eqb, ne-eqb}
-use Rattle.scan.specs.Choice.{pick, either, Answer, shown, refused, Read, read, andThen}
-use Rattle.scan.specs.Span.{Span, IsBytes}
+use Rattle.scan.specs.Choice.{pick, Answer, shown, refused, Read, read, andThen}
+use Rattle.scan.specs.Span.{IsBytes}
 use Rattle.scan.proofs.SpanLaws.{span-length, span-fits}
-use Rattle.scan.proofs.Reading.{Reads, shown-reads, shown-gives, read-same}
-use Rattle.varint.specs.Uleb.{uleb}
+use Rattle.scan.proofs.Reading.{shown-reads, shown-gives, read-same}
 use Rattle.varint.proofs.UlebLaws.{uleb-shortest}
 use Rattle.hex.specs.Hex.{hexes}
 use Rattle.event.specs.Event.{Event}
@@ -28,7 +26,7 @@ use Rattle.notepack.specs.Unpack.{bytesOf, textOf, tagsAt, headAt, Packe
 use Rattle.notepack.specs.Tally.{hollowTags, headLen, more, passTags, tallyOf}
 use Rattle.notepack.specs.Answers.{pass, Walked, walkAt}
 use Rattle.notepack.proofs.Piece.{Piece}
-use Rattle.notepack.proofs.Sound.{Headed, LaidTags, sized-text, head-gives, tags-reads, packed-gives}
+use Rattle.notepack.proofs.Sound.{Headed, sized-text, head-gives, tags-reads, packed-gives}
 
 -- an input over the limit is refused first of all
 pub walk-long : (s : List ℕ) → 65_536 < length s → refused 1 0 ≡ walkAt s
@@ -82,21 +80,6 @@ module _ (s : List ℕ) (bytes : IsBytes s) (h : Head) (found : headAt s ≡ sho
       let c = sized-text (d .content .2) in
       let m : length (map (map (textOf s)) ts) ≡ h .«tag_count» = length-map ts (map (textOf s)) ∙ n in
       simp (length-append, m, c .4) (omega (arith, d .ids, c .4))
-
-  -- the strict form, by what stands in the input
-  pub pack-pieces : (ts : List (List Part)) → length ts ≡ h .«tag_count»
-      → pack (eventOf s (record { head = h; tags = ts }))
-      ≡ take 128 s
-      ++ (uleb (h .«created_at»)
-      ++ (uleb (h .kind) ++ (uleb (h .content .len) ++ (bytesOf s (h .content) ++ (uleb (h .«tag_count») ++ packTags (map (map (textOf s)) ts))))))
-  unfolding pack eventOf
-  pack-pieces ts n =
-      let d = headed in
-      let c = sized-text (d .content .2) in
-      let m : length (map (map (textOf s)) ts) ≡ h .«tag_count» = length-map ts (map (textOf s)) ∙ n in
-      let ids : take 128 s ≡ take 32 s ++ (take 32 (drop 32 s) ++ take 64 (drop 64 s)) =
-      take-add 32 96 s ∙ ap (λ (l : List ℕ). take 32 s ++ l) (take-add 32 64 (drop 32 s) ∙ ap (λ (l : List ℕ). take 32 (drop 32 s) ++ take 64 l) (drop-drop 32 32 s)) in
-      rw (ids, m, c .4, c .5) (sym (simp append-assoc))
 
   -- the tally of what stands in front of the tags
   abbrev front : Tally
