@@ -15,12 +15,15 @@ use Rattle.scan.proofs.SpanLaws.{span-length, span-fits}
 use Rattle.scan.proofs.Reading.{Reads, read-same, shown-reads, shown-gives}
 use Rattle.scan.proofs.Many.{then-shown, many-apart}
 use Rattle.varint.specs.Varint.{varintAt}
+use Rattle.event.specs.Event.{Event}
 use Rattle.notepack.specs.declared.Part.{Part}
-use Rattle.notepack.specs.declared.Head.{Head}
 use Rattle.notepack.specs.Unpack.{bytesOf, textOf, payloadAt, textAt, elementAt, elementsAt, tagCountAt, tagAt, tagsAt, Packed, packedAt, eventOf, unpack}
 use Rattle.notepack.specs.Again.{partAt, partAgain, countAgain, textsAgain, textsEnd, tagsAgain, eventAgain}
+use Rattle.notepack.specs.Strict.{pack}
+use Rattle.notepack.specs.Tally.{hollowTags, tallyOf}
 use Rattle.notepack.specs.Answers.{Walked, walkAt}
-use Rattle.notepack.proofs.Sound.{Number, text-reads, sized-text, count-reads, head-gives, Shows, sound}
+use Rattle.notepack.proofs.Piece.{Piece}
+use Rattle.notepack.proofs.Sound.{Number, text-reads, sized-text, count-reads, head-gives, packed-gives, Shows, sound}
 use Rattle.notepack.proofs.Walking.{walked-packed}
 use Rattle.notepack.proofs.Viewing.{packed-head, packed-apart, tag-apart}
 
@@ -114,30 +117,43 @@ module _ (s : List ℕ) where
 
   -- ---- the whole
 
-  -- an input that the reader accepted, and what stands in front of its tags
-  pub record Accepted (h : Head) : Type 0 where
+  -- an input that the walk accepted
+  pub record Accepted (w : Walked) : Type 0 where
     -- the event that is gone over again is the event that it shows
-    pub shows : unpack s ≡ shown (eventAgain s h)
-    pub sound : Shows s (eventAgain s h)
-    pub few : h .«tag_count» ≤ 1_000
+    pub shows : unpack s ≡ shown (eventAgain s (w .head))
+    pub sound : Shows s (eventAgain s (w .head))
+    pub few : w .head .«tag_count» ≤ 1_000
     -- the content's part has the content's bytes and length
-    pub plain : textOf s (h .content) ≡ bytesOf s (h .content)
-    pub size : length (textOf s (h .content)) ≡ h .content .len
+    pub plain : textOf s (w .head .content) ≡ bytesOf s (w .head .content)
+    pub size : length (textOf s (w .head .content)) ≡ w .head .content .len
+    -- the strict form's length, and how the input stands to that form
+    pub len : w .tally .len ≡ length (pack (eventAgain s (w .head)))
+    pub piece : Piece (pack (eventAgain s (w .head))) s (w .tally .hollow)
 
   packed-event : (p : Packed) → packedAt s ≡ shown p → eventOf s p ≡ eventAgain s (p .head)
   unfolding eventOf eventAgain
   packed-event p e = rw (tags-again (p .head .«tag_count») (p .head .«tags_at») _ (packed-apart s p e .1))
 
-  packed-accepted : IsBytes s → (p : Packed) → packedAt s ≡ shown p → Accepted (p .head)
+  packed-accepted : IsBytes s → (p : Packed) → packedAt s ≡ shown p → Accepted (record { head = p .head; tally = tallyOf s p })
   unfolding unpack
   packed-accepted bytes p e =
       let d = shown-gives (rw (packed-head s p e) at (head-gives s bytes)) in
       let c = sized-text (d .content .2) in
-      let u : unpack s ≡ shown (eventAgain s (p .head)) = rw e (ap shown (packed-event p e)) in
-      record { shows = u; sound = sound s bytes (eventAgain s (p .head)) u; few = d .count .1 .within; plain = c .5; size = c .4 }
+      let v = packed-event p e in
+      let u : unpack s ≡ shown (eventAgain s (p .head)) = rw e (ap shown v) in
+      let g = shown-gives (rw e at (packed-gives s bytes)) in
+      record {
+        shows = u;
+        sound = sound s bytes (eventAgain s (p .head)) u;
+        few = d .count .1 .within;
+        plain = c .5;
+        size = c .4;
+        len = ap (λ (x : Event). length (pack x)) v;
+        piece = subst (λ (x : Event). Piece (pack x) s (hollowTags (p .tags))) v (g .piece);
+      }
 
   -- On an input that the walk accepts, going over it again gives the event that it shows.
-  pub accepted : IsBytes s → (w : Walked) (r : Answer Walked) → r ≡ walkAt s → r ≡ shown w → Accepted (w .head)
+  pub accepted : IsBytes s → (w : Walked) (r : Answer Walked) → r ≡ walkAt s → r ≡ shown w → Accepted w
   accepted bytes w r e k =
       let p = walked-packed s w (sym e ∙ k) in
-      subst (λ (h : Head). Accepted h) (sym (p .2)) (packed-accepted bytes (p .0) (p .1))
+      subst (λ (v : Walked). Accepted v) (sym (p .2)) (packed-accepted bytes (p .0) (p .1))
