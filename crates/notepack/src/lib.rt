@@ -8,6 +8,7 @@ ghost use Rattle.scan.specs.Choice.{andThen, shown};
 ghost use Rattle.hex.specs.Hex.{hexes};
 ghost use Rattle.notepack.specs.Strict.{packElement};
 ghost use Rattle.notepack.specs.Unpack.{textOf, payloadAt, textAt, numberAt, contentAt, elementAt, elementsAt, tagCountAt, tagAt, tagsAt, numbersAt, headAt};
+ghost use Rattle.notepack.specs.Again.{partAt, partAgain, countAgain};
 ghost use Rattle.notepack.specs.Tally.{headLen, isHollow, more, passElements, passTag, passTags};
 ghost use Rattle.notepack.specs.Views.{numbersOf, textsIn, elementOf, view, contentOf, tagStart, elementPlace};
 ghost use Rattle.notepack.specs.Answers.{countRead, elementRead, partRead, numberRead, pass, headRead, walk, walkAt};
@@ -77,6 +78,18 @@ pub enum ElementRead {
 pub enum Pass {
     Done(Tally, Cursor),
     Refused(Refusal),
+}
+
+// An element's part, read again behind the reader, and the place behind it.
+pub struct PartAgain {
+    pub part: Part,
+    pub next: usize,
+}
+
+// A tag's number of texts, read again behind the reader, and the place behind it.
+pub struct CountAgain {
+    pub count: u64,
+    pub next: usize,
 }
 
 // A whole packed event, with the tally of its strict form; or the refusal.
@@ -562,5 +575,57 @@ pub fn element<'a>(s: &'a [u8], i: u64, j: u64) -> &'a [u8]
     match found {
         ElementRead::Found(p) => scan::part(s, p.at, p.len),
         ElementRead::Refused(_) => &s[..0],
+    }
+}
+
+// ---- going over it again
+
+// An element's part, with no second test of its text.
+fn read_part(s: &[u8], at: usize) -> PartRead
+    ensures { λ r. ⌜ partRead r ≡ partAt (now (s .entry)) at ⌝ }
+{
+    let found = varint::Cursor { at }.varint(s);
+    match found {
+        VarintRead::Value(word, behind) => {
+            Cursor { at: behind.at }.payload(s, at, word % 2 == 1, word / 2)
+        }
+        VarintRead::Refused(r) => PartRead::Refused(r),
+    }
+}
+
+// The part at a place; where none is read it is empty and the place stays.
+pub fn part_again(s: &[u8], at: usize) -> PartAgain
+    ensures { λ r. ⌜ r .part ≡ partAgain (now (s .entry)) at .value ⌝ }
+    ensures { λ r. ⌜ r .next ≡ partAgain (now (s .entry)) at .next ⌝ }
+{
+    let found = read_part(s, at);
+    match found {
+        PartRead::Found(part, behind) => PartAgain {
+            part,
+            next: behind.at,
+        },
+        PartRead::Refused(_) => PartAgain {
+            part: Part {
+                at,
+                len: 0,
+                raw: false,
+            },
+            next: at,
+        },
+    }
+}
+
+// A tag's number of texts; 0, and the place stays, where none is read.
+pub fn count_again(s: &[u8], at: usize) -> CountAgain
+    ensures { λ r. ⌜ r .count ≡ countAgain (now (s .entry)) at .value ⌝ }
+    ensures { λ r. ⌜ r .next ≡ countAgain (now (s .entry)) at .next ⌝ }
+{
+    let found = Cursor { at }.tag_count(s);
+    match found {
+        NumberRead::Number(count, behind) => CountAgain {
+            count,
+            next: behind.at,
+        },
+        NumberRead::Refused(_) => CountAgain { count: 0, next: at },
     }
 }
