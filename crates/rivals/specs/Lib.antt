@@ -1,4 +1,3 @@
 pub mod Rivals
-pub mod Label
 pub mod Answers
 pub mod Telling

@@ -1,10 +1,10 @@
 -- `is_replaceable` says whether a kind is replaceable.
 -- The same tests as the definition, in its order.
 use Rattle.scan.specs.Place.{within}
-use Rattle.rivals.specs.Rivals.{isReplaceable, isLabelled}
+use Rattle.keys.specs.Key.{isReplaceable, isLabelled}
 use borrow.Author.Tests.{eq-eqb, ne-eqb, le-leb, lt-leb}
-use Rattle.rivals.proofs.is_replaceable.Statement.{statement}
-use Rattle.rivals.proofs.is_replaceable.Tie as tie
+use Rattle.keys.proofs.is_replaceable.Statement.{statement}
+use Rattle.keys.proofs.is_replaceable.Tie as tie
 
 returns : tie.Need-returns
 unfolding isReplaceable

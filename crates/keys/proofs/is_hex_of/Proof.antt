@@ -7,9 +7,9 @@ use borrow.Author.Needs.{needs}
 use lib.ListN.{length, drop}
 use Rattle.hex.specs.Hex.{hexes}
 use Rattle.scan.specs.Compare.{sameBytes}
-use Rattle.rivals.proofs.Loops.{hex-again, hex-short, hex-first, hex-second, hex-left, hex-whole}
-use Rattle.rivals.proofs.is_hex_of.Statement.{statement}
-use Rattle.rivals.proofs.is_hex_of.Tie as tie
+use Rattle.keys.proofs.Loops.{hex-again, hex-short, hex-first, hex-second, hex-left, hex-whole}
+use Rattle.keys.proofs.is_hex_of.Statement.{statement}
+use Rattle.keys.proofs.is_hex_of.Tie as tie
 
 abbrev Inv-loop : tie.InvT-loop
 Inv-loop a t i₀ j₀ i j = (i ≤ length a) × (j ≤ length t) × (sameBytes (hexes a) t ≡ sameBytes (hexes (drop i a)) (drop j t))

@@ -1,38 +1,28 @@
--- The turns of the loops that compare: the definition from the start is the definition from here.
+-- The turns of the loops over a key: the definition from the start is the definition from here.
 -- The premises of a law are what its loop knows.
 use Prim.Native.Nat.{ℕ, zero, suc, _+_, _-_, _/_, _%_, _≤_, _<_}
-use mathlib.Core.Path.{_≡_, refl, sym, ap, _∙_}
+use mathlib.Core.Path.{_≡_, refl, sym, _∙_}
 use mathlib.Core.Bool.{Bool, true, false}
-use mathlib.Core.List.{List, [], _∷_}
+use mathlib.Core.List.{List}
 use mathlib.Core.Logic.{dite}
 use native.Mathlib.Numerals.{sub-one}
 use native.Mathlib.Omega.{arith}
 use native.Mathlib.Decide.{decLt}
 use lib.ListN.{length, getD, drop}
-use lib.Dec.{ltb, leb, eqb}
-use borrow.Author.Tests.{lt-ltb, le-ltb, le-leb, lt-leb, eq-eqb, ne-eqb}
-use Rattle.scan.specs.Choice.{pick, Answer, refused, Read, read}
+use lib.Dec.{eqb}
+use borrow.Author.Tests.{eq-eqb, ne-eqb}
+use Rattle.scan.specs.Choice.{pick}
+use Rattle.scan.specs.Compare.{sameBytes}
 use Rattle.scan.specs.Span.{IsBytes}
-use Rattle.scan.proofs.Reading.{shown-reads}
+use Rattle.scan.proofs.CompareLaws.{same-same, bytes-same, both-ways}
 use Rattle.scan.proofs.Step.{rest-none, rest-more}
 use Rattle.hex.specs.Hex.{digitOf, hexes}
 use Rattle.hex.proofs.Texts.{hexes-injective}
-use Rattle.scan.specs.Compare.{sameBytes}
-use Rattle.scan.proofs.CompareLaws.{same-same, bytes-same, both-ways}
-use Rattle.notepack.specs.declared.Cursor.{Cursor}
 use Rattle.notepack.specs.declared.Part.{Part}
-use Rattle.notepack.specs.declared.PartRead.{PartRead}
-use Rattle.notepack.specs.declared.PartRead.the-variants as part
-use Rattle.notepack.specs.declared.NumberRead.{NumberRead}
-use Rattle.notepack.specs.declared.NumberRead.the-variants as number
-use Rattle.notepack.specs.Unpack.{elementAt, tagCountAt}
-use Rattle.notepack.specs.Answers.{partRead, numberRead}
-use Rattle.notepack.proofs.Sound.{count-reads}
-use Rattle.strict.specs.Copy.{elementsEnd}
-use Rattle.rivals.specs.declared.LabelRead.{LabelRead}
-use Rattle.rivals.specs.declared.LabelRead.the-variants.{Found, Nothing}
-use Rattle.rivals.specs.Label.{isD, secondAt, labelAt}
-use Rattle.scan.specs.Compare.{lower}
+use Rattle.notepack.specs.Again.{partAgain, countAgain, textsEnd}
+use Rattle.keys.specs.declared.KeyRead.{KeyRead}
+use Rattle.keys.specs.declared.KeyRead.the-variants.{Keyless}
+use Rattle.keys.specs.Place.{isD, secondAt, labelAt}
 
 -- ---- the hex of bytes
 
@@ -95,39 +85,22 @@ same-hexes {a} {b} p q =
 
 -- ---- the label
 
-module _ (s : List ℕ) (X : LabelRead) where
-  pub label-again : (left at n r : ℕ) (f : NumberRead) (c : Cursor) (g : PartRead) (p : Part) (e : Cursor) (d : Bool)
-      → X ≡ labelAt left s at → 0 < left → numberRead f ≡ tagCountAt s at → f ≡ number.Number n c → partRead g ≡ elementAt s (c .at) → g ≡ part.Found p e
-      → d ≡ isD s p → d ≡ false → r ≡ elementsEnd (n - 1) s (e .at) → X ≡ labelAt (left - 1) s r
+module _ (s : List ℕ) (k : ℕ) (X : KeyRead) where
+  pub label-again : (left at : ℕ) {n f : ℕ} {p : Part} {d : Bool} {r : ℕ} → X ≡ labelAt k left s at → 0 < left
+      → n ≡ countAgain s at .value → f ≡ countAgain s at .next → p ≡ partAgain s f .value → d ≡ isD n s p → d ≡ false → r ≡ textsEnd n s f
+      → X ≡ labelAt k (left - 1) s r
   unfolding labelAt
-  label-again zero at n r f c g p e d inv l a b x y u v w = absurd (omega arith)
-  label-again (suc left) at n r f c g p e d inv l a b x y u v w = inv ∙ rw (sym a ∙ ap numberRead b, sym x ∙ ap partRead y, ← u, v, ← w, sub-one)
+  label-again zero at inv l a b x u v w = absurd (omega arith)
+  label-again (suc left) at inv l a b x u v w = inv ∙ rw (← b, ← a, ← x, ← u, v, ← w, sub-one)
 
-  pub label-found : (left at n : ℕ) (r : LabelRead) (f : NumberRead) (c : Cursor) (g : PartRead) (p : Part) (e : Cursor) (d : Bool)
-      → X ≡ labelAt left s at → 0 < left → numberRead f ≡ tagCountAt s at → f ≡ number.Number n c → partRead g ≡ elementAt s (c .at) → g ≡ part.Found p e
-      → d ≡ isD s p → d ≡ true → r ≡ secondAt n s (e .at) → r ≡ X
+  pub label-found : (left at : ℕ) {n f : ℕ} {p : Part} {q : ℕ} {d : Bool} {r : KeyRead} → X ≡ labelAt k left s at → 0 < left
+      → n ≡ countAgain s at .value → f ≡ countAgain s at .next → p ≡ partAgain s f .value → q ≡ partAgain s f .next → d ≡ isD n s p → d ≡ true
+      → r ≡ secondAt k n s q → r ≡ X
   unfolding labelAt
-  label-found zero at n r f c g p e d inv l a b x y u v w = absurd (omega arith)
-  label-found (suc left) at n r f c g p e d inv l a b x y u v w = w ∙ sym (inv ∙ rw (sym a ∙ ap numberRead b, sym x ∙ ap partRead y, ← u, v))
+  label-found zero at inv l a b x y u v w = absurd (omega arith)
+  label-found (suc left) at inv l a b x y u v w = w ∙ sym (inv ∙ rw (← b, ← a, ← x, ← y, ← u, v))
 
-  pub label-no-element : (left at n k q : ℕ) (f : NumberRead) (c : Cursor) (g : PartRead)
-      → X ≡ labelAt left s at → 0 < left → numberRead f ≡ tagCountAt s at → f ≡ number.Number n c → partRead g ≡ elementAt s (c .at) → partRead g ≡ refused k q → Nothing ≡ X
-  unfolding labelAt
-  label-no-element zero at n k q f c g inv l a b x y = absurd (omega arith)
-  label-no-element (suc left) at n k q f c g inv l a b x y = sym (inv ∙ rw (sym a ∙ ap numberRead b, sym x ∙ y))
-
-  pub label-no-tag : (left at k q : ℕ) (f : NumberRead) → X ≡ labelAt left s at → 0 < left → numberRead f ≡ tagCountAt s at → numberRead f ≡ refused k q → Nothing ≡ X
-  unfolding labelAt
-  label-no-tag zero at k q f inv l a b = absurd (omega arith)
-  label-no-tag (suc left) at k q f inv l a b = sym (inv ∙ rw (sym a ∙ b))
-
-  pub label-none : (left at : ℕ) → X ≡ labelAt left s at → left ≤ 0 → Nothing ≡ X
+  pub label-none : (left at : ℕ) → X ≡ labelAt k left s at → left ≤ 0 → Keyless ≡ X
   unfolding labelAt
   label-none zero at inv l = sym inv
   label-none (suc left) at inv l = absurd (omega arith)
-
--- a tag that was read has an element
-pub count-some : (s : List ℕ) → IsBytes s → (at n : ℕ) (f : NumberRead) (c : Cursor) → numberRead f ≡ tagCountAt s at → f ≡ number.Number n c → 1 ≤ n
-count-some s bytes at n f c a b =
-    let e : tagCountAt s at ≡ read n (c .at) = sym a ∙ ap numberRead b in
-    shown-reads (rw e at (count-reads s bytes at)) .1 .1

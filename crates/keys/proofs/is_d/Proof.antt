@@ -1,9 +1,9 @@
 -- `is_d` says whether a part's text is `d`.
 -- The same test as the definition; the bytes are compared by `same_bytes`.
-use Rattle.rivals.specs.Label.{isD}
+use Rattle.keys.specs.Place.{isD}
 use borrow.Author.Needs.{needs}
-use Rattle.rivals.proofs.is_d.Statement.{statement}
-use Rattle.rivals.proofs.is_d.Tie as tie
+use Rattle.keys.proofs.is_d.Statement.{statement}
+use Rattle.keys.proofs.is_d.Tie as tie
 
 returns : tie.Need-returns
 unfolding isD

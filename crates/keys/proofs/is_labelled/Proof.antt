@@ -2,9 +2,9 @@
 -- The same tests as the definition, in its order.
 use Rattle.scan.specs.Place.{within}
 use borrow.Author.Tests.{le-leb, lt-leb}
-use Rattle.rivals.specs.Rivals.{isLabelled, isReplaceable}
-use Rattle.rivals.proofs.is_labelled.Statement.{statement}
-use Rattle.rivals.proofs.is_labelled.Tie as tie
+use Rattle.keys.specs.Key.{isLabelled, isReplaceable}
+use Rattle.keys.proofs.is_labelled.Statement.{statement}
+use Rattle.keys.proofs.is_labelled.Tie as tie
 
 returns : tie.Need-returns
 unfolding isReplaceable isLabelled within

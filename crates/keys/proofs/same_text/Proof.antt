@@ -6,9 +6,9 @@ use borrow.Author.Needs.{needs}
 use Rattle.scan.proofs.AllLaws.{all-places, all-take, all-drop}
 use Rattle.notepack.proofs.Walking.{text-raw, text-plain}
 use Rattle.scan.proofs.CompareLaws.{same-sym}
-use Rattle.rivals.proofs.Loops.{same-hexes}
-use Rattle.rivals.proofs.same_text.Statement.{statement}
-use Rattle.rivals.proofs.same_text.Tie as tie
+use Rattle.keys.proofs.Loops.{same-hexes}
+use Rattle.keys.proofs.same_text.Statement.{statement}
+use Rattle.keys.proofs.same_text.Tie as tie
 
 both-raw : tie.Need-returns
 both-raw c =
