@@ -1,43 +1,36 @@
 -- The strict question and the strict writer, over the walk of an input: what they answer and what is written.
 -- By how the input stands to its strict form, and by the event that is gone over again.
-use Prim.Native.Nat.{ℕ, zero, suc, _-_, _≤_, _<_}
+use Prim.Native.Nat.{ℕ, _-_, _≤_, _<_}
 use mathlib.Core.Path.{_≡_, refl, sym, ap, _∙_, subst}
 use mathlib.Core.Bool.{true, false, not}
 use mathlib.Core.List.{List, _∷_, _++_, append-assoc}
 use mathlib.Core.Logic.{_↔_}
-use native.Mathlib.Numerals.{sub-one}
 use native.Mathlib.Omega.{arith}
 use lib.ListN.{length, take, drop}
 use lib.Seq.{take-add, drop-drop}
 use lib.Dec.{eqb}
 use borrow.Author.Tests.{eq-eqb, ne-eqb}
-use Rattle.scan.specs.Choice.{pick, Answer, shown, refused, Read, andThen, many}
+use Rattle.scan.specs.Choice.{pick, Answer, shown, refused, andThen}
 use Rattle.scan.specs.Compare.{sameBytes}
 use Rattle.scan.proofs.CompareLaws.{same-same, bytes-same}
-use Rattle.scan.proofs.Reading.{read-same}
-use Rattle.scan.proofs.Many.{many-apart}
 use Rattle.buffer.specs.Store.{Wrote}
 use Rattle.buffer.specs.Entry.{writes, leaves}
 use Rattle.buffer.proofs.EntryLaws.{short, fitted}
 use Rattle.varint.specs.Uleb.{uleb}
 use Rattle.event.specs.declared.Refusal.{Refusal}
 use Rattle.event.specs.Event.{Tag, Event}
-use Rattle.notepack.specs.declared.Part.{Part}
-use Rattle.notepack.specs.declared.Cursor.{Cursor}
-use Rattle.notepack.specs.declared.PartRead.{PartRead}
-use Rattle.notepack.specs.declared.PartRead.the-variants as part
 use Rattle.notepack.specs.declared.Walk.{Walk}
 use Rattle.notepack.specs.declared.Walk.the-variants as walk-by
 use Rattle.notepack.specs.Strict.{packElements, packTag, packTags, pack}
-use Rattle.notepack.specs.Unpack.{elementAt, elementsAt, unpack}
+use Rattle.notepack.specs.Unpack.{unpack}
 use Rattle.notepack.specs.Again.{textsAgain, tagsAgain, eventAgain}
-use Rattle.notepack.specs.Answers.{partRead, Walked, walk, walkAt}
+use Rattle.notepack.specs.Answers.{Walked, walk, walkAt}
 use Rattle.notepack.proofs.Piece.{piece-decides}
 use Rattle.notepack.proofs.Lengths.{tag-form}
 use Rattle.notepack.proofs.Walking.{walk-refuses}
 use Rattle.notepack.proofs.Again.{texts-count, tags-count, Accepted}
 use Rattle.strict.specs.Strict.{strict}
-use Rattle.strict.specs.Copy.{packedHead, elementsEnd}
+use Rattle.strict.specs.Copy.{packedHead}
 
 -- ---- the strict question
 
@@ -118,29 +111,3 @@ strict-exactly s = (λ h. there (unpack s) refl h, λ p. back (p .0) (p .1) (p .
 
     back : (e : Event) → unpack s ≡ shown e → s ≡ pack e → andThen (unpack s) (λ (x : Event). shown (sameBytes s (pack x))) ≡ shown true
     back e u q = rw u (ap shown (ap (λ (l : List ℕ). sameBytes l (pack e)) q ∙ same-same (pack e)))
-
--- ---- for crate rivals: where elements end
-
-module _ (s : List ℕ) where
-  pub elements-turn : (left at : ℕ) (f : PartRead) (p : Part) (c : Cursor) → 0 < left → partRead f ≡ elementAt s at → f ≡ part.Found p c
-      → elementsEnd left s at ≡ elementsEnd (left - 1) s (c .at)
-  unfolding elementsEnd
-  elements-turn zero at f p c h e k = absurd (omega arith)
-  elements-turn (suc left) at f p c h e k = let r = sym e ∙ ap partRead k in rw (r, sub-one)
-
-  pub elements-stop : (left at : ℕ) (f : PartRead) (n q : ℕ) → 0 < left → partRead f ≡ elementAt s at → partRead f ≡ refused n q → elementsEnd left s at ≡ at
-  unfolding elementsEnd
-  elements-stop zero at f n q h e k = absurd (omega arith)
-  elements-stop (suc left) at f n q h e k = let r = sym e ∙ k in rw r
-
-  pub elements-left : (left at : ℕ) → left ≤ 0 → elementsEnd left s at ≡ at
-  unfolding elementsEnd
-  elements-left zero at h = refl
-  elements-left (suc left) at h = absurd (omega arith)
-
-  pub elements-end : (n at : ℕ) (v : Read (List Part)) → elementsAt n s at ≡ shown v → elementsEnd n s at ≡ v .next
-  unfolding elementsEnd many
-  elements-end zero at v e = read-same e .1
-  elements-end (suc n) at v e =
-      let a = many-apart (elementAt s) n at v e in
-      rw (a .2) (elements-end n (a .0 .next) (a .1) (a .3) ∙ sym (a .5))

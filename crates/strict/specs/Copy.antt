@@ -1,18 +1,12 @@
 -- What the second pass writes in front of the tags. Assumes nothing.
-use Prim.Native.Nat.{ℕ, zero, suc}
+use Prim.Native.Nat.{ℕ}
 use mathlib.Core.List.{List, _++_}
 use lib.ListN.{take}
-use Rattle.scan.specs.Choice.{orElse}
 use Rattle.varint.specs.Uleb.{uleb}
 use Rattle.notepack.specs.declared.Head.{Head}
-use Rattle.notepack.specs.Unpack.{bytesOf, elementAt}
+use Rattle.notepack.specs.Unpack.{bytesOf}
 
 -- all in front of the tags
 unfoldable pub packedHead : List ℕ → Head → List ℕ
 packedHead s h =
     take 128 s ++ uleb (h .«created_at») ++ uleb (h .kind) ++ uleb (h .content .len) ++ bytesOf s (h .content) ++ uleb (h .«tag_count»)
-
--- where n elements end, or where a refusal stops: crate rivals goes by it
-unfoldable pub elementsEnd : ℕ → List ℕ → ℕ → ℕ
-elementsEnd zero s at = at
-elementsEnd (suc n) s at = orElse at (elementAt s at) λ e. elementsEnd n s (e .next)
