@@ -1,6 +1,6 @@
 pub mod Plain
 pub mod Places
-pub mod Over
+pub mod Turns
 pub mod Counts
 pub mod Whole
 pub mod Entry

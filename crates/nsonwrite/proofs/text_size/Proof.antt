@@ -1,14 +1,16 @@
 -- `text_size` measures a part's text and says whether NSON can carry it.
 -- A raw part's text is hex digits, two for each byte, none escaped; any other text is measured as it stands.
-use mathlib.Core.Path.{refl, sym, ap}
+use mathlib.Core.Path.{refl, ap}
 use mathlib.Core.Bool.{false}
 use native.Mathlib.Omega.{arith}
 use lib.ListN.{length}
+use lib.Dec.{leb}
 use borrow.Author.Needs.{needs}
 use Rattle.scan.proofs.AllLaws.{all-places}
 use Rattle.notepack.proofs.Walking.{text-plain}
-use Rattle.jsontags.proofs.Again.{part-short, raw-length, plain-length}
+use Rattle.jsontags.proofs.Turns.{part-short, raw-length, plain-length}
 use Rattle.nsonwrite.proofs.Plain.{raw-plain}
+use Rattle.nsonwrite.proofs.Turns.{and-pick}
 use Rattle.nsonwrite.proofs.text_size.Statement.{statement}
 use Rattle.nsonwrite.proofs.text_size.Tie as tie
 
@@ -29,7 +31,7 @@ plain c =
     let a = c .before .before .before .before .before .before .args in
     let n = plain-length false (a .s .now) (a .p) left in
     let m = rw part at (size .0) in
-    (omega (arith, n, m), (omega (arith, ap length part, size .1 .1, part-short (a .s .now) (a .p)), rw (text-plain (a .s .now) (a .p) left, ← part, ← size .1 .0) (c .both .ensures)))
+    (omega (arith, n, m), (omega (arith, ap length part, size .1 .1, part-short (a .s .now) (a .p)), rw (text-plain (a .s .now) (a .p) left, ← part, ← size .1 .0) (and-pick (c .before .before .nson-size .result .fits) (leb (c .before .before .nson-size .result .len) 65_535))))
 
 pub text-size-spec : {M : Type 1} → statement M
-text-size-spec = tie.close (tie.spec (λ c κs. search needs) (λ c. search needs) raw (λ c κs. search needs) (λ c κs. search needs) plain)
+text-size-spec = tie.close (tie.spec (λ c κs. search needs) (λ c. search needs) raw (λ c κs. search needs) plain)

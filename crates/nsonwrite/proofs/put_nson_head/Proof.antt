@@ -1,13 +1,14 @@
--- `put_head` writes all in front of the nson field, piece by piece.
+-- `put_nson_head` writes all in front of the nson field, piece by piece.
 -- Nine writers in a row are one.
 use borrow.Author.Needs.{needs}
 use Rattle.buffer.proofs.Laws.{then, kept}
-use Rattle.nsonwrite.specs.Copy.{headFrom}
-use Rattle.nsonwrite.proofs.put_head.Statement.{statement}
-use Rattle.nsonwrite.proofs.put_head.Tie as tie
+use Rattle.notepack.specs.Again.{eventAgain}
+use Rattle.nson.specs.Nson.{headText}
+use Rattle.nsonwrite.proofs.put_nson_head.Statement.{statement}
+use Rattle.nsonwrite.proofs.put_nson_head.Tie as tie
 
 returns : tie.Need-returns
-unfolding headFrom
+unfolding headText eventAgain
 returns c =
     let last = c .before .before in
     let time = last .before .before .before .before .before in
@@ -29,8 +30,8 @@ returns c =
     (time .put-decimal .ensures))
     (last .put-bytes5 .ensures)
 
-pub put-head-spec : {M : Type 1} → statement M
-put-head-spec =
+pub put-nson-head-spec : {M : Type 1} → statement M
+put-nson-head-spec =
     tie.close
     (tie.spec
     (λ c. search needs)

@@ -1,13 +1,14 @@
--- `put_body` writes all behind the nson field, piece by piece.
+-- `put_nson_body` writes all behind the nson field, piece by piece.
 -- Seven writers in a row are one.
 use borrow.Author.Needs.{needs}
 use Rattle.buffer.proofs.Laws.{then}
-use Rattle.nsonwrite.specs.Copy.{bodyFrom}
-use Rattle.nsonwrite.proofs.put_body.Statement.{statement}
-use Rattle.nsonwrite.proofs.put_body.Tie as tie
+use Rattle.notepack.specs.Again.{eventAgain}
+use Rattle.nsonwrite.proofs.Whole.{body-wrote}
+use Rattle.nsonwrite.proofs.put_nson_body.Statement.{statement}
+use Rattle.nsonwrite.proofs.put_nson_body.Tie as tie
 
 returns : tie.Need-returns
-unfolding bodyFrom
+unfolding eventAgain
 returns c =
     let last = c .before .before in
     let tags = last .before .before .before .before .before in
@@ -16,16 +17,18 @@ returns c =
     let contentLabel = content .before .before .before .before in
     let kind = contentLabel .before .before .before .before .before in
     let kindLabel = kind .before .before .before .before in
-    then
+    let a = kindLabel .before .before .before .before .before .args in
+    body-wrote (eventAgain (a .s .now) (a .h))
     (then
     (then
-    (then (then (then (kindLabel .put-bytes .ensures) (kind .put-decimal .ensures)) (contentLabel .put-bytes2 .ensures)) (content .put-text .ensures))
+    (then
+    (then (then (then (kindLabel .put-bytes .ensures) (kind .put-decimal .ensures)) (contentLabel .put-bytes2 .ensures)) (content .put-escaped-part .ensures))
     (tagsLabel .put-bytes3 .ensures))
-    (tags .put-tags .ensures))
-    (last .put-bytes4 .ensures)
+    (tags .put-arrays .ensures))
+    (last .put-bytes4 .ensures))
 
-pub put-body-spec : {M : Type 1} → statement M
-put-body-spec =
+pub put-nson-body-spec : {M : Type 1} → statement M
+put-nson-body-spec =
     tie.close
     (tie.spec
     (λ c. search needs)
