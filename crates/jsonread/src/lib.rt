@@ -402,7 +402,7 @@ impl Cursor {
         let found = self.spelled(&s[..]);
         match found {
             TextRead::Plain(p, next) => LenRead::Len(
-                notepack::text_len(scan::part(s, p.from, p.count)),
+                notepack::packed_text_len(scan::part(s, p.from, p.count)),
                 next,
             ),
             TextRead::Other(p, next) => LenRead::Len(element_len(s, p), next),

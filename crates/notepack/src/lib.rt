@@ -215,7 +215,7 @@ impl Cursor {
             let found = c.element(s);
             match found {
                 PartRead::Found(p, next) => {
-                    let n = element_len(s, p);
+                    let n = packed_part_len(s, p);
                     sum = sum.more(n, is_hollow(p));
                     c = next;
                     left -= 1;
@@ -295,7 +295,7 @@ fn is_hollow(p: Part) -> bool
 }
 
 // The length of the strict element whose text these bytes are.
-pub fn text_len(t: &[u8]) -> usize
+pub fn packed_text_len(t: &[u8]) -> usize
     ensures { λ r. ⌜ r ≡ length (packElement (now (t .entry))) ⌝ }
     ensures { λ r. ⌜ r ≤ length (now (t .entry)) + 10 ⌝ }
 {
@@ -318,14 +318,14 @@ fn bytes_len(b: &[u8]) -> usize
 }
 
 // The length of the strict element that has a part's text.
-fn element_len(s: &[u8], p: Part) -> usize
+fn packed_part_len(s: &[u8], p: Part) -> usize
     ensures { λ r. ⌜ r ≡ length (packElement (textOf (now (s .entry)) p)) ⌝ }
 {
     let bytes = scan::part(s, p.at, p.len);
     if p.raw {
         return bytes_len(bytes);
     }
-    text_len(bytes)
+    packed_text_len(bytes)
 }
 
 // created_at, kind, the content and the number of tags.

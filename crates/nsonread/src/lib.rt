@@ -480,7 +480,7 @@ fn element_len(s: &[u8], from: usize, n: usize, len: usize) -> usize
     ensures { λ r. ⌜ r ≤ n + 10 ⌝ }
 {
     if len == n {
-        return notepack::text_len(scan::part(s, from, n));
+        return notepack::packed_text_len(scan::part(s, from, n));
     }
     stringelement::element_len(s, from, n)
 }

@@ -12,7 +12,7 @@ own-text : tie.Need-returns
 own-text c =
     let a = c .before .before .before .before .before .before .before .args in
     let own = plain-own (c .before .before .before .before .before .spelled .ensures .1) (c .before .before .before .found .given .1) in
-    rw (same-size (c .text-len .ensures .0) (c .before .part .ensures) own) (text-of (a .s .now) (a .self .at) elementSize (sym (c .before .before .before .before .before .spelled .ensures .0) ∙ ap textRead (c .before .before .before .found .given .1)))
+    rw (same-size (c .packed-text-len .ensures .0) (c .before .part .ensures) own) (text-of (a .s .now) (a .self .at) elementSize (sym (c .before .before .before .before .before .spelled .ensures .0) ∙ ap textRead (c .before .before .before .found .given .1)))
 
 pub element-spec : {M : Type 1} → statement M
 element-spec =
