@@ -23,7 +23,7 @@ returns-3 c =
     let at-a = at-b .before .before .before in
     let at-find-label2 = at-a .before .before in
     let at-find-label = at-find-label2 .before in
-    simp (← at-find-label .find-label .ensures, ← at-find-label2 .find-label2 .ensures, at-a .a .given .1, at-b .b .given .1, ← c .same-same .ensures)
+    simp (← at-find-label .find-label .ensures, ← at-find-label2 .find-label2 .ensures, at-a .a .given .1, at-b .b .given .1, ← c .same-text .ensures)
 
 pub same-labels-spec : {M : Type 1} → statement M
 same-labels-spec =
