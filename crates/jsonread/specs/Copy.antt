@@ -3,12 +3,11 @@ use Prim.Native.Nat.{ℕ, zero, suc, _+_}
 use mathlib.Core.List.{List, [], _++_}
 use lib.ListN.{length, take, drop}
 use lib.Dec.{ltb, eqb}
-use Rattle.scan.specs.Choice.{pick}
+use Rattle.scan.specs.Choice.{pick, orElse}
 use Rattle.scan.specs.Place.{byteAt}
 use Rattle.varint.specs.Uleb.{uleb}
 use Rattle.hex.specs.Hex.{unhex}
 use Rattle.notepack.specs.Strict.{packElement}
-use Rattle.strict.specs.Copy.{orElse}
 use Rattle.jsontext.specs.declared.Spelled.{Spelled}
 use Rattle.jsontext.specs.Token.{spaceAt}
 use Rattle.jsontext.specs.Text.{stringAt}

@@ -5,11 +5,10 @@ use mathlib.Core.Bool.{Bool, true, false}
 use mathlib.Core.List.{List, [], _∷_}
 use lib.ListN.{length, take, drop}
 use lib.Dec.{leb, eqb}
-use Rattle.scan.specs.Choice.{pick}
+use Rattle.scan.specs.Choice.{pick, orElse}
 use Rattle.hex.specs.Hex.{unhex}
 use Rattle.event.specs.Event.{Tag, Event}
 use Rattle.notepack.specs.Strict.{pack}
-use Rattle.strict.specs.Copy.{orElse}
 use Rattle.json.specs.Field.{textOf, insideAt, tagAt, Value, missing, bytes, number, tags, text}
 use Rattle.jsontext.specs.declared.Spelled.{Spelled}
 use Rattle.jsonread.specs.declared.Spot.{Spot}

@@ -998,7 +998,7 @@ fn put_texts(out: &mut [u8], at: usize, s: &[u8], from: usize, count: u64) -> Co
         let found = Cursor { at: i }.spelled(&s[..]);
         match found {
             TextRead::Plain(p, next) => {
-                o = strict::put_text(out, o, scan::part(s, p.from, p.count));
+                o = strict::put_packed_text(out, o, scan::part(s, p.from, p.count));
                 i = behind(s, past_space(s, next.at));
                 left -= 1;
             }

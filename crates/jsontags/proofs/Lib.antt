@@ -1,3 +1,3 @@
 pub mod Texts
-pub mod Again
+pub mod Turns
 pub mod Room

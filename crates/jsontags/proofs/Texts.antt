@@ -13,8 +13,7 @@ use Rattle.hex.proofs.Texts.{length-hexes, hexes-digits}
 use Rattle.escape.specs.Escape.{nsonByte, canonicalByte, escaped}
 use Rattle.escape.specs.Block.{byteOf}
 use Rattle.escape.proofs.TextLaws.{escaped-none, escaped-more}
-use Rattle.jsontags.specs.TagText.{quoted, commaed, array}
-use Rattle.jsontags.specs.Copy.{comma}
+use Rattle.jsontags.specs.TagText.{quoted, comma, commaed, array}
 
 -- ---- what needs no escape
 
@@ -37,7 +36,7 @@ digit-stands : (all : Bool) {b : ℕ} → Digit b → byteOf all b ≡ b ∷ []
 digit-stands all {b} (number l h) = byte-stands all b (omega arith) (λ e. omega arith)
 digit-stands all {b} (letter l h) = byte-stands all b (omega arith) (λ e. omega arith)
 
-digits-stand : (all : Bool) {t : List ℕ} → All Digit t → escaped (byteOf all) t ≡ t
+pub digits-stand : (all : Bool) {t : List ℕ} → All Digit t → escaped (byteOf all) t ≡ t
 digits-stand all none = escaped-none (byteOf all)
 digits-stand all (also {b = b} {l = l} d a) = escaped-more (byteOf all) b l ∙ rw (digit-stands all d, digits-stand all a)
 
@@ -67,10 +66,9 @@ pub commaed-more : (x : List ℕ) (l : List (List ℕ)) → commaed (x ∷ l) �
 commaed-more x [] = sym (append-nil x)
 commaed-more x (y ∷ l) = rw (lt-ltb 0 (suc (length l)) (omega arith))
 
+pub commaed-next : (x : List ℕ) (l : List (List ℕ)) {n : ℕ} → length l ≡ n → commaed (x ∷ l) ≡ x ++ (comma n ++ commaed l)
+commaed-next x l e = commaed-more x l ∙ ap (λ (n : ℕ). x ++ (comma n ++ commaed l)) e
+
 -- an array is its items with their commas, and two brackets
 pub length-array : (l : List (List ℕ)) → length (array l) ≡ length (commaed l) + 2
 length-array l = omega (arith, length-append (commaed l) (0x5D ∷ []))
-
-pub length-commaed-more : (x : List ℕ) (l : List (List ℕ)) → length (commaed (x ∷ l)) ≡ length x + length (comma (length l)) + length (commaed l)
-length-commaed-more x l =
-    ap length (commaed-more x l) ∙ omega (arith, length-append x (comma (length l) ++ commaed l), length-append (comma (length l)) (commaed l))

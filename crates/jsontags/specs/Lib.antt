@@ -1,2 +1,1 @@
 pub mod TagText
-pub mod Copy

@@ -1,36 +1,20 @@
 // The tags of a packed event as arrays of strings, without white space. `all` says which escaping: true is the canonical text's, false NSON's.
-use notepack::NumberRead;
 use notepack::Part;
-use notepack::PartRead;
-use varint::VarintRead;
 ghost use Prim.Native.Nat.{_*_, _≤_};
 ghost use mathlib.Core.Path.{_≡_};
+ghost use mathlib.Core.List.{map};
 ghost use lib.ListN.{length};
 ghost use Rattle.buffer.specs.Store.{Wrote};
 ghost use Rattle.escape.specs.Escape.{escaped};
 ghost use Rattle.escape.specs.Block.{byteOf};
 ghost use Rattle.notepack.specs.Unpack.{textOf};
-ghost use Rattle.notepack.specs.Answers.{partRead};
-ghost use Rattle.jsontags.specs.TagText.{quoted};
-ghost use Rattle.jsontags.specs.Copy.{partAt, comma, elementsFrom, elementsEnd, tagsFrom};
+ghost use Rattle.notepack.specs.Again.{textsAgain, textsEnd, tagsAgain};
+ghost use Rattle.jsontags.specs.TagText.{quoted, comma, commaed, tagText};
 
 // The place behind what was written, and the place behind what was read for it.
-pub struct Copied {
-    pub out: usize,
-    pub next: usize,
-}
-
-// An element's part, with no second test of its text.
-pub fn read_part(s: &[u8], at: usize) -> PartRead
-    ensures { λ r. ⌜ partRead r ≡ partAt (now (s .entry)) at ⌝ }
-{
-    let found = varint::Cursor { at }.varint(s);
-    match found {
-        VarintRead::Value(word, behind) => {
-            notepack::Cursor { at: behind.at }.payload(s, at, word % 2 == 1, word / 2)
-        }
-        VarintRead::Refused(r) => PartRead::Refused(r),
-    }
+struct Copied {
+    out: usize,
+    next: usize,
 }
 
 // ---- lengths. The sums over elements and tags are the formats' own, since they end where the input's limit is known.
@@ -43,7 +27,7 @@ pub fn comma_len(left: u64) -> usize
 }
 
 // The length of a part's text between its quotes. Hex digits need no escape.
-pub fn text_len(all: bool, s: &[u8], p: Part) -> usize
+pub fn escaped_part_len(all: bool, s: &[u8], p: Part) -> usize
     ensures { λ r. ⌜ r ≡ length (escaped (byteOf all) (textOf (now (s .entry)) p)) ⌝ }
     ensures { λ r. ⌜ r ≤ 2 * length (now (s .entry)) ⌝ }
 {
@@ -66,7 +50,7 @@ fn put_comma(out: &mut [u8], at: usize, left: u64) -> usize
 }
 
 // A part's text, escaped. Hex digits need no escape.
-pub fn put_text(all: bool, out: &mut [u8], at: usize, s: &[u8], p: Part) -> usize
+pub fn put_escaped_part(all: bool, out: &mut [u8], at: usize, s: &[u8], p: Part) -> usize
     ensures { λ r. ⌜ Wrote (now (out .entry)) at (escaped (byteOf all) (textOf (now (s .entry)) p)) (now (out .exit)) r ⌝ }
 {
     let bytes = scan::part(s, p.at, p.len);
@@ -81,53 +65,43 @@ pub fn put_quoted(all: bool, out: &mut [u8], at: usize, s: &[u8], p: Part) -> us
     ensures { λ r. ⌜ Wrote (now (out .entry)) at (quoted (byteOf all) (textOf (now (s .entry)) p)) (now (out .exit)) r ⌝ }
 {
     let a = buffer::put_byte(out, at, b'"');
-    let b = put_text(all, out, a, s, p);
+    let b = put_escaped_part(all, out, a, s, p);
     buffer::put_byte(out, b, b'"')
 }
 
-// count elements from a place on.
-fn put_elements(all: bool, out: &mut [u8], at: usize, s: &[u8], from: usize, count: u64) -> Copied
-    ensures { λ r. ⌜ Wrote (now (out .entry)) at (elementsFrom (byteOf all) count (now (s .entry)) from) (now (out .exit)) (r .out) ⌝ }
-    ensures { λ r. ⌜ r .next ≡ elementsEnd count (now (s .entry)) from ⌝ }
+// count elements from a place on, as strings with a comma between each two.
+fn put_strings(all: bool, out: &mut [u8], at: usize, s: &[u8], from: usize, count: u64) -> Copied
+    ensures { λ r. ⌜ Wrote (now (out .entry)) at (commaed (map (quoted (byteOf all)) (textsAgain count (now (s .entry)) from))) (now (out .exit)) (r .out) ⌝ }
+    ensures { λ r. ⌜ r .next ≡ textsEnd count (now (s .entry)) from ⌝ }
 {
     let mut o = at;
     let mut i = from;
     let mut left = count;
     while 0 < left {
-        let found = read_part(s, i);
-        match found {
-            PartRead::Found(p, next) => {
-                left -= 1;
-                o = put_quoted(all, out, o, s, p);
-                o = put_comma(out, o, left);
-                i = next.at;
-            }
-            PartRead::Refused(_) => return Copied { out: o, next: i },
-        }
+        left -= 1;
+        let again = notepack::part_again(s, i);
+        o = put_quoted(all, out, o, s, again.part);
+        o = put_comma(out, o, left);
+        i = again.next;
     }
     Copied { out: o, next: i }
 }
 
-// count tags from a place on.
-pub fn put_tags(all: bool, out: &mut [u8], at: usize, s: &[u8], from: usize, count: u64) -> usize
-    ensures { λ r. ⌜ Wrote (now (out .entry)) at (tagsFrom (byteOf all) count (now (s .entry)) from) (now (out .exit)) r ⌝ }
+// count tags from a place on, as arrays with a comma between each two.
+pub fn put_arrays(all: bool, out: &mut [u8], at: usize, s: &[u8], from: usize, count: u64) -> usize
+    ensures { λ r. ⌜ Wrote (now (out .entry)) at (commaed (map (tagText (byteOf all)) (tagsAgain count (now (s .entry)) from))) (now (out .exit)) r ⌝ }
 {
     let mut o = at;
     let mut i = from;
     let mut left = count;
     while 0 < left {
-        let found = notepack::Cursor { at: i }.tag_count(s);
-        match found {
-            NumberRead::Number(texts, first) => {
-                left -= 1;
-                o = buffer::put_byte(out, o, b'[');
-                let elements = put_elements(all, out, o, s, first.at, texts);
-                o = buffer::put_byte(out, elements.out, b']');
-                o = put_comma(out, o, left);
-                i = elements.next;
-            }
-            NumberRead::Refused(_) => return o,
-        }
+        left -= 1;
+        let again = notepack::count_again(s, i);
+        o = buffer::put_byte(out, o, b'[');
+        let copied = put_strings(all, out, o, s, again.next, again.count);
+        o = buffer::put_byte(out, copied.out, b']');
+        o = put_comma(out, o, left);
+        i = copied.next;
     }
     o
 }

@@ -1,7 +1,7 @@
 -- What was read once is read again from its place: the turns of the loops that go over texts and tags again, and what they go over.
 -- By induction on how many are left, along the reads.
 use Prim.Native.Nat.{ℕ, zero, suc, _+_, _-_, _/_, _%_, _≤_, _<_}
-use mathlib.Core.Path.{_≡_, refl, sym, ap, _∙_}
+use mathlib.Core.Path.{_≡_, refl, sym, ap, _∙_, subst}
 use mathlib.Core.Bool.{Bool, true, false}
 use mathlib.Core.List.{List, [], _∷_, map}
 use native.Mathlib.Numerals.{sub-one}
@@ -9,17 +9,23 @@ use native.Mathlib.Omega.{arith}
 use lib.ListN.{length}
 use lib.Dec.{eqb}
 use borrow.Author.Tests.{le-leb}
-use Rattle.scan.specs.Choice.{pick, shown, Read, many}
+use Rattle.scan.specs.Choice.{pick, Answer, shown, refused, Read, orElse, many}
+use Rattle.scan.specs.Span.{IsBytes}
 use Rattle.scan.proofs.SpanLaws.{span-length, span-fits}
-use Rattle.scan.proofs.Reading.{read-same, shown-reads}
+use Rattle.scan.proofs.Reading.{Reads, read-same, shown-reads, shown-gives}
 use Rattle.scan.proofs.Many.{then-shown, many-apart}
 use Rattle.varint.specs.Varint.{varintAt}
-use Rattle.event.specs.Event.{Text, Tag}
+use Rattle.event.specs.Event.{Event}
 use Rattle.notepack.specs.declared.Part.{Part}
-use Rattle.notepack.specs.Unpack.{textOf, payloadAt, textAt, elementAt, elementsAt, tagCountAt, tagAt, tagsAt, Packed, packedAt, eventOf}
-use Rattle.notepack.specs.Again.{partAt, partAgain, countAgain, textsAgain, textsEnd, tagsAgain}
-use Rattle.notepack.proofs.Sound.{text-reads}
-use Rattle.notepack.proofs.Viewing.{packed-apart, tag-apart}
+use Rattle.notepack.specs.Unpack.{bytesOf, textOf, payloadAt, textAt, elementAt, elementsAt, tagCountAt, tagAt, tagsAt, Packed, packedAt, eventOf, unpack}
+use Rattle.notepack.specs.Again.{partAt, partAgain, countAgain, textsAgain, textsEnd, tagsAgain, eventAgain}
+use Rattle.notepack.specs.Strict.{pack}
+use Rattle.notepack.specs.Tally.{hollowTags, tallyOf}
+use Rattle.notepack.specs.Answers.{Walked, walkAt}
+use Rattle.notepack.proofs.Piece.{Piece}
+use Rattle.notepack.proofs.Sound.{Number, text-reads, sized-text, count-reads, head-gives, packed-gives, Shows, sound}
+use Rattle.notepack.proofs.Walking.{walked-packed}
+use Rattle.notepack.proofs.Viewing.{packed-head, packed-apart, tag-apart}
 
 module _ (s : List ℕ) where
   -- ---- how many
@@ -100,7 +106,54 @@ module _ (s : List ℕ) where
       let w = texts-again (length (a .0 .value)) (t .0) _ (t .2) in
       rw (t .1, w .0, w .1, tags-again n (a .0 .next) (a .1) (a .3)) (ap (map (map (textOf s))) (sym (a .4)))
 
-  -- on an accepted input the tags again are the event's own
-  pub event-again : (p : Packed) → packedAt s ≡ shown p → tagsAgain (p .head .«tag_count») s (p .head .«tags_at») ≡ eventOf s p .tags
-  unfolding eventOf
-  event-again p e = tags-again (p .head .«tag_count») (p .head .«tags_at») _ (packed-apart s p e .1)
+  -- a tag has at most 255 texts
+  pub count-few : IsBytes s → (at : ℕ) → countAgain s at .value ≤ 255
+  unfolding countAgain
+  count-few bytes at = go (tagCountAt s at) (count-reads s bytes at)
+    where
+      go : (r : Answer (Read ℕ)) → Reads (λ (n : ℕ) (l : List ℕ). Number 255 n l × (1 ≤ n)) s at r → orElse (record { value = 0; next = at }) r (λ (n : Read ℕ). n) .value ≤ 255
+      go (shown v) g = shown-reads g .1 .0 .within
+      go (refused n q) g = omega arith
+
+  -- ---- the whole
+
+  -- an input that the walk accepted
+  pub record Accepted (w : Walked) : Type 0 where
+    -- the event that is gone over again is the event that it shows
+    pub shows : unpack s ≡ shown (eventAgain s (w .head))
+    pub sound : Shows s (eventAgain s (w .head))
+    pub few : w .head .«tag_count» ≤ 1_000
+    -- the content's part has the content's bytes and length
+    pub plain : textOf s (w .head .content) ≡ bytesOf s (w .head .content)
+    pub size : length (textOf s (w .head .content)) ≡ w .head .content .len
+    -- the strict form's length, and how the input stands to that form
+    pub len : w .tally .len ≡ length (pack (eventAgain s (w .head)))
+    pub piece : Piece (pack (eventAgain s (w .head))) s (w .tally .hollow)
+
+  packed-event : (p : Packed) → packedAt s ≡ shown p → eventOf s p ≡ eventAgain s (p .head)
+  unfolding eventOf eventAgain
+  packed-event p e = rw (tags-again (p .head .«tag_count») (p .head .«tags_at») _ (packed-apart s p e .1))
+
+  packed-accepted : IsBytes s → (p : Packed) → packedAt s ≡ shown p → Accepted (record { head = p .head; tally = tallyOf s p })
+  unfolding unpack
+  packed-accepted bytes p e =
+      let d = shown-gives (rw (packed-head s p e) at (head-gives s bytes)) in
+      let c = sized-text (d .content .2) in
+      let v = packed-event p e in
+      let u : unpack s ≡ shown (eventAgain s (p .head)) = rw e (ap shown v) in
+      let g = shown-gives (rw e at (packed-gives s bytes)) in
+      record {
+        shows = u;
+        sound = sound s bytes (eventAgain s (p .head)) u;
+        few = d .count .1 .within;
+        plain = c .5;
+        size = c .4;
+        len = ap (λ (x : Event). length (pack x)) v;
+        piece = subst (λ (x : Event). Piece (pack x) s (hollowTags (p .tags))) v (g .piece);
+      }
+
+  -- On an input that the walk accepts, going over it again gives the event that it shows.
+  pub accepted : IsBytes s → (w : Walked) (r : Answer Walked) → r ≡ walkAt s → r ≡ shown w → Accepted w
+  accepted bytes w r e k =
+      let p = walked-packed s w (sym e ∙ k) in
+      subst (λ (v : Walked). Accepted v) (sym (p .2)) (packed-accepted bytes (p .0) (p .1))

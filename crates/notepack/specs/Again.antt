@@ -3,11 +3,13 @@
 use Prim.Native.Nat.{ℕ, zero, suc, _/_, _%_}
 use mathlib.Core.Bool.{false}
 use mathlib.Core.List.{List, [], _∷_}
+use lib.ListN.{take, drop}
 use lib.Dec.{eqb}
 use Rattle.scan.specs.Choice.{Answer, Read, andThen, orElse}
 use Rattle.varint.specs.Varint.{varintAt}
-use Rattle.event.specs.Event.{Text, Tag}
+use Rattle.event.specs.Event.{Text, Tag, Event}
 use Rattle.notepack.specs.declared.Part.{Part}
+use Rattle.notepack.specs.declared.Head.{Head}
 use Rattle.notepack.specs.Unpack.{partOf, textOf, payloadAt, tagCountAt}
 
 -- an element's part. Its text was tested by the reader and is not tested again.
@@ -39,3 +41,16 @@ tagsAgain zero s at = []
 tagsAgain (suc n) s at =
     textsAgain (countAgain s at .value) s (countAgain s at .next)
     ∷ tagsAgain n s (textsEnd (countAgain s at .value) s (countAgain s at .next))
+
+-- the event, by what stands in front of its tags
+unfoldable pub eventAgain : List ℕ → Head → Event
+eventAgain s h =
+    record {
+      id = take 32 s;
+      pubkey = take 32 (drop 32 s);
+      sig = take 64 (drop 64 s);
+      createdAt = h .«created_at»;
+      kind = h .kind;
+      tags = tagsAgain (h .«tag_count») s (h .«tags_at»);
+      content = textOf s (h .content);
+    }

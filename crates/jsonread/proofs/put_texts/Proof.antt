@@ -25,7 +25,7 @@ plain-again c =
     let k = c .before .before .before .before .before .before .before .before .found .given .1 in
     let t = texts-turn s (q .left) (q .i) (c .before .before .before .before .before .before .before .before .before .before .before .loop-test .taken) (sym (c .before .before .before .before .before .before .before .before .before .before .spelled .ensures .0) ∙ ap textRead k) in
     let n = next-place s _ (c .before .past-space .ensures) (c .behind .ensures) in
-    (also (ap (textsText (q .left - 1) s) n) (part (also (t .0) (q .inv .0)) (same-wrote (c .before .before .before .before .put-text .ensures) (c .before .before .before .before .before .part .ensures) (plain-own (c .before .before .before .before .before .before .before .before .before .before .spelled .ensures .1) k))), q .inv .1 ∙ t .1 ∙ ap (textsEnd (q .left - 1) s) n)
+    (also (ap (textsText (q .left - 1) s) n) (part (also (t .0) (q .inv .0)) (same-wrote (c .before .before .before .before .put-packed-text .ensures) (c .before .before .before .before .before .part .ensures) (plain-own (c .before .before .before .before .before .before .before .before .before .before .spelled .ensures .1) k))), q .inv .1 ∙ t .1 ∙ ap (textsEnd (q .left - 1) s) n)
 
 again : tie.Need-loop-again-2 Inv-loop μ-loop
 again c =

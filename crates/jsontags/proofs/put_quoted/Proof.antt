@@ -11,7 +11,7 @@ unfolding quoted
 returns c =
     let last = c .before .before in
     let text = last .before .before .before .before in
-    then (then (text .before .before .before .before .put-byte .ensures) (text .put-text .ensures)) (last .put-byte2 .ensures)
+    then (then (text .before .before .before .before .put-byte .ensures) (text .put-escaped-part .ensures)) (last .put-byte2 .ensures)
 
 pub put-quoted-spec : {M : Type 1} → statement M
 put-quoted-spec =

@@ -1,6 +1,5 @@
 -- `put_raw` writes the strict element whose text is the hex of its bytes: as those bytes, or 00 where there are none.
 -- By the law of `packElement` for each; a slice's numbers are bytes.
-use mathlib.Core.Path.{_≡_}
 use native.Mathlib.Omega.{arith}
 use borrow.Author.Needs.{needs}
 use Rattle.scan.proofs.AllLaws.{all-places}

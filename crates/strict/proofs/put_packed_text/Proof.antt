@@ -1,11 +1,10 @@
--- `put_text` writes the strict element of its text, as bytes or as text.
+-- `put_packed_text` writes the strict element of its text, as bytes or as text.
 -- By the law of `packElement` for each form; two writers in a row are one.
-use mathlib.Core.Path.{_≡_}
 use borrow.Author.Needs.{needs}
 use Rattle.buffer.proofs.Laws.{then}
 use Rattle.notepack.proofs.Lengths.{element-bytes, element-text}
-use Rattle.strict.proofs.put_text.Statement.{statement}
-use Rattle.strict.proofs.put_text.Tie as tie
+use Rattle.strict.proofs.put_packed_text.Statement.{statement}
+use Rattle.strict.proofs.put_packed_text.Tie as tie
 
 as-bytes : tie.Need-returns
 as-bytes c =
@@ -21,8 +20,8 @@ as-text c =
     let form = element-text (asked .before .before .before .args .t .now) _ (asked .goes-as-bytes .ensures) (first .before .before .if1 .left) in
     rw form (then (first .put-varint2 .ensures) (c .before .before .put-bytes .ensures))
 
-pub put-text-spec : {M : Type 1} → statement M
-put-text-spec =
+pub put-packed-text-spec : {M : Type 1} → statement M
+put-packed-text-spec =
     tie.close
     (tie.spec
     (λ c κs. search needs)

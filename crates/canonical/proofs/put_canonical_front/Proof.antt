@@ -1,13 +1,14 @@
--- `put_front` writes all in front of the tags, piece by piece.
+-- `put_canonical_front` writes all in front of the tags, piece by piece.
 -- Seven writers in a row are one.
 use borrow.Author.Needs.{needs}
 use Rattle.buffer.proofs.Laws.{then}
-use Rattle.canonical.specs.Copy.{frontText}
-use Rattle.canonical.proofs.put_front.Statement.{statement}
-use Rattle.canonical.proofs.put_front.Tie as tie
+use Rattle.notepack.specs.Again.{eventAgain}
+use Rattle.canonical.specs.Front.{canonicalFront}
+use Rattle.canonical.proofs.put_canonical_front.Statement.{statement}
+use Rattle.canonical.proofs.put_canonical_front.Tie as tie
 
 returns : tie.Need-returns
-unfolding frontText
+unfolding canonicalFront eventAgain
 returns c =
     let tags = c .before .before in
     let kind = tags .before .before .before .before .before in
@@ -25,8 +26,8 @@ returns c =
     (kind .put-decimal2 .ensures))
     (tags .put-bytes4 .ensures)
 
-pub put-front-spec : {M : Type 1} → statement M
-put-front-spec =
+pub put-canonical-front-spec : {M : Type 1} → statement M
+put-canonical-front-spec =
     tie.close
     (tie.spec
     (λ c. search needs)

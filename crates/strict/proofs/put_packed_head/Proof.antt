@@ -1,13 +1,13 @@
--- `put_head` writes all in front of the tags, piece by piece.
+-- `put_packed_head` writes all in front of the tags, piece by piece.
 -- Six writers in a row are one.
 use borrow.Author.Needs.{needs}
 use Rattle.buffer.proofs.Laws.{then}
-use Rattle.strict.specs.Copy.{headText}
-use Rattle.strict.proofs.put_head.Statement.{statement}
-use Rattle.strict.proofs.put_head.Tie as tie
+use Rattle.strict.specs.Copy.{packedHead}
+use Rattle.strict.proofs.put_packed_head.Statement.{statement}
+use Rattle.strict.proofs.put_packed_head.Tie as tie
 
 returns : tie.Need-returns
-unfolding headText
+unfolding packedHead
 returns c =
     let count = c .before .before in
     let content = count .before .before .before .before in
@@ -21,8 +21,8 @@ returns c =
     (content .put-part2 .ensures))
     (count .put-varint4 .ensures)
 
-pub put-head-spec : {M : Type 1} → statement M
-put-head-spec =
+pub put-packed-head-spec : {M : Type 1} → statement M
+put-packed-head-spec =
     tie.close
     (tie.spec
     (λ c κs. search needs)

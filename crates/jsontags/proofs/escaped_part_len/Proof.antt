@@ -1,13 +1,13 @@
--- `text_len` is the length of a part's text between its quotes.
+-- `escaped_part_len` is the length of a part's text between its quotes.
 -- Two digits for each raw byte, which need no escape; else the escaped length.
 use mathlib.Core.Path.{ap}
 use native.Mathlib.Omega.{arith}
 use lib.ListN.{length}
 use borrow.Author.Needs.{needs}
 use Rattle.scan.proofs.AllLaws.{all-places}
-use Rattle.jsontags.proofs.Again.{part-short, raw-length, plain-length}
-use Rattle.jsontags.proofs.text_len.Statement.{statement}
-use Rattle.jsontags.proofs.text_len.Tie as tie
+use Rattle.jsontags.proofs.Turns.{part-short, raw-length, plain-length}
+use Rattle.jsontags.proofs.escaped_part_len.Statement.{statement}
+use Rattle.jsontags.proofs.escaped_part_len.Tie as tie
 
 raw : tie.Need-returns
 raw c =
@@ -26,8 +26,8 @@ plain c =
     let m = rw part at (c .escaped-len .ensures .0) in
     (omega (arith, n, m), omega (arith, ap length part, c .escaped-len .ensures .1, part-short (a .s .now) (a .p)))
 
-pub text-len-spec : {M : Type 1} → statement M
-text-len-spec =
+pub escaped-part-len-spec : {M : Type 1} → statement M
+escaped-part-len-spec =
     tie.close
     (tie.spec
     (λ c κs. search needs)

@@ -1,12 +1,12 @@
--- `put_text` writes a part's text escaped.
+-- `put_escaped_part` writes a part's text escaped.
 -- Raw bytes go as their hex, which needs no escape; a slice's numbers are bytes.
 use native.Mathlib.Omega.{arith}
 use borrow.Author.Needs.{needs}
 use Rattle.scan.proofs.AllLaws.{all-places}
 use Rattle.notepack.proofs.Walking.{text-plain}
-use Rattle.jsontags.proofs.Again.{raw-text}
-use Rattle.jsontags.proofs.put_text.Statement.{statement}
-use Rattle.jsontags.proofs.put_text.Tie as tie
+use Rattle.jsontags.proofs.Turns.{raw-text}
+use Rattle.jsontags.proofs.put_escaped_part.Statement.{statement}
+use Rattle.jsontags.proofs.put_escaped_part.Tie as tie
 
 raw : tie.Need-returns
 raw c =
@@ -22,8 +22,8 @@ plain c =
     let a = tested .before .before .before .before .args in
     rw (text-plain (a .s .now) (a .p) (tested .if1 .left), ← tested .before .part .ensures) (c .before .before .put-escaped .ensures)
 
-pub put-text-spec : {M : Type 1} → statement M
-put-text-spec =
+pub put-escaped-part-spec : {M : Type 1} → statement M
+put-escaped-part-spec =
     tie.close
     (tie.spec
     (λ c κs. search needs)

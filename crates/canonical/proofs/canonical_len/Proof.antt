@@ -1,10 +1,11 @@
--- `whole_len` is the length of the whole text: twelve fixed bytes, and each piece's own.
+-- `canonical_len` is the length of the whole text: twelve fixed bytes, and each piece's own.
 -- By the law of the whole length; every piece is bounded, so the sums fit.
 use native.Mathlib.Omega.{arith}
 use borrow.Author.Needs.{needs}
-use Rattle.canonical.proofs.Whole.{part-most, whole-length}
-use Rattle.canonical.proofs.whole_len.Statement.{statement}
-use Rattle.canonical.proofs.whole_len.Tie as tie
+use Rattle.scan.proofs.AllLaws.{all-places}
+use Rattle.canonical.proofs.Whole.{part-most, row-length}
+use Rattle.canonical.proofs.canonical_len.Statement.{statement}
+use Rattle.canonical.proofs.canonical_len.Tie as tie
 
 key-fits : tie.Need-add-result
 key-fits c = omega (arith, part-most (c .before .before .args .s .now) _ 32 32 (c .part .ensures))
@@ -43,18 +44,20 @@ returns c =
     let tags = c .before in
     let kind = tags .before in
     let time = kind .before in
-    let a = time .before .before .before .args in
+    let known = time .before .before in
+    let a = known .before .args in
+    let bytes = all-places (a .s .now) (λ i. omega (arith, known .shared-slice-known .given i)) in
     omega (
       arith,
-      whole-length (a .s .now) (a .h) _ (time .before .part .ensures),
+      row-length (a .s .now) bytes (a .h) _ (time .before .part .ensures),
       time .decimal-len .ensures .0,
       kind .decimal-len2 .ensures .0,
       tags .tags-len .ensures .0,
       c .quoted-len .ensures .0,
     )
 
-pub whole-len-spec : {M : Type 1} → statement M
-whole-len-spec =
+pub canonical-len-spec : {M : Type 1} → statement M
+canonical-len-spec =
     tie.close
     (tie.spec
     (λ c κs. search needs)
@@ -66,6 +69,6 @@ whole-len-spec =
     kind-fits
     (λ c κs. c .before .before .before .before .pre)
     tags-fit
-    (λ c κs. c .before .before .before .before .before .pre)
+    (λ c κs. c .before .before .before .before .before .pre .0)
     content-fits
     returns)
