@@ -6,6 +6,7 @@ use mathlib.Core.Bool.{Bool, true, false}
 use mathlib.Core.List.{List, [], _∷_}
 use native.Mathlib.Omega.{arith}
 use lib.ListN.{length, take, drop}
+use borrow.Author.Tests.{lt-ltb}
 use Rattle.scan.specs.Ascii.{ascii}
 use Rattle.scan.specs.Choice.{pick, shown}
 use Rattle.scan.specs.Compare.{sameBytes}
@@ -35,7 +36,7 @@ module _ (s : List ℕ) where
   -- `d` by its part is `d` by its text
   is-d-text : (n : ℕ) (p : Part) → isD (suc n) s p ≡ sameBytes (textOf s p) (ascii "d")
   unfolding isD
-  is-d-text n p = by-raw (p .raw) refl
+  is-d-text n p = rw (lt-ltb 0 (suc n) (omega arith)) (by-raw (p .raw) refl)
     where
       by-raw : (r : Bool) → p .raw ≡ r → pick (p .raw) false (sameBytes (bytesOf s p) (ascii "d")) ≡ sameBytes (textOf s p) (ascii "d")
       by-raw true e =
@@ -59,7 +60,7 @@ module _ (s : List ℕ) where
     unfolding secondAt textsAgain
     second-there zero f = refl
     second-there (suc zero) f = refl
-    second-there (suc (suc n)) f = refl
+    second-there (suc (suc n)) f = rw (lt-ltb 1 (suc (suc n)) (omega arith))
 
     -- whether the first of n texts is `d`
     first-d : (n f : ℕ) → isD n s (partAgain s f .value) ≡ isDTag (textsAgain n s f)

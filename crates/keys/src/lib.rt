@@ -46,7 +46,7 @@ fn is_hex_of(a: &[u8], t: &[u8]) -> bool
 }
 
 // Whether two parts of two inputs have the same text, whichever way each is stored.
-pub fn same_text(s: &[u8], p: Part, t: &[u8], q: Part) -> bool
+fn same_text(s: &[u8], p: Part, t: &[u8], q: Part) -> bool
     ensures { λ r. ⌜ r ≡ sameBytes (textOf (now (s .entry)) p) (textOf (now (t .entry)) q) ⌝ }
 {
     let a = scan::part(s, p.at, p.len);
@@ -121,7 +121,7 @@ fn find_label(kind: u64, s: &[u8], at: usize, count: u64) -> KeyRead
     KeyRead::Keyless
 }
 
-pub fn is_replaceable(kind: u64) -> bool
+fn is_replaceable(kind: u64) -> bool
     ensures { λ r. ⌜ r ≡ isReplaceable kind ⌝ }
 {
     if kind == 0 {
@@ -136,7 +136,7 @@ pub fn is_replaceable(kind: u64) -> bool
     false
 }
 
-pub fn is_labelled(kind: u64) -> bool
+fn is_labelled(kind: u64) -> bool
     ensures { λ r. ⌜ r ≡ isLabelled kind ⌝ }
 {
     if 30000 <= kind {

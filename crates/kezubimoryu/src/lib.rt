@@ -21,7 +21,7 @@ ghost use Rattle.nson.specs.Entries.{nsonReads, nsonLeaves, nsonWrites, writerL
 ghost use Rattle.json.specs.Entries.{jsonReads, jsonLeaves};
 ghost use Rattle.bothreaders.specs.Both.{both, bothFirst, bothSecond};
 ghost use Rattle.rivals.specs.Rivals.{rivals};
-ghost use Rattle.kezubimoryu.specs.Entries.{ok, yesNo, told, keptNumber};
+ghost use Rattle.kezubimoryu.specs.Entries.{ok, yesNo, lent, keptNumber, keptAnswer};
 
 // `kez_answer` of the header: refusal 0 and a value, or the number of refusal and its place.
 #[repr(C)]
@@ -72,11 +72,11 @@ pub extern "C" fn kez_notepack_read(
     tag_count: &mut u64,
 ) -> KezAnswer
     ensures { λ a. ⌜ (a .refusal, a .value) ≡ twoNumbers (ok (numbersOf (now (packed .entry)))) ⌝ }
-    ensures { λ _. ⌜ now («created_at» .exit) ≡ told (numbersOf (now (packed .entry))) (λ h. h .«created_at») (now («created_at» .entry)) ⌝ }
-    ensures { λ _. ⌜ now (kind .exit) ≡ told (numbersOf (now (packed .entry))) (λ h. h .kind) (now (kind .entry)) ⌝ }
-    ensures { λ _. ⌜ now («content_at» .exit) ≡ told (numbersOf (now (packed .entry))) (λ h. h .content .at) (now («content_at» .entry)) ⌝ }
-    ensures { λ _. ⌜ now («content_len» .exit) ≡ told (numbersOf (now (packed .entry))) (λ h. h .content .len) (now («content_len» .entry)) ⌝ }
-    ensures { λ _. ⌜ now («tag_count» .exit) ≡ told (numbersOf (now (packed .entry))) (λ h. h .«tag_count») (now («tag_count» .entry)) ⌝ }
+    ensures { λ _. ⌜ now («created_at» .exit) ≡ lent (numbersOf (now (packed .entry))) (λ h. h .«created_at») (now («created_at» .entry)) ⌝ }
+    ensures { λ _. ⌜ now (kind .exit) ≡ lent (numbersOf (now (packed .entry))) (λ h. h .kind) (now (kind .entry)) ⌝ }
+    ensures { λ _. ⌜ now («content_at» .exit) ≡ lent (numbersOf (now (packed .entry))) (λ h. h .content .at) (now («content_at» .entry)) ⌝ }
+    ensures { λ _. ⌜ now («content_len» .exit) ≡ lent (numbersOf (now (packed .entry))) (λ h. h .content .len) (now («content_len» .entry)) ⌝ }
+    ensures { λ _. ⌜ now («tag_count» .exit) ≡ lent (numbersOf (now (packed .entry))) (λ h. h .«tag_count») (now («tag_count» .entry)) ⌝ }
 {
     let found = notepack::read_packed(packed);
     match found {
@@ -133,9 +133,9 @@ pub extern "C" fn kez_notepack_element(
     is_bytes: &mut u64,
 ) -> KezAnswer
     ensures { λ a. ⌜ (a .refusal, a .value) ≡ twoNumbers (ok (elementOf tag element (now (packed .entry)))) ⌝ }
-    ensures { λ _. ⌜ now (at .exit) ≡ told (elementOf tag element (now (packed .entry))) (λ p. p .at) (now (at .entry)) ⌝ }
-    ensures { λ _. ⌜ now (len .exit) ≡ told (elementOf tag element (now (packed .entry))) (λ p. p .len) (now (len .entry)) ⌝ }
-    ensures { λ _. ⌜ now («is_bytes» .exit) ≡ told (elementOf tag element (now (packed .entry))) (λ p. pick (p .raw) 1 0) (now («is_bytes» .entry)) ⌝ }
+    ensures { λ _. ⌜ now (at .exit) ≡ lent (elementOf tag element (now (packed .entry))) (λ p. p .at) (now (at .entry)) ⌝ }
+    ensures { λ _. ⌜ now (len .exit) ≡ lent (elementOf tag element (now (packed .entry))) (λ p. p .len) (now (len .entry)) ⌝ }
+    ensures { λ _. ⌜ now («is_bytes» .exit) ≡ lent (elementOf tag element (now (packed .entry))) (λ p. pick (p .raw) 1 0) (now («is_bytes» .entry)) ⌝ }
 {
     let found = notepack::find_element(packed, tag, element);
     match found {
@@ -190,7 +190,7 @@ pub extern "C" fn kez_read_both(
     written: &mut u64,
 ) -> KezAnswer
     ensures { λ a. ⌜ (a .refusal, a .value) ≡ twoNumbers (andThen (both (now (text .entry)) (now (first .entry)) (now (second .entry))) (λ c. shown (c .which))) ⌝ }
-    ensures { λ _. ⌜ now (written .exit) ≡ told (both (now (text .entry)) (now (first .entry)) (now (second .entry))) (λ c. c .len) (now (written .entry)) ⌝ }
+    ensures { λ _. ⌜ now (written .exit) ≡ lent (both (now (text .entry)) (now (first .entry)) (now (second .entry))) (λ c. c .len) (now (written .entry)) ⌝ }
     ensures { λ _. ⌜ now (first .exit) ≡ bothFirst (now (text .entry)) (now (first .entry)) (now (second .entry)) ⌝ }
     ensures { λ _. ⌜ now (second .exit) ≡ bothSecond (now (text .entry)) (now (first .entry)) (now (second .entry)) ⌝ }
 {
@@ -221,11 +221,12 @@ fn kept_number(k: Kept) -> u64
 
 #[no_mangle]
 pub extern "C" fn kez_rivals(first: &[u8], second: &[u8]) -> KezAnswer
-    ensures { λ a. ⌜ (a .refusal, a .value) ≡ twoNumbers (andThen (rivals (now (first .entry)) (now (second .entry))) (λ k. shown (keptNumber k))) ⌝ }
+    ensures { λ a. ⌜ (a .refusal, a .value) ≡ twoNumbers (keptAnswer (rivals (now (first .entry)) (now (second .entry)))) ⌝ }
 {
     let found = rivals::compare(first, second);
     match found {
         RivalsRead::Told(k) => shown(kept_number(k)),
-        RivalsRead::Refused(r) => refused(r),
+        RivalsRead::FirstRefused(r) => refused(r),
+        RivalsRead::SecondRefused(r) => refused(r),
     }
 }

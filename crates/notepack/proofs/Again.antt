@@ -18,7 +18,7 @@ use Rattle.varint.specs.Varint.{varintAt}
 use Rattle.event.specs.Event.{Event}
 use Rattle.notepack.specs.declared.Part.{Part}
 use Rattle.notepack.specs.Unpack.{bytesOf, textOf, payloadAt, textAt, elementAt, elementsAt, tagCountAt, tagAt, tagsAt, Packed, packedAt, eventOf, unpack}
-use Rattle.notepack.specs.Again.{partAt, partAgain, countAgain, textsAgain, textsEnd, tagsAgain, eventAgain}
+use Rattle.notepack.specs.Again.{elementPartAt, partAgain, countAgain, textsAgain, textsEnd, tagsAgain, eventAgain}
 use Rattle.notepack.specs.Strict.{pack}
 use Rattle.notepack.specs.Tally.{hollowTags, tallyOf}
 use Rattle.notepack.specs.Answers.{Walked, walkAt}
@@ -79,7 +79,7 @@ module _ (s : List ℕ) where
 
   -- an element that was read is read again without a test of its text
   part-again : (at : ℕ) (e : Read Part) → elementAt s at ≡ shown e → partAgain s at ≡ e
-  unfolding elementAt partAt partAgain
+  unfolding elementAt elementPartAt partAgain
   part-again at e r = let w = then-shown (varintAt s at) _ e r in rw (w .1, go (w .0) (eqb (w .0 .value % 2) 1) (w .2))
     where
       go : (w : Read ℕ) (t : Bool) → pick t (payloadAt at true (w .value / 2) s (w .next)) (textAt at (w .value / 2) s (w .next)) ≡ shown e

@@ -13,14 +13,14 @@ use Rattle.notepack.specs.declared.Head.{Head}
 use Rattle.notepack.specs.Unpack.{partOf, textOf, payloadAt, tagCountAt}
 
 -- an element's part. Its text was tested by the reader and is not tested again.
-unfoldable pub partAt : List ℕ → ℕ → Answer (Read Part)
-partAt s at =
+unfoldable pub elementPartAt : List ℕ → ℕ → Answer (Read Part)
+elementPartAt s at =
     andThen (varintAt s at) λ w.
     payloadAt at (eqb (w .value % 2) 1) (w .value / 2) s (w .next)
 
 -- the part at a place; where none is read it is empty and the place stays
 unfoldable pub partAgain : List ℕ → ℕ → Read Part
-partAgain s at = orElse (record { value = partOf at 0 false; next = at }) (partAt s at) λ p. p
+partAgain s at = orElse (record { value = partOf at 0 false; next = at }) (elementPartAt s at) λ p. p
 
 -- a tag's number of texts; 0, and the place stays, where none is read
 unfoldable pub countAgain : List ℕ → ℕ → Read ℕ

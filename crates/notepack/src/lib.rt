@@ -8,7 +8,7 @@ ghost use Rattle.scan.specs.Choice.{andThen, shown};
 ghost use Rattle.hex.specs.Hex.{hexes};
 ghost use Rattle.notepack.specs.Strict.{packElement};
 ghost use Rattle.notepack.specs.Unpack.{textOf, payloadAt, textAt, numberAt, contentAt, elementAt, elementsAt, tagCountAt, tagAt, tagsAt, numbersAt, headAt};
-ghost use Rattle.notepack.specs.Again.{partAt, partAgain, countAgain};
+ghost use Rattle.notepack.specs.Again.{elementPartAt, partAgain, countAgain};
 ghost use Rattle.notepack.specs.Tally.{headLen, isHollow, more, passElements, passTag, passTags};
 ghost use Rattle.notepack.specs.Views.{numbersOf, textsIn, elementOf, view, contentOf, tagStart, elementPlace};
 ghost use Rattle.notepack.specs.Answers.{countRead, elementRead, partRead, numberRead, pass, headRead, walk, walkAt};
@@ -582,7 +582,7 @@ pub fn element<'a>(s: &'a [u8], i: u64, j: u64) -> &'a [u8]
 
 // An element's part, with no second test of its text.
 fn read_part(s: &[u8], at: usize) -> PartRead
-    ensures { λ r. ⌜ partRead r ≡ partAt (now (s .entry)) at ⌝ }
+    ensures { λ r. ⌜ partRead r ≡ elementPartAt (now (s .entry)) at ⌝ }
 {
     let found = varint::Cursor { at }.varint(s);
     match found {

@@ -46,6 +46,34 @@ tagsLabel = 0x22 ∷ 0x2C ∷ 0x22 ∷ 0x74 ∷ 0x61 ∷ 0x67 ∷ 0x73 ∷ 0x22 
 abbrev pub endLabel : List ℕ
 endLabel = 0x7D ∷ []
 
+-- ---- the places of the layout (proofs/Places derives each from the labels)
+
+abbrev pub idPlace : ℕ
+idPlace = 7
+
+abbrev pub pubkeyPlace : ℕ
+pubkeyPlace = 83
+
+abbrev pub sigPlace : ℕ
+sigPlace = 156
+
+-- the size, the descriptors behind it, and those of the tags
+abbrev pub sizePlace : ℕ
+sizePlace = 318
+
+abbrev pub descriptorsPlace : ℕ
+descriptorsPlace = 320
+
+abbrev pub tagCountsPlace : ℕ
+tagCountsPlace = 328
+
+-- the two labels around the kind; the label and the bracket in front of the first tag
+abbrev pub aroundKind : ℕ
+aroundKind = 21
+
+abbrev pub beforeTags : ℕ
+beforeTags = 10
+
 -- ---- the counts that the nson field holds
 
 -- the characters of the kind, the bytes of the content, and for each tag the bytes of each item

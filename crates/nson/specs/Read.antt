@@ -13,7 +13,7 @@ use Rattle.scan.specs.Compare.{sameBytes}
 use Rattle.event.specs.Event.{Text, Tag, Event}
 use Rattle.jsontext.specs.Escape.{unescape}
 use Rattle.nsonstring.specs.Counted.{faultIn}
-use Rattle.nson.specs.Nson.{idLabel, pubkeyLabel, sigLabel, timeLabel, nsonLabel, kindLabel, contentLabel, tagsLabel, endLabel, Counts}
+use Rattle.nson.specs.Nson.{idLabel, pubkeyLabel, sigLabel, timeLabel, nsonLabel, kindLabel, contentLabel, tagsLabel, endLabel, idPlace, pubkeyPlace, sigPlace, sizePlace, Counts}
 
 -- the numbers of refusal that the NSON reader has
 abbrev pub nsonNumbers : List ℕ
@@ -82,7 +82,7 @@ wordHere s at = 256 * byteHere s at + byteHere s (at + 2)
 
 -- a descriptor of n hex digits: 13 at the size where it would pass the end that the size says, before 12 where it isn't there or no hex
 unfoldable pub descriptorAt : ℕ → ℕ → List ℕ → ℕ → Answer ℕ
-descriptorAt n end s at = pick (leb (at + n) end) (hexAt n s at) (refused 13 318)
+descriptorAt n end s at = pick (leb (at + n) end) (hexAt n s at) (refused 13 sizePlace)
 
 unfoldable pub byteCountAt : ℕ → List ℕ → ℕ → Answer (Read ℕ)
 byteCountAt end s at = andThen (descriptorAt 2 end s at) λ p. read (byteHere s at) p
@@ -109,11 +109,11 @@ countsTo end s at =
     andThen (wordCountAt end s (k .next)) λ c.
     andThen (byteCountAt end s (c .next)) λ n.
     andThen (many (tagCountsAt end s) (n .value) (n .next)) λ t.
-    pick (eqb (t .next) end) (read (record { kind = k .value; content = c .value; tags = t .value }) (t .next)) (refused 13 318)
+    pick (eqb (t .next) end) (read (record { kind = k .value; content = c .value; tags = t .value }) (t .next)) (refused 13 sizePlace)
 
--- the nson field at 318: the size, which counts the hex characters behind it, and the descriptors
+-- the nson field: the size, which counts the hex characters behind it, and the descriptors
 unfoldable pub countsAt : List ℕ → Answer (Read Counts)
-countsAt s = andThen (hexAt 2 s 318) λ p. countsTo (p + byteHere s 318) s p
+countsAt s = andThen (hexAt 2 s sizePlace) λ p. countsTo (p + byteHere s sizePlace) s p
 
 -- ---- the text that is counted
 
@@ -193,9 +193,9 @@ bodyAt n s at =
 unfoldable pub eventOf : List ℕ → ℕ → Body → Event
 eventOf s time b =
     record {
-      id = unhex (partAt 64 s 7);
-      pubkey = unhex (partAt 64 s 83);
-      sig = unhex (partAt 128 s 156);
+      id = unhex (partAt 64 s idPlace);
+      pubkey = unhex (partAt 64 s pubkeyPlace);
+      sig = unhex (partAt 128 s sigPlace);
       createdAt = time;
       kind = b .kind;
       tags = b .tags;
