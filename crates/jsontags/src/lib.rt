@@ -88,7 +88,14 @@ fn put_strings(k: Escaping, out: &mut [u8], at: usize, s: &[u8], from: usize, co
 }
 
 // count tags from a place on, as arrays with a comma between each two.
-pub fn put_arrays(k: Escaping, out: &mut [u8], at: usize, s: &[u8], from: usize, count: u64) -> usize
+pub fn put_arrays(
+    k: Escaping,
+    out: &mut [u8],
+    at: usize,
+    s: &[u8],
+    from: usize,
+    count: u64,
+) -> usize
     ensures { λ r. ⌜ Wrote (now (out .entry)) at (commaed (map (tagText (byteOf k)) (tagsAgain count (now (s .entry)) from))) (now (out .exit)) r ⌝ }
 {
     let mut o = at;
