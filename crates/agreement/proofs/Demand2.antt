@@ -8,6 +8,7 @@ use Rattle.hex.specs.Hex.{hexes}
 use Rattle.decimal.specs.Decimal.{decimal}
 use Rattle.escape.specs.Escape.{canonicalByte, escaped}
 use Rattle.jsontags.specs.TagText.{quoted, array, tagsText}
+use Rattle.escape.specs.declared.Escaping.the-variants.{Canonical}
 use Rattle.jsontags.proofs.Texts.{hexes-stand}
 use Rattle.canonical.specs.Canonical.{canonical}
 use Rattle.notepack.specs.Strict.{pack}
@@ -37,7 +38,7 @@ items-right key time kind tags content = simp append-assoc
 canonical-text : CanonicalText
 unfolding canonical quoted
 canonical-text e v =
-    let h : escaped canonicalByte (hexes (e .pubkey)) ≡ hexes (e .pubkey) = hexes-stand true (v .pubkey32 .each) in
+    let h : escaped canonicalByte (hexes (e .pubkey)) ≡ hexes (e .pubkey) = hexes-stand Canonical (v .pubkey32 .each) in
     rw h (items-right (hexes (e .pubkey)) (decimal (e .createdAt)) (decimal (e .kind)) (tagsText canonicalByte (e .tags)) (escaped canonicalByte (e .content)))
 
 writes-canonical : WritesCanonical

@@ -1,13 +1,13 @@
 -- A canonical string ends where its text ends, and how long the whole text is.
 -- By the first bare quote; the rest is counting.
 use Prim.Native.Nat.{ℕ, _+_, _*_}
-use mathlib.Core.Bool.{true}
 use mathlib.Core.Path.{_≡_, sym, _∙_}
 use mathlib.Core.List.{List, [], _∷_, _++_, append-assoc}
 use native.Mathlib.Omega.{arith}
 use lib.ListN.{length, length-append}
 use Rattle.scan.specs.Span.{IsBytes}
 use Rattle.decimal.specs.Decimal.{decimal}
+use Rattle.escape.specs.declared.Escaping.the-variants.{Canonical}
 use Rattle.escape.specs.Escape.{canonicalByte, escaped}
 use Rattle.escape.proofs.TextLaws.{canonical-injective}
 use Rattle.escape.proofs.QuotedLaws.{canonical-quoted, canonical-ends}
@@ -32,4 +32,4 @@ pub length-canonical : (e : Event) → IsBytes (e .pubkey)
     → length (canonical e)
     ≡ 12 + 2 * length (e .pubkey) + length (decimal (e .createdAt)) + length (decimal (e .kind)) + length (tagsText canonicalByte (e .tags)) + length (escaped canonicalByte (e .content))
 unfolding canonical
-length-canonical e b = simp (length-append, length-quoted-hexes true b, length-quoted) (omega arith)
+length-canonical e b = simp (length-append, length-quoted-hexes Canonical b, length-quoted) (omega arith)

@@ -1,7 +1,6 @@
 -- The text that the writer puts together is the canonical text of the event that is gone over again; how long it can be;
 -- and what the entry answers and leaves. Rearranging and counting.
 use Prim.Native.Nat.{ℕ, _+_, _*_, _≤_, _<_}
-use mathlib.Core.Bool.{true}
 use mathlib.Core.Path.{_≡_, refl, sym, ap, _∙_, subst}
 use mathlib.Core.List.{List, [], _∷_, _++_, map, append-assoc}
 use native.Mathlib.Omega.{arith}
@@ -14,9 +13,9 @@ use Rattle.buffer.specs.Entry.{writes, leaves}
 use Rattle.buffer.proofs.EntryLaws.{short, fitted}
 use Rattle.decimal.specs.Decimal.{decimal}
 use Rattle.decimal.proofs.Spelling.{length-u64}
+use Rattle.escape.specs.declared.Escaping.the-variants.{Canonical}
 use Rattle.escape.specs.Escape.{canonicalByte}
-use Rattle.escape.proofs.ByteLaws.{escaping}
-use Rattle.escape.proofs.TextLaws.{length-most}
+use Rattle.escape.proofs.TextLaws.{growth-most}
 use Rattle.event.specs.Event.{Event, Valid}
 use Rattle.notepack.specs.declared.Head.{Head}
 use Rattle.notepack.specs.Strict.{packTags, pack}
@@ -37,7 +36,7 @@ use Rattle.canonical.proofs.Texts.{length-canonical}
 row : (e : Event) → IsBytes (e .pubkey)
     → canonicalFront e ++ commaed (map (tagText canonicalByte) (e .tags)) ++ (0x5D ∷ 0x2C ∷ []) ++ quoted canonicalByte (e .content) ++ (0x5D ∷ []) ≡ canonical e
 unfolding canonicalFront canonical tagsText
-row e b = rw (quoted-hexes true b) (simp append-assoc)
+row e b = rw (quoted-hexes Canonical b) (simp append-assoc)
 
 module _ (s : List ℕ) (bytes : IsBytes s) (h : Head) where
   pub row-wrote : {d : List ℕ} {at : ℕ} {d′ : List ℕ} {r : ℕ}
@@ -74,8 +73,8 @@ canonical-room e v =
       length-u64 (e .createdAt) (let w = v .time in omega arith),
       length-u64 (e .kind) (let w = v .kind16 in omega arith),
       length-array (map (tagText canonicalByte) (e .tags)),
-      arrays-room true (e .tags),
-      length-most canonicalByte (escaping true) (e .content),
+      arrays-room Canonical (e .tags),
+      growth-most Canonical (e .content),
       v .id32 .count,
       v .pubkey32 .count,
       v .sig64 .count,

@@ -1,4 +1,5 @@
 // The canonical text of a packed event: measured first, and written where there is room for it.
+use escape::Escaping;
 use event::Refusal;
 use event::Writing;
 use notepack::Head;
@@ -32,7 +33,7 @@ fn quoted_len(s: &[u8], p: Part) -> usize
     ensures { λ r. ⌜ r ≡ length (quoted canonicalByte (textOf (now (s .entry)) p)) ⌝ }
     ensures { λ r. ⌜ r ≤ 2 * length (now (s .entry)) + 2 ⌝ }
 {
-    jsontags::escaped_part_len(true, s, p) + 2
+    jsontags::escaped_part_len(Escaping::Canonical, s, p) + 2
 }
 
 // count elements from a place on, as strings.
@@ -107,9 +108,9 @@ fn put_canonical(out: &mut [u8], at: usize, s: &[u8], h: Head) -> usize
     ensures { λ r. ⌜ Wrote (now (out .entry)) at (canonical (eventAgain (now (s .entry)) h)) (now (out .exit)) r ⌝ }
 {
     let a = put_canonical_front(out, at, s, h);
-    let b = jsontags::put_arrays(true, out, a, s, h.tags_at, h.tag_count);
+    let b = jsontags::put_arrays(Escaping::Canonical, out, a, s, h.tags_at, h.tag_count);
     let c = buffer::put_bytes(out, b, b"],");
-    let d = jsontags::put_quoted(true, out, c, s, h.content);
+    let d = jsontags::put_quoted(Escaping::Canonical, out, c, s, h.content);
     buffer::put_bytes(out, d, b"]")
 }
 

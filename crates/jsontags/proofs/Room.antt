@@ -11,7 +11,8 @@ use Rattle.varint.specs.Uleb.{uleb}
 use Rattle.varint.proofs.UlebLaws.{length-one}
 use Rattle.hex.specs.Hex.{unhex, goesAsBytes}
 use Rattle.hex.proofs.Texts.{go-digits, length-unhex}
-use Rattle.escape.specs.Block.{byteOf}
+use Rattle.escape.specs.declared.Escaping.{Escaping}
+use Rattle.escape.specs.Escape.{byteOf}
 use Rattle.escape.proofs.ByteLaws.{escaping}
 use Rattle.escape.proofs.TextLaws.{length-most}
 use Rattle.event.specs.Event.{Text, Tag}
@@ -24,30 +25,30 @@ length-commaed : (x : List ℕ) (l : List (List ℕ)) → length (commaed (x ∷
 length-commaed x [] = omega arith
 length-commaed x (y ∷ l) = omega (arith, length-append x (0x2C ∷ commaed (y ∷ l)))
 
-module _ (all : Bool) where
-  string-room : (t : Text) → length (quoted (byteOf all) t) + 1 ≤ 3 * length (packElement t)
+module _ (k : Escaping) where
+  string-room : (t : Text) → length (quoted (byteOf k) t) + 1 ≤ 3 * length (packElement t)
   unfolding packElement
   string-room t =
-      pick-by (λ (l : List ℕ). length (quoted (byteOf all) t) + 1 ≤ 3 * length l) (goesAsBytes t)
+      pick-by (λ (l : List ℕ). length (quoted (byteOf k) t) + 1 ≤ 3 * length l) (goesAsBytes t)
       (λ g.
       let d = go-digits t g in
       let n = 2 * length (unhex t) + 1 in
-      omega (arith, length-quoted (byteOf all) t, ap length (digits-stand all (d .2)), d .1, length-unhex t, length-append (uleb n) (unhex t), length-one n))
+      omega (arith, length-quoted (byteOf k) t, ap length (digits-stand k (d .2)), d .1, length-unhex t, length-append (uleb n) (unhex t), length-one n))
       (λ g.
       let n = 2 * length t in
-      omega (arith, length-quoted (byteOf all) t, length-most (byteOf all) (escaping all) t, length-append (uleb n) t, length-one n))
+      omega (arith, length-quoted (byteOf k) t, length-most (byteOf k) (escaping k) t, length-append (uleb n) t, length-one n))
 
-  strings-room : (ts : Tag) → length (commaed (map (quoted (byteOf all)) ts)) ≤ 3 * length (packElements ts)
+  strings-room : (ts : Tag) → length (commaed (map (quoted (byteOf k)) ts)) ≤ 3 * length (packElements ts)
   strings-room [] = omega arith
   strings-room (t ∷ ts) =
-      omega (arith, string-room t, strings-room ts, length-commaed (quoted (byteOf all) t) (map (quoted (byteOf all)) ts), length-append (packElement t) (packElements ts))
+      omega (arith, string-room t, strings-room ts, length-commaed (quoted (byteOf k) t) (map (quoted (byteOf k)) ts), length-append (packElement t) (packElements ts))
 
-  array-room : (t : Tag) → length (tagText (byteOf all) t) + 1 ≤ 3 * length (packTag t)
+  array-room : (t : Tag) → length (tagText (byteOf k) t) + 1 ≤ 3 * length (packTag t)
   unfolding tagText packTag
   array-room t =
-      omega (arith, strings-room t, length-array (map (quoted (byteOf all)) t), length-append (uleb (length t)) (packElements t), length-one (length t))
+      omega (arith, strings-room t, length-array (map (quoted (byteOf k)) t), length-append (uleb (length t)) (packElements t), length-one (length t))
 
-  pub arrays-room : (l : List Tag) → length (commaed (map (tagText (byteOf all)) l)) ≤ 3 * length (packTags l)
+  pub arrays-room : (l : List Tag) → length (commaed (map (tagText (byteOf k)) l)) ≤ 3 * length (packTags l)
   arrays-room [] = omega arith
   arrays-room (t ∷ l) =
-      omega (arith, array-room t, arrays-room l, length-commaed (tagText (byteOf all) t) (map (tagText (byteOf all)) l), length-append (packTag t) (packTags l))
+      omega (arith, array-room t, arrays-room l, length-commaed (tagText (byteOf k) t) (map (tagText (byteOf k)) l), length-append (packTag t) (packTags l))

@@ -1,4 +1,4 @@
--- How the strings and arrays of tags are made, and how long each is, with either escaping; `all` says which.
+-- How the strings and arrays of tags are made, and how long each is, with either escaping; `k` says which.
 -- Hex digits are none of the bytes that are escaped; the rest is counting.
 use Prim.Native.Nat.{ℕ, suc, _+_, _*_, _≤_}
 use mathlib.Core.Path.{_≡_, sym, ap, _∙_}
@@ -10,17 +10,18 @@ use borrow.Author.Tests.{ne-eqb, lt-ltb}
 use Rattle.scan.specs.Span.{All, none, also, IsBytes}
 use Rattle.hex.specs.Hex.{Digit, number, letter, hexes}
 use Rattle.hex.proofs.Texts.{length-hexes, hexes-digits}
-use Rattle.escape.specs.Escape.{nsonByte, canonicalByte, escaped}
-use Rattle.escape.specs.Block.{byteOf}
+use Rattle.escape.specs.declared.Escaping.{Escaping}
+use Rattle.escape.specs.declared.Escaping.the-variants.{Canonical, Nson}
+use Rattle.escape.specs.Escape.{nsonByte, canonicalByte, byteOf, escaped}
 use Rattle.escape.proofs.TextLaws.{escaped-none, escaped-more}
 use Rattle.jsontags.specs.TagText.{quoted, comma, commaed, array}
 
 -- ---- what needs no escape
 
 -- of a byte behind the quote that is no backslash (of crate escape)
-byte-stands : (all : Bool) (b : ℕ) → 0x23 ≤ b → (b ≡ 0x5C → ⊥) → byteOf all b ≡ b ∷ []
+byte-stands : (k : Escaping) (b : ℕ) → 0x23 ≤ b → (b ≡ 0x5C → ⊥) → byteOf k b ≡ b ∷ []
 unfolding canonicalByte nsonByte
-byte-stands true b h n =
+byte-stands Canonical b h n =
     simp (
       ne-eqb b 0x0D (λ e. omega arith),
       ne-eqb b 0x09 (λ e. omega arith),
@@ -30,19 +31,19 @@ byte-stands true b h n =
       ne-eqb b 0x22 (λ e. omega arith),
       ne-eqb b 0x5C n,
     )
-byte-stands false b h n = simp (ne-eqb b 0x0A (λ e. omega arith), ne-eqb b 0x22 (λ e. omega arith), ne-eqb b 0x5C n)
+byte-stands Nson b h n = simp (ne-eqb b 0x0A (λ e. omega arith), ne-eqb b 0x22 (λ e. omega arith), ne-eqb b 0x5C n)
 
-digit-stands : (all : Bool) {b : ℕ} → Digit b → byteOf all b ≡ b ∷ []
-digit-stands all {b} (number l h) = byte-stands all b (omega arith) (λ e. omega arith)
-digit-stands all {b} (letter l h) = byte-stands all b (omega arith) (λ e. omega arith)
+digit-stands : (k : Escaping) {b : ℕ} → Digit b → byteOf k b ≡ b ∷ []
+digit-stands k {b} (number l h) = byte-stands k b (omega arith) (λ e. omega arith)
+digit-stands k {b} (letter l h) = byte-stands k b (omega arith) (λ e. omega arith)
 
-pub digits-stand : (all : Bool) {t : List ℕ} → All Digit t → escaped (byteOf all) t ≡ t
-digits-stand all none = escaped-none (byteOf all)
-digits-stand all (also {b = b} {l = l} d a) = escaped-more (byteOf all) b l ∙ rw (digit-stands all d, digits-stand all a)
+pub digits-stand : (k : Escaping) {t : List ℕ} → All Digit t → escaped (byteOf k) t ≡ t
+digits-stand k none = escaped-none (byteOf k)
+digits-stand k (also {b = b} {l = l} d a) = escaped-more (byteOf k) b l ∙ rw (digit-stands k d, digits-stand k a)
 
 -- hex digits need no escape
-pub hexes-stand : (all : Bool) {l : List ℕ} → IsBytes l → escaped (byteOf all) (hexes l) ≡ hexes l
-hexes-stand all b = digits-stand all (hexes-digits b)
+pub hexes-stand : (k : Escaping) {l : List ℕ} → IsBytes l → escaped (byteOf k) (hexes l) ≡ hexes l
+hexes-stand k b = digits-stand k (hexes-digits b)
 
 -- ---- strings
 
@@ -52,12 +53,12 @@ unfolding quoted
 length-quoted f t = omega (arith, length-append (escaped f t) (0x22 ∷ []))
 
 -- the hex of bytes as a string
-pub quoted-hexes : (all : Bool) {l : List ℕ} → IsBytes l → quoted (byteOf all) (hexes l) ≡ 0x22 ∷ (hexes l ++ (0x22 ∷ []))
+pub quoted-hexes : (k : Escaping) {l : List ℕ} → IsBytes l → quoted (byteOf k) (hexes l) ≡ 0x22 ∷ (hexes l ++ (0x22 ∷ []))
 unfolding quoted
-quoted-hexes all b = rw (hexes-stand all b)
+quoted-hexes k b = rw (hexes-stand k b)
 
-pub length-quoted-hexes : (all : Bool) {l : List ℕ} → IsBytes l → length (quoted (byteOf all) (hexes l)) ≡ 2 * length l + 2
-length-quoted-hexes all {l} b = length-quoted (byteOf all) (hexes l) ∙ rw (hexes-stand all b, length-hexes l)
+pub length-quoted-hexes : (k : Escaping) {l : List ℕ} → IsBytes l → length (quoted (byteOf k) (hexes l)) ≡ 2 * length l + 2
+length-quoted-hexes k {l} b = length-quoted (byteOf k) (hexes l) ∙ rw (hexes-stand k b, length-hexes l)
 
 -- ---- arrays
 

@@ -10,8 +10,9 @@ use Rattle.scan.specs.Span.{IsBytes}
 use Rattle.scan.proofs.AllLaws.{all-take, all-drop}
 use Rattle.hex.specs.Hex.{hexes}
 use Rattle.hex.proofs.Texts.{length-hexes}
-use Rattle.escape.specs.Escape.{escaped}
-use Rattle.escape.specs.Block.{byteOf}
+use Rattle.escape.specs.declared.Escaping.{Escaping}
+use Rattle.escape.specs.declared.Escaping.the-variants.{Canonical, Nson}
+use Rattle.escape.specs.Escape.{byteOf, growth, escaped}
 use Rattle.event.specs.Event.{Text, Tag}
 use Rattle.notepack.specs.declared.Part.{Part}
 use Rattle.notepack.specs.Unpack.{bytesOf, textOf}
@@ -27,16 +28,25 @@ use Rattle.jsontags.proofs.Texts.{hexes-stand, commaed-next}
 pub part-short : (s : List ℕ) (p : Part) → length (bytesOf s p) ≤ length s
 part-short s p = omega (arith, length-take (p .len) (drop (p .at) s), length-drop (p .at) s)
 
-module _ (all : Bool) (s : List ℕ) where
+-- two digits for each byte of a part, and what a part's bytes grow to, are what the whole input could grow to
+pub raw-most : (k : Escaping) (n m : ℕ) → n ≤ m → 2 * n ≤ growth k * m
+raw-most Canonical n m h = omega arith
+raw-most Nson n m h = omega arith
+
+pub plain-most : (k : Escaping) (r n m : ℕ) → r ≤ growth k * n → n ≤ m → r ≤ growth k * m
+plain-most Canonical r n m g h = omega arith
+plain-most Nson r n m g h = omega arith
+
+module _ (k : Escaping) (s : List ℕ) where
   -- the hex of a raw part needs no escape
-  pub raw-text : IsBytes s → (p : Part) → p .raw ≡ true → escaped (byteOf all) (textOf s p) ≡ hexes (bytesOf s p)
-  raw-text bytes p r = ap (escaped (byteOf all)) (text-raw s p r) ∙ hexes-stand all (all-take (p .len) (all-drop (p .at) bytes))
+  pub raw-text : IsBytes s → (p : Part) → p .raw ≡ true → escaped (byteOf k) (textOf s p) ≡ hexes (bytesOf s p)
+  raw-text bytes p r = ap (escaped (byteOf k)) (text-raw s p r) ∙ hexes-stand k (all-take (p .len) (all-drop (p .at) bytes))
 
   -- the length of a part's text between its quotes, raw and plain
-  pub raw-length : IsBytes s → (p : Part) → p .raw ≡ true → length (escaped (byteOf all) (textOf s p)) ≡ 2 * length (bytesOf s p)
+  pub raw-length : IsBytes s → (p : Part) → p .raw ≡ true → length (escaped (byteOf k) (textOf s p)) ≡ 2 * length (bytesOf s p)
   raw-length bytes p r = rw (raw-text bytes p r) (length-hexes (bytesOf s p))
 
-  pub plain-length : (p : Part) → p .raw ≡ false → length (escaped (byteOf all) (textOf s p)) ≡ length (escaped (byteOf all) (bytesOf s p))
+  pub plain-length : (p : Part) → p .raw ≡ false → length (escaped (byteOf k) (textOf s p)) ≡ length (escaped (byteOf k) (bytesOf s p))
   plain-length p r = rw (text-plain s p r)
 
 -- ---- a text or a tag more

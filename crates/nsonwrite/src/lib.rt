@@ -1,4 +1,5 @@
 // The NSON of a packed event: measured first, and written where NSON can carry the event and there is room for it.
+use escape::Escaping;
 use event::Refusal;
 use event::Writing;
 use notepack::Head;
@@ -233,9 +234,9 @@ fn put_nson_body(out: &mut [u8], at: usize, s: &[u8], h: Head) -> usize
     let a = buffer::put_bytes(out, at, b"\",\"kind\":");
     let b = decimal::put_decimal(out, a, h.kind);
     let c = buffer::put_bytes(out, b, b",\"content\":\"");
-    let d = jsontags::put_escaped_part(false, out, c, s, h.content);
+    let d = jsontags::put_escaped_part(Escaping::Nson, out, c, s, h.content);
     let e = buffer::put_bytes(out, d, b"\",\"tags\":[");
-    let f = jsontags::put_arrays(false, out, e, s, h.tags_at, h.tag_count);
+    let f = jsontags::put_arrays(Escaping::Nson, out, e, s, h.tags_at, h.tag_count);
     buffer::put_bytes(out, f, b"]}")
 }
 

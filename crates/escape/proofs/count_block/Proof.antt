@@ -26,7 +26,7 @@ again c =
       omega arith,
       omega arith,
       count-more false _ _ _ _ (v .3) (test .loop-test .taken) (c .before .before .before .is-escaped .ensures) (c .before .before .one-if .ensures .0),
-      rw (c .is-control .ensures .0) (control-more _ _ _ _ (v .4) (test .loop-test .taken)),
+      rw (c .is-uncarried .ensures .0) (control-more _ _ _ _ (v .4) (test .loop-test .taken)),
     )
 
 pub count-block-spec : {M : Type 1} → statement M

@@ -6,14 +6,14 @@ use native.Mathlib.Omega.{arith}
 use borrow.Author.Needs.{needs}
 use lib.ListN.{length, drop}
 use Rattle.escape.specs.Escape.{escaped}
-use Rattle.escape.specs.Block.{byteOf}
+use Rattle.escape.specs.Block.{byteBy}
 use Rattle.escape.proofs.BlockLaws.{count-more, count-all}
 use Rattle.escape.proofs.escapes.Statement.{statement}
 use Rattle.escape.proofs.escapes.Tie as tie
 
 abbrev Inv-loop : tie.InvT-loop
 Inv-loop all block i₀ n₀ i n =
-    (i ≤ length block) × (n ≤ i) × (n + i + length (escaped (byteOf all) (drop i block)) ≡ length (escaped (byteOf all) block))
+    (i ≤ length block) × (n ≤ i) × (n + i + length (escaped (byteBy all) (drop i block)) ≡ length (escaped (byteBy all) block))
 
 abbrev μ-loop : tie.MeasureT-loop
 μ-loop all block i₀ n₀ i n = length block - i

@@ -12,7 +12,7 @@ returns c =
     let first = second .before .before .before .before .before in
     let tested = first .before .before in
     let b = tested .before .before .before .args .b in
-    let letter = rw (second .before .letter-of .ensures) at (second .put-byte2 .ensures) in
+    let letter = rw (second .before .escape-letter .ensures) at (second .put-byte2 .ensures) in
     rw (byte-two _ b (tested .before .is-escaped .ensures) (tested .if1 .taken)) (then (first .put-byte .ensures) letter)
 
 returns-2 : tie.Need-returns-2

@@ -3,7 +3,7 @@
 use mathlib.Core.List.{map}
 use borrow.Author.Needs.{needs}
 use Rattle.buffer.proofs.Laws.{Left, start, part, done, also, same}
-use Rattle.escape.specs.Block.{byteOf}
+use Rattle.escape.specs.Escape.{byteOf}
 use Rattle.notepack.specs.Again.{tagsAgain}
 use Rattle.jsontags.specs.TagText.{commaed, tagText}
 use Rattle.jsontags.proofs.Turns.{arrays-turn, arrays-left}
@@ -11,11 +11,11 @@ use Rattle.jsontags.proofs.put_arrays.Statement.{statement}
 use Rattle.jsontags.proofs.put_arrays.Tie as tie
 
 abbrev Inv-loop : tie.InvT-loop
-Inv-loop all out₀ at s from count o₀ i₀ left₀ out o i left =
-    Left out₀ o₀ (commaed (map (tagText (byteOf all)) (tagsAgain left₀ s i₀))) out o (commaed (map (tagText (byteOf all)) (tagsAgain left s i)))
+Inv-loop k out₀ at s from count o₀ i₀ left₀ out o i left =
+    Left out₀ o₀ (commaed (map (tagText (byteOf k)) (tagsAgain left₀ s i₀))) out o (commaed (map (tagText (byteOf k)) (tagsAgain left s i)))
 
 abbrev μ-loop : tie.MeasureT-loop
-μ-loop all out₀ at s from count o₀ i₀ left₀ out o i left = left
+μ-loop k out₀ at s from count o₀ i₀ left₀ out o i left = left
 
 again : tie.Need-loop-again Inv-loop μ-loop
 again c =
@@ -28,14 +28,14 @@ again c =
     let q = turn .before .loop in
     let a = turn .before .before .before .before .args in
     let r = read .count-again .ensures in
-    let t = arrays-turn (byteOf (a .all)) (a .s .now) (q .left) (q .i) (turn .loop-test .taken) (r .0) (r .1) (strings .put-strings .ensures .1) in
+    let t = arrays-turn (byteOf (a .k)) (a .s .now) (q .left) (q .i) (turn .loop-test .taken) (r .0) (r .1) (strings .put-strings .ensures .1) in
     part (part (part (part (also t (q .inv)) (opened .put-byte .ensures)) (strings .put-strings .ensures .0)) (closed .put-byte2 .ensures)) (comma .put-comma .ensures)
 
 end : tie.Need-returns Inv-loop μ-loop
 end c =
     let q = c .before .loop in
     let a = c .before .before .before .before .args in
-    done (also (arrays-left (byteOf (a .all)) (a .s .now) (q .left) (q .i) (c .loop-test .left)) (q .inv))
+    done (also (arrays-left (byteOf (a .k)) (a .s .now) (q .left) (q .i) (c .loop-test .left)) (q .inv))
 
 pub put-arrays-spec : {M : Type 1} → statement M
 put-arrays-spec =

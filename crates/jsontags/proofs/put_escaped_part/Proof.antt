@@ -14,7 +14,7 @@ raw c =
     let known = tested .before .before in
     let a = known .before .before .args in
     let bytes = all-places (a .s .now) (λ i. omega (arith, known .shared-slice-known .given i)) in
-    rw (raw-text (a .all) (a .s .now) bytes (a .p) (tested .if1 .taken), ← tested .before .part .ensures) (c .before .before .put-hex .ensures)
+    rw (raw-text (a .k) (a .s .now) bytes (a .p) (tested .if1 .taken), ← tested .before .part .ensures) (c .before .before .put-hex .ensures)
 
 plain : tie.Need-returns-2
 plain c =

@@ -1,4 +1,4 @@
--- `plain_run` keeps the least place of a byte that becomes two. The invariant: the run is that place, or ends further on.
+-- `bare_run` keeps the least place of a byte that becomes two. The invariant: the run is that place, or ends further on.
 -- Each turn is `run-more`; at the end the run is the least place, or the whole block.
 use Prim.Native.Nat.{_+_, _-_, _≤_, min}
 use mathlib.Core.Path.{_≡_}
@@ -7,8 +7,8 @@ use borrow.Author.Needs.{needs}
 use lib.ListN.{length, drop}
 use Rattle.escape.specs.Block.{runOf}
 use Rattle.escape.proofs.BlockLaws.{run-within, run-more, run-done}
-use Rattle.escape.proofs.plain_run.Statement.{statement}
-use Rattle.escape.proofs.plain_run.Tie as tie
+use Rattle.escape.proofs.bare_run.Statement.{statement}
+use Rattle.escape.proofs.bare_run.Tie as tie
 
 abbrev Inv-loop : tie.InvT-loop
 Inv-loop all block n i₀ m₀ i m = (i ≤ length block) × (m ≤ length block) × (runOf all block ≡ min m (i + runOf all (drop i block)))
@@ -23,8 +23,8 @@ again c =
     let n = length (turn .before .before .before .args .block .now) in
     (omega arith, omega arith, run-more _ _ (q .i) n (q .m) (q .inv .2) (turn .loop-test .taken) (q .inv .1) (c .before .before .is-escaped .ensures) (c .before .place-if .ensures) (c .lesser .ensures))
 
-pub plain-run-spec : {M : Type 1} → statement M
-plain-run-spec =
+pub bare-run-spec : {M : Type 1} → statement M
+bare-run-spec =
     tie.close
     (tie.spec
     Inv-loop
