@@ -17,7 +17,7 @@ use Rattle.scan.proofs.Reading.{shown-reads}
 use Rattle.scan.proofs.Step.{rest-none, rest-more}
 use Rattle.hex.specs.Hex.{digitOf, hexes}
 use Rattle.hex.proofs.Texts.{hexes-injective}
-use Rattle.scan.specs.Compare.{sameBytes}
+use Rattle.scan.specs.Compare.{sameBytes, lower}
 use Rattle.scan.proofs.CompareLaws.{same-same, bytes-same, both-ways}
 use Rattle.notepack.specs.declared.Cursor.{Cursor}
 use Rattle.notepack.specs.declared.Part.{Part}
@@ -32,7 +32,6 @@ use Rattle.strict.specs.Copy.{elementsEnd}
 use Rattle.rivals.specs.declared.LabelRead.{LabelRead}
 use Rattle.rivals.specs.declared.LabelRead.the-variants.{Found, Nothing}
 use Rattle.rivals.specs.Label.{isD, secondAt, labelAt}
-use Rattle.scan.specs.Compare.{lower}
 
 -- ---- the hex of bytes
 

@@ -5,7 +5,7 @@ use mathlib.Core.List.{List, [], _∷_}
 use lib.ListN.{take, drop}
 use lib.Dec.{ltb, eqb}
 use Rattle.scan.specs.Choice.{pick, Answer, Read}
-use Rattle.scan.specs.Compare.{sameBytes}
+use Rattle.scan.specs.Compare.{sameBytes, lower}
 use Rattle.notepack.specs.declared.Head.{Head}
 use Rattle.notepack.specs.declared.Part.{Part}
 use Rattle.notepack.specs.Unpack.{bytesOf, textOf, elementAt, tagCountAt}
@@ -15,7 +15,6 @@ use Rattle.rivals.specs.declared.Kept.the-variants.{First, Second}
 use Rattle.rivals.specs.declared.LabelRead.{LabelRead}
 use Rattle.rivals.specs.declared.LabelRead.the-variants.{Found, Nothing}
 use Rattle.rivals.specs.Rivals.{isReplaceable, isLabelled}
-use Rattle.scan.specs.Compare.{lower}
 
 -- whether a part's text is `d`: never a raw part's, whose text has an even length
 unfoldable pub isD : List ℕ → Part → Bool

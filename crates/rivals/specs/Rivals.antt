@@ -5,12 +5,11 @@ use mathlib.Core.List.{List, [], _∷_}
 use lib.Dec.{ltb, eqb}
 use Rattle.scan.specs.Choice.{pick, Answer, shown, andThen}
 use Rattle.scan.specs.Place.{within}
-use Rattle.scan.specs.Compare.{sameBytes}
+use Rattle.scan.specs.Compare.{sameBytes, lower}
 use Rattle.event.specs.Event.{Text, Tag, Event}
 use Rattle.notepack.specs.Unpack.{unpack}
 use Rattle.rivals.specs.declared.Kept.{Kept}
 use Rattle.rivals.specs.declared.Kept.the-variants.{First, Second, NotRivals}
-use Rattle.scan.specs.Compare.{lower}
 
 -- kinds 0, 3 and 10000-19999 are replaceable
 unfoldable pub isReplaceable : ℕ → Bool
