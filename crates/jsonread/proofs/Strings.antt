@@ -20,11 +20,12 @@ use Rattle.notepack.specs.Strict.{packElement}
 use Rattle.notepack.proofs.Lengths.{element-bytes, element-text, length-as-bytes, length-as-text}
 use Rattle.jsontext.specs.declared.Spelled.{Spelled}
 use Rattle.jsontext.specs.Grammar as json
-use Rattle.jsontext.specs.Escape.{escapeAt, plainAt, orItself, unescape}
+use Rattle.jsontext.specs.Escape.{escapeAt, orItself, unescape}
+use Rattle.jsonunescape.specs.Run.{backslashAt}
 use Rattle.jsontext.specs.Text.{stringAt}
 use Rattle.jsontext.proofs.Meaning.{unescape-chars, chars-same}
 use Rattle.jsontext.proofs.TextLaws.{string-reads}
-use Rattle.jsontext.proofs.Unescape.{run-onward, run-inside, run-slash, length-run, unescape-end, taken, length-escape}
+use Rattle.jsonunescape.proofs.Unescape.{run-onward, run-inside, run-slash, length-run, unescape-end, taken, length-escape}
 use Rattle.json.specs.Field.{textOf, textAt}
 use Rattle.jsonread.specs.Size.{elementSize}
 
@@ -46,7 +47,7 @@ unescape-most t = omega (arith, go (length t) 0 (omega arith) (omega arith))
     go : (k i : ℕ) → length t ≤ i + k → i ≤ length t → length (unescape (drop i t)) ≤ length t - i
     go zero i h l = rw (unescape-end t i (omega arith)) (omega arith)
     go (suc k) i h l =
-        let e = plainAt t i in
+        let e = backslashAt t i in
         let run = length-run t i {e = e} refl l in
         dite (decLt e (length t))
         (λ q.

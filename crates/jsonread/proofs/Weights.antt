@@ -26,23 +26,24 @@ use Rattle.notepack.proofs.Lengths.{tag-form}
 use Rattle.event.specs.declared.Refusal.{Refusal}
 use Rattle.event.specs.Answers.{told}
 use Rattle.jsontext.specs.declared.Spelled.{Spelled}
-use Rattle.jsontext.specs.declared.Cursor.{Cursor}
-use Rattle.jsontext.specs.declared.Skip.{Skip}
-use Rattle.jsontext.specs.declared.Skip.the-variants as skip
-use Rattle.jsontext.specs.declared.StringRead.{StringRead}
-use Rattle.jsontext.specs.declared.StringRead.the-variants as string
-use Rattle.jsontext.specs.Answers.{stringRead, skipRead}
+use Rattle.jsonvalue.specs.declared.Cursor.{Cursor}
+use Rattle.jsonvalue.specs.declared.Skip.{Skip}
+use Rattle.jsonvalue.specs.declared.Skip.the-variants as skip
+use Rattle.jsonstring.specs.declared.StringRead.{StringRead}
+use Rattle.jsonstring.specs.declared.StringRead.the-variants as string
+use Rattle.jsonstring.specs.Answers.{stringRead}
+use Rattle.jsonvalue.specs.Answers.{skipRead}
 use Rattle.jsontext.specs.Text.{stringAt}
 use Rattle.jsontext.specs.Value.{valueAt}
 use Rattle.jsontext.specs.Token.{spaceAt, numberAt, past, Done}
 use Rattle.jsontext.specs.Grammar as json
-use Rattle.jsontext.proofs.TokenLaws.{number-consumes}
+use Rattle.jsontext.proofs.TokenLaws.{number-consumes, space-onward}
 use Rattle.jsontext.proofs.FirstByte.{begins-value, some-bytes}
-use Rattle.jsontext.proofs.Walk.{space-onward}
 use Rattle.json.specs.Field.{textOf, textAt, hexAt, isHexOf, digitsOnly, wholeOf, wholeAt, insideAt, arrayAt, oneOrMore, tagAt, tagsAt, missing, bytes, tags, text, under}
 use Rattle.json.specs.Field as field
 use Rattle.jsonread.specs.declared.Spot.{Spot}
 use Rattle.jsonread.specs.declared.Sized.{Sized}
+use Rattle.jsonstring.specs.declared.Cursor as behind
 use Rattle.jsonread.specs.declared.Cursor as own
 use Rattle.jsonread.specs.declared.SizedRead.{SizedRead}
 use Rattle.jsonread.specs.declared.SizedRead.the-variants as sized-by
@@ -287,7 +288,7 @@ module _ (s : List ℕ) (at : ℕ) {f : StringRead} (e : stringRead f ≡ string
   unfolding hexAt textAt
   hex-refused n k = let r = sym e ∙ ap stringRead k in rw r
 
-  module _ {x : Spelled} {c : Cursor} (k : f ≡ string.Text x c) where
+  module _ {x : Spelled} {c : behind.Cursor} (k : f ≡ string.Text x c) where
     was-read : stringAt s at ≡ read x (c .at)
     was-read = sym e ∙ ap stringRead k
 

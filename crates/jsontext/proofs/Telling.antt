@@ -19,8 +19,7 @@ use Rattle.jsontext.specs.Escape.{escapeAt}
 use Rattle.jsontext.specs.Token.{Skipped, spaceAt, wordAt, minusAt, intAt, numberFrom, unsignedFrom, numberAt}
 use Rattle.jsontext.specs.Text.{charsAt, stringAt}
 use Rattle.jsontext.specs.Value.{valueNumbers, falseWord, nullWord, trueWord, colonAt, memberAt, itemAt, afterItem, itemsAt, insideAt, valueBy, walkBy, valueAt}
-use Rattle.jsontext.proofs.TokenLaws.{word-consumes, number-consumes}
-use Rattle.jsontext.proofs.Walk.{space-inside}
+use Rattle.jsontext.proofs.TokenLaws.{word-consumes, number-consumes, space-inside}
 
 -- ---- places within the input
 

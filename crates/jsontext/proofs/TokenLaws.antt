@@ -12,7 +12,7 @@ use Rattle.scan.specs.Choice.{pick}
 use Rattle.scan.specs.Place.{within, runAt, standsAt}
 use Rattle.scan.specs.Span.{Span, here, step, also}
 use Rattle.scan.proofs.Step.{pick-by}
-use Rattle.scan.proofs.SpanLaws.{join, cut, bite, seen, span-length}
+use Rattle.scan.proofs.SpanLaws.{join, cut, bite, seen, span-length, span-fits}
 use Rattle.scan.proofs.PlaceLaws.{run-again, run-span, span-run, span-stands, stands-span}
 use Rattle.scan.proofs.Reading.{Reads, reads, fails, pick-reads}
 use Rattle.hex.proofs.Digits.{in-range}
@@ -53,6 +53,19 @@ of-space b json.return = refl
 pub space-consumes : (s : List ℕ) (a : ℕ) → Ends json.Ws s a (spaceAt s a)
 unfolding spaceAt
 space-consumes s a = let r = run-span isSpace json.Space to-space s a in ends (r .1) (r .2)
+
+-- it goes on, and ends within the input
+pub space-onward : (s : List ℕ) (a : ℕ) → a ≤ spaceAt s a
+space-onward s a = go (space-consumes s a)
+  where
+    go : {G : List ℕ → Type 0} {e : ℕ} → Ends G s a e → a ≤ e
+    go (ends g r) = omega (arith, span-length r)
+
+pub space-inside : (s : List ℕ) (a : ℕ) → a ≤ length s → spaceAt s a ≤ length s
+space-inside s a h = go (space-consumes s a)
+  where
+    go : {G : List ℕ → Type 0} {e : ℕ} → Ends G s a e → e ≤ length s
+    go (ends g r) = omega (arith, span-length r, span-fits r)
 
 -- accepts: white space behind which none follows
 pub space-accepts : {s w : List ℕ} {a c : ℕ} → json.Ws w → Span s a w c → isSpace (getD s c 0) ≡ false → spaceAt s a ≡ c
