@@ -46,10 +46,10 @@ then-escape {s} {a} {i} {x} p h f e z =
 
 -- the bytes of an escape
 escape-span : (s : List ℕ) (a : ℕ) → getD s a 0 ≡ 0x5C → (escapeAt s a .width ≡ 0 → ⊥)
-    → (l : List ℕ) × (t : List ℕ) × json.Char l t × Span s a l (a + escapeAt s a .width)
+    → (l : List ℕ) × (t : List ℕ) × json.SpelledChar l t × Span s a l (a + escapeAt s a .width)
 escape-span s a f z = go (escape-at s a f) z
   where
-    go : {x : Escape} → EscapeAt s a x → (x .width ≡ 0 → ⊥) → (l : List ℕ) × (t : List ℕ) × json.Char l t × Span s a l (a + x .width)
+    go : {x : Escape} → EscapeAt s a x → (x .width ≡ 0 → ⊥) → (l : List ℕ) × (t : List ℕ) × json.SpelledChar l t × Span s a l (a + x .width)
     go no-escape n = absurd (n refl)
     go (escape-is {l = l} {n = u} g k r i j m o) n = (l, _, g, r)
 
@@ -81,7 +81,7 @@ unit-utf8 (json.unit p q r t) =
     (also {b = 0x5C} (omega arith)
     (also {b = 0x75} (omega arith) (also (digit-ascii p) (also (digit-ascii q) (also (digit-ascii r) (also (digit-ascii t) none))))))
 
-spelled-utf8 : {c t : List ℕ} → json.Char c t → utf8.Utf8 c
+spelled-utf8 : {c t : List ℕ} → json.SpelledChar c t → utf8.Utf8 c
 spelled-utf8 (json.unescaped g) = utf8-char (unescaped-char g)
 spelled-utf8 (json.letter {c = c} g) = let h = letter-small g in utf8-ascii (also {b = 0x5C} (omega arith) (also {b = c} (omega arith) none))
 spelled-utf8 (json.unicode g n) = unit-utf8 g

@@ -205,7 +205,7 @@ letter-small json.Letter.tab = (omega arith, omega arith, omega arith, omega ari
 
 -- what the answer says: a character of the grammar stands there, in w bytes that are no fewer than its own; or none
 pub data EscapeAt (s : List ℕ) (a : ℕ) : Escape → Type 0 where
-  escape-is : {l : List ℕ} {w n : ℕ} → json.Char l (encode n) → Scalar n → Span s a l (a + w) → length l ≡ w → 1 ≤ w → w ≤ 12 → length (encode n) ≤ w
+  escape-is : {l : List ℕ} {w n : ℕ} → json.SpelledChar l (encode n) → Scalar n → Span s a l (a + w) → length l ≡ w → 1 ≤ w → w ≤ 12 → length (encode n) ≤ w
       → EscapeAt s a (escape w n)
   no-escape : EscapeAt s a noEscape
 
@@ -253,7 +253,7 @@ letter-at s a b e no-letter = no-escape
 letter-at s a b e (letter-is g) =
     let h = letter-small g in
     let o = encode-one b (h .1) in
-    let c : json.Char (0x5C ∷ getD s (a + 1) 0 ∷ []) (encode b) = rw o (json.letter g) in
+    let c : json.SpelledChar (0x5C ∷ getD s (a + 1) 0 ∷ []) (encode b) = rw o (json.letter g) in
     pick-escape (eqb b 0) (λ t. no-escape)
     (λ f.
     escape-is c (below (omega arith))

@@ -7,3 +7,4 @@ pub mod ValueComplete
 pub mod Unambiguous
 pub mod Meaning
 pub mod Telling
+pub mod Compact

@@ -117,7 +117,7 @@ fn escape_or_itself(t: &[u8], at: usize) -> Escape
     requires { ⌜ at < length (now t) ⌝ }
     ensures { λ r. ⌜ r ≡ orItself (escapeAt (now (t .entry)) at) ⌝ }
 {
-    let e = jsonstring::escape_at(&t[..], at);
+    let e = jsonescape::escape_at(&t[..], at);
     let w = e.width;
     if w == 0 {
         return Escape {
@@ -327,7 +327,7 @@ fn put_spelled(out: &mut [u8], at: usize, t: &[u8]) -> usize
         if t.len() <= e {
             return o;
         }
-        let b = jsonstring::unescaped_letter(scan::byte_at(t, e + 1));
+        let b = jsonescape::unescaped_letter(scan::byte_at(t, e + 1));
         if b != 0 {
             o = buffer::put_byte(out, o, b);
             i = e + 2;

@@ -12,7 +12,7 @@ use Rattle.jsonvalue.specs.declared.Cursor.{Cursor}
 use Rattle.jsonvalue.specs.declared.Skip.{Skip}
 use Rattle.jsonvalue.specs.declared.Skip.the-variants.{Past, Refused}
 use Rattle.jsontext.specs.Token.{Skipped, past, spaceAt}
-use Rattle.jsontext.specs.Value.{itemAt, afterItem, itemsAt, insideAt, valueAt, walkBy, walkAt}
+use Rattle.jsontext.specs.Value.{skipItem, skipAfter, skipItems, skipInside, valueAt, skipWalkBy, skipWalk}
 use Rattle.jsonvalue.specs.Answers.{skipRead}
 use Rattle.scan.proofs.Fits.{byte-positive}
 use Rattle.jsontext.proofs.TokenLaws.{space-onward, space-inside}
@@ -22,36 +22,36 @@ use Rattle.jsontext.proofs.ValueSound.{item-some}
 
 -- the reader of an item, with one depth less
 abbrev pub itemOf : (depth close : ℕ) → List ℕ → ℕ → Skipped
-itemOf depth close s = itemAt close (valueAt (depth - 1) s) s
+itemOf depth close s = skipItem close (valueAt (depth - 1) s) s
 
 pub record InWalk (s : List ℕ) (depth close at i : ℕ) : Type 0 where
   pub fuel : ℕ
   pub enough : length s < fuel + i
   pub inside : i ≤ length s
-  pub same : walkAt depth close s at ≡ itemsAt close (itemOf depth close s) fuel s i
+  pub same : skipWalk depth close s at ≡ skipItems close (itemOf depth close s) fuel s i
 
-walk-open : {depth : ℕ} → (depth ≡ 0 → ⊥) → (close : ℕ) (s : List ℕ) (at : ℕ) → walkAt depth close s at ≡ insideAt close (itemOf depth close s) s (spaceAt s (at + 1))
-unfolding walkAt walkBy
+walk-open : {depth : ℕ} → (depth ≡ 0 → ⊥) → (close : ℕ) (s : List ℕ) (at : ℕ) → skipWalk depth close s at ≡ skipInside close (itemOf depth close s) s (spaceAt s (at + 1))
+unfolding skipWalk skipWalkBy
 walk-open {depth = zero} h close s at = absurd (h refl)
 walk-open {depth = suc depth} h close s at = rw sub-one
 
 -- no depth is left
-pub walk-shut : {depth : ℕ} (close : ℕ) (s : List ℕ) (at : ℕ) → depth ≡ 0 → refused 18 at ≡ walkAt depth close s at
-unfolding walkAt
+pub walk-shut : {depth : ℕ} (close : ℕ) (s : List ℕ) (at : ℕ) → depth ≡ 0 → refused 18 at ≡ skipWalk depth close s at
+unfolding skipWalk
 walk-shut {depth = zero} close s at h = refl
 walk-shut {depth = suc depth} close s at h = absurd (omega arith)
 
 module _ (s : List ℕ) (depth close at : ℕ) where
   -- nothing between the brackets
   pub walk-none : (first : Cursor) (b : ℕ) → (depth ≡ 0 → ⊥) → first .at ≡ spaceAt s (at + 1) → b ≡ getD s (first .at) 0 → b ≡ close
-      → past (first .at + 1) ≡ walkAt depth close s at
-  unfolding insideAt
+      → past (first .at + 1) ≡ skipWalk depth close s at
+  unfolding skipInside
   walk-none first b h e f q = sym (walk-open h close s at ∙ rw (← e, eq-eqb (getD s (first .at) 0) close (sym f ∙ q)))
 
   -- the first item
   pub walk-start : (first : Cursor) (b : ℕ) → (depth ≡ 0 → ⊥) → at < length s → first .at ≡ spaceAt s (at + 1) → b ≡ getD s (first .at) 0 → (b ≡ close → ⊥)
       → InWalk s depth close at (first .at)
-  unfolding insideAt
+  unfolding skipInside
   walk-start first b h l e f q = record {
     fuel = length s;
     enough = omega (arith, e, space-onward s (at + 1));
@@ -60,22 +60,22 @@ module _ (s : List ℕ) (depth close at : ℕ) where
   }
 
   module _ (i : ℕ) (r : Skip) (v : InWalk s depth close at i) (e : skipRead r ≡ itemOf depth close s i) where
-    turn : walkAt depth close s at ≡ andThen (skipRead r) (λ x. afterItem close (itemsAt close (itemOf depth close s) (v .fuel - 1) s) s (spaceAt s (x .next)))
-    unfolding itemsAt
+    turn : skipWalk depth close s at ≡ andThen (skipRead r) (λ x. skipAfter close (skipItems close (itemOf depth close s) (v .fuel - 1) s) s (spaceAt s (x .next)))
+    unfolding skipItems
     turn = v .same ∙ go (v .fuel) (v .enough) (v .inside)
       where
         go : (k : ℕ) → length s < k + i → i ≤ length s
-            → itemsAt close (itemOf depth close s) k s i ≡ andThen (skipRead r) (λ x. afterItem close (itemsAt close (itemOf depth close s) (k - 1) s) s (spaceAt s (x .next)))
+            → skipItems close (itemOf depth close s) k s i ≡ andThen (skipRead r) (λ x. skipAfter close (skipItems close (itemOf depth close s) (k - 1) s) s (spaceAt s (x .next)))
         go zero h n = absurd (omega arith)
         go (suc k) h n = let one : suc k - 1 ≡ k = omega arith in rw (e, one)
 
     -- an item is refused
-    pub walk-refused : {why : _} → r ≡ Refused why → skipRead r ≡ walkAt depth close s at
+    pub walk-refused : {why : _} → r ≡ Refused why → skipRead r ≡ skipWalk depth close s at
     walk-refused f = sym (turn ∙ rw f)
 
     module _ (next behind : Cursor) (f : r ≡ Past next) (g : behind .at ≡ spaceAt s (next .at)) where
       -- behind an item
-      passed : walkAt depth close s at ≡ afterItem close (itemsAt close (itemOf depth close s) (v .fuel - 1) s) s (behind .at)
+      passed : skipWalk depth close s at ≡ skipAfter close (skipItems close (itemOf depth close s) (v .fuel - 1) s) s (behind .at)
       passed = turn ∙ rw (f, g)
 
       -- the item took a byte or more, and ended within the input
@@ -84,13 +84,13 @@ module _ (s : List ℕ) (depth close at : ℕ) where
 
       module _ (b : ℕ) (h : b ≡ getD s (behind .at) 0) where
         -- the closing bracket
-        pub walk-closed : b ≡ close → past (behind .at + 1) ≡ walkAt depth close s at
-        unfolding afterItem
+        pub walk-closed : b ≡ close → past (behind .at + 1) ≡ skipWalk depth close s at
+        unfolding skipAfter
         walk-closed q = sym (passed ∙ rw (eq-eqb (getD s (behind .at) 0) close (sym h ∙ q)))
 
         -- neither a bracket nor a comma
-        pub walk-other : {x : Skipped} → (b ≡ close → ⊥) → (b ≡ 0x2C → ⊥) → x ≡ refused 14 (behind .at) → x ≡ walkAt depth close s at
-        unfolding afterItem
+        pub walk-other : {x : Skipped} → (b ≡ close → ⊥) → (b ≡ 0x2C → ⊥) → x ≡ refused 14 (behind .at) → x ≡ skipWalk depth close s at
+        unfolding skipAfter
         walk-other n m q =
             q ∙ sym (passed ∙ rw (ne-eqb (getD s (behind .at) 0) close (λ z. n (h ∙ z)), ne-eqb (getD s (behind .at) 0) 0x2C (λ z. m (h ∙ z))))
 
@@ -101,7 +101,7 @@ module _ (s : List ℕ) (depth close at : ℕ) where
             (omega (arith, q, some-byte, g, space-onward s (next .at), space-onward s (behind .at + 1)), omega (arith, q, space-inside s (behind .at + 1) (omega arith)))
 
         pub walk-again : (again : Cursor) → (b ≡ close → ⊥) → b ≡ 0x2C → again .at ≡ spaceAt s (behind .at + 1) → InWalk s depth close at (again .at)
-        unfolding afterItem
+        unfolding skipAfter
         walk-again again n m q =
             let u = further again m q in
             record {

@@ -5,8 +5,8 @@ ghost use Prim.Native.Nat.{_<_};
 ghost use mathlib.Core.Path.{_≡_};
 ghost use lib.ListN.{length};
 ghost use Rattle.scan.specs.Choice.{refused};
-ghost use Rattle.jsontext.specs.Token.{isSpace, spaceAt, wordAt, isDigit, digitsOr, minusAt, signAt, intAt, fracAt, isE, expAt, numberAt};
-ghost use Rattle.jsontext.specs.Value.{itemAt, memberAt, valueAt, walkAt};
+ghost use Rattle.jsontext.specs.Token.{isSpace, spaceAt, wordAt, digitsOr, minusAt, signAt, intAt, fracAt, isE, expAt, skipNumber};
+ghost use Rattle.jsontext.specs.Value.{skipItem, skipMember, valueAt, skipWalk};
 ghost use Rattle.jsonvalue.specs.Answers.{skipRead};
 
 // A place in the input. A cursor past the end reads as the end.
@@ -78,18 +78,12 @@ impl Cursor {
 
 // ---- numbers
 
-fn is_digit(b: u8) -> bool
-    ensures { λ r. ⌜ r ≡ isDigit b ⌝ }
-{
-    scan::is_within(0x30, 0x39, b)
-}
-
 // Behind the digits at a place, or another place where there is none.
 fn digits_or(s: &[u8], at: usize, other: usize) -> usize
     ensures { λ r. ⌜ r ≡ digitsOr (now (s .entry)) at other ⌝ }
 {
     let b = scan::byte_at(s, at);
-    if is_digit(b) {
+    if scan::is_within(0x30, 0x39, b) {
         return scan::run_end(s, at, 0x30, 0x39);
     }
     other
@@ -159,7 +153,7 @@ fn after_exp(s: &[u8], at: usize) -> usize
 impl Cursor {
     // Behind the number: the longest prefix that is one.
     pub fn number(self, s: &[u8]) -> Skip
-        ensures { λ r. ⌜ skipRead r ≡ numberAt (now (s .entry)) (self .at) ⌝ }
+        ensures { λ r. ⌜ skipRead r ≡ skipNumber (now (s .entry)) (self .at) ⌝ }
     {
         let at = self.at;
         let i = after_minus(s, at);
@@ -212,7 +206,7 @@ impl Cursor {
     fn walk(self, s: &[u8], depth: usize, close: u8) -> Skip
         requires { ⌜ self .at < length (now s) ⌝ }
         requires { ⌜ 0 < close ⌝ }
-        ensures { λ r. ⌜ skipRead r ≡ walkAt depth close (now (s .entry)) (self .at) ⌝ }
+        ensures { λ r. ⌜ skipRead r ≡ skipWalk depth close (now (s .entry)) (self .at) ⌝ }
     {
         let at = self.at;
         if depth == 0 {
@@ -247,7 +241,7 @@ impl Cursor {
 
     // Behind a member of an object or a value of an array.
     fn item(self, s: &[u8], depth: usize, close: u8) -> Skip
-        ensures { λ r. ⌜ skipRead r ≡ itemAt close (valueAt depth (now (s .entry))) (now (s .entry)) (self .at) ⌝ }
+        ensures { λ r. ⌜ skipRead r ≡ skipItem close (valueAt depth (now (s .entry))) (now (s .entry)) (self .at) ⌝ }
     {
         if close == 0x7D {
             return self.member(s, depth);
@@ -257,7 +251,7 @@ impl Cursor {
 
     // Behind a name, a colon and a value.
     fn member(self, s: &[u8], depth: usize) -> Skip
-        ensures { λ r. ⌜ skipRead r ≡ memberAt (valueAt depth (now (s .entry))) (now (s .entry)) (self .at) ⌝ }
+        ensures { λ r. ⌜ skipRead r ≡ skipMember (valueAt depth (now (s .entry))) (now (s .entry)) (self .at) ⌝ }
     {
         let at = self.at;
         let name = jsonstring::Cursor { at }.string(s);

@@ -13,5 +13,5 @@ digits-or-spec =
     (λ c κs. search needs)
     (λ c κs. search needs)
     (λ c κs. search needs)
-    (λ c. simp (← c .before .before .before .byte-at .ensures, ← c .before .before .is-digit .ensures, c .before .if1 .taken, ← c .run-end .ensures))
-    (λ c. simp (← c .before .before .byte-at .ensures, ← c .before .is-digit .ensures, c .if1 .left)))
+    (λ c. simp (← c .before .before .before .byte-at .ensures, ← c .before .before .is-within .ensures, c .before .if1 .taken, ← c .run-end .ensures))
+    (λ c. simp (← c .before .before .byte-at .ensures, ← c .before .is-within .ensures, c .if1 .left)))

@@ -3,7 +3,7 @@
 use Rattle.jsontext.proofs.ValueComplete.{value-open}
 use borrow.Author.Needs.{needs}
 use borrow.Author.Tests.{eq-eqb, ne-eqb}
-use Rattle.jsontext.specs.Value.{colonAt, itemAt, memberAt, valueBy}
+use Rattle.jsontext.specs.Value.{skipColon, skipItem, skipMember, skipValueBy}
 use Prim.Native.Nat.{ℕ, _+_, _*_, _-_, _<_, _≤_}
 use mathlib.Core.Path.{refl}
 use native.Mathlib.Omega.{arith}
@@ -78,7 +78,7 @@ abbrev walk-μ-loop : walk-lts.MeasureT-loop
 walk-μ-loop s depth close at i₀ i = length s - i
 
 pub +item+member+skip-value+walk-spec : {M : Type 1} → statement M
-unfolding itemAt memberAt colonAt valueBy
+unfolding skipItem skipMember skipColon skipValueBy
 +item+member+skip-value+walk-spec = close μ-item μ-member μ-skip-value μ-walk (λ t. item-lts.spec (
   member-below t,
   member.Post,

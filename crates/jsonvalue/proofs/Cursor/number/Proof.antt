@@ -1,13 +1,13 @@
--- `Cursor::number` reads the parts of a number one after the other, as `numberAt` does.
+-- `Cursor::number` reads the parts of a number one after the other, as `skipNumber` does.
 -- By what each call promises.
-use Rattle.jsontext.specs.Token.{numberAt, numberFrom, unsignedFrom}
+use Rattle.jsontext.specs.Token.{skipNumber, numberFrom, unsignedFrom}
 use borrow.Author.Tests.{eq-eqb, ne-eqb}
 use borrow.Author.Needs.{needs}
 use Rattle.jsonvalue.proofs.Cursor.number.Statement.{statement}
 use Rattle.jsonvalue.proofs.Cursor.number.Tie as tie
 
 pub number-spec : {M : Type 1} → statement M
-unfolding numberAt unsignedFrom numberFrom
+unfolding skipNumber unsignedFrom numberFrom
 number-spec =
     tie.close
     (tie.spec

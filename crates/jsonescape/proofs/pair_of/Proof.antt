@@ -3,8 +3,8 @@
 use Rattle.jsontext.specs.Escape.{pairOf}
 use borrow.Author.Tests.{le-ltb, lt-ltb}
 use borrow.Author.Needs.{needs}
-use Rattle.jsonstring.proofs.pair_of.Statement.{statement}
-use Rattle.jsonstring.proofs.pair_of.Tie as tie
+use Rattle.jsonescape.proofs.pair_of.Statement.{statement}
+use Rattle.jsonescape.proofs.pair_of.Tie as tie
 
 pub pair-of-spec : {M : Type 1} → statement M
 unfolding pairOf

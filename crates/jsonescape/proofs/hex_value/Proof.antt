@@ -4,8 +4,8 @@ use borrow.Author.Needs.{needs}
 use native.Mathlib.Omega.{arith}
 use Rattle.hex.proofs.Turn.{low-enough}
 use Rattle.jsontext.specs.Escape.{hexValue}
-use Rattle.jsonstring.proofs.hex_value.Statement.{statement}
-use Rattle.jsonstring.proofs.hex_value.Tie as tie
+use Rattle.jsonescape.proofs.hex_value.Statement.{statement}
+use Rattle.jsonescape.proofs.hex_value.Tie as tie
 
 pub hex-value-spec : {M : Type 1} → statement M
 unfolding hexValue

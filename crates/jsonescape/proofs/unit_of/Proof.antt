@@ -3,8 +3,8 @@
 use Rattle.jsontext.specs.Escape.{unitOf}
 use borrow.Author.Tests.{le-ltb, lt-ltb}
 use borrow.Author.Needs.{needs}
-use Rattle.jsonstring.proofs.unit_of.Statement.{statement}
-use Rattle.jsonstring.proofs.unit_of.Tie as tie
+use Rattle.jsonescape.proofs.unit_of.Statement.{statement}
+use Rattle.jsonescape.proofs.unit_of.Tie as tie
 
 pub unit-of-spec : {M : Type 1} → statement M
 unfolding unitOf

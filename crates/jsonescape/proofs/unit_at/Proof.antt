@@ -3,8 +3,8 @@
 use Rattle.jsontext.specs.Escape.{unitAt}
 use borrow.Author.Tests.{eq-eqb, ne-eqb}
 use borrow.Author.Needs.{needs}
-use Rattle.jsonstring.proofs.unit_at.Statement.{statement}
-use Rattle.jsonstring.proofs.unit_at.Tie as tie
+use Rattle.jsonescape.proofs.unit_at.Statement.{statement}
+use Rattle.jsonescape.proofs.unit_at.Tie as tie
 
 pub unit-at-spec : {M : Type 1} → statement M
 unfolding unitAt

@@ -2,8 +2,8 @@
 -- By the tests alone.
 use Rattle.jsontext.specs.Escape.{unescapedLetter}
 use borrow.Author.Tests.{eq-eqb, ne-eqb}
-use Rattle.jsonstring.proofs.unescaped_letter.Statement.{statement}
-use Rattle.jsonstring.proofs.unescaped_letter.Tie as tie
+use Rattle.jsonescape.proofs.unescaped_letter.Statement.{statement}
+use Rattle.jsonescape.proofs.unescaped_letter.Tie as tie
 
 pub unescaped-letter-spec : {M : Type 1} → statement M
 unfolding unescapedLetter

@@ -3,8 +3,8 @@
 use Rattle.jsontext.specs.Escape.{unicodeAt}
 use borrow.Author.Tests.{le-ltb, lt-ltb}
 use borrow.Author.Needs.{needs}
-use Rattle.jsonstring.proofs.unicode_at.Statement.{statement}
-use Rattle.jsonstring.proofs.unicode_at.Tie as tie
+use Rattle.jsonescape.proofs.unicode_at.Statement.{statement}
+use Rattle.jsonescape.proofs.unicode_at.Tie as tie
 
 pub unicode-at-spec : {M : Type 1} → statement M
 unfolding unicodeAt

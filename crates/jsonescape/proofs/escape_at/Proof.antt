@@ -5,8 +5,8 @@ use Rattle.jsontext.specs.Escape.{escapeAt}
 use borrow.Author.Tests.{eq-eqb, ne-eqb}
 use borrow.Author.Needs.{needs}
 use Rattle.jsontext.proofs.EscapeLaws.{escape-none}
-use Rattle.jsonstring.proofs.escape_at.Statement.{statement}
-use Rattle.jsonstring.proofs.escape_at.Tie as tie
+use Rattle.jsonescape.proofs.escape_at.Statement.{statement}
+use Rattle.jsonescape.proofs.escape_at.Tie as tie
 
 pub escape-at-spec : {M : Type 1} → statement M
 unfolding escapeAt

@@ -2,8 +2,8 @@
 -- By the test alone.
 use Rattle.jsontext.specs.Escape.{letterEscape}
 use borrow.Author.Tests.{eq-eqb, ne-eqb}
-use Rattle.jsonstring.proofs.letter_escape.Statement.{statement}
-use Rattle.jsonstring.proofs.letter_escape.Tie as tie
+use Rattle.jsonescape.proofs.letter_escape.Statement.{statement}
+use Rattle.jsonescape.proofs.letter_escape.Tie as tie
 
 pub letter-escape-spec : {M : Type 1} → statement M
 unfolding letterEscape
