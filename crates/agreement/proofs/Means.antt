@@ -14,7 +14,7 @@ use Rattle.scan.specs.Compare.{sameBytes}
 use Rattle.event.specs.Event.{Text, Tag, Event, ValidTag, Valid}
 use Rattle.jsontext.specs.Grammar as json
 use Rattle.json.specs.Meaning.{idName, pubkeyName, sigName, createdAtName, kindName, tagsName, contentName, Values, IsText, is-text, IsHex, is-hex, IsNumber, is-number, Each, is-array, IsTag, once, Says, first, later, Shallow, no-member, known, ignored, IsEvent, is-event}
-use Rattle.nson.specs.Nson.{counts, field}
+use Rattle.nson.specs.Nson.{counts, nsonField}
 use Rattle.nson.specs.Carries.{Fits, Carries}
 use Rattle.jsontext.proofs.Compact.{hexes-chars, name-chars, items}
 use Rattle.agreement.proofs.Texts.{nson-chars}
@@ -74,7 +74,7 @@ shallow e =
     (known (name-chars pubkeyName refl) (later first)
     (known (name-chars sigName refl) (later (later first))
     (known (name-chars createdAtName refl) (later (later (later first)))
-    (ignored {v = json.string (field (counts e))} (omega arith)
+    (ignored {v = json.string (nsonField (counts e))} (omega arith)
     (known (name-chars kindName refl) (later (later (later (later first))))
     (known (name-chars contentName refl) (later (later (later (later (later (later first))))))
     (known (name-chars tagsName refl) (later (later (later (later (later first))))) no-member)))))))

@@ -14,7 +14,7 @@ use Rattle.varint.specs.Uleb.{uleb}
 use Rattle.varint.proofs.UlebLaws.{length-uleb}
 use Rattle.hex.specs.Hex.{unhex, goesAsBytes}
 use Rattle.hex.proofs.Texts.{length-unhex, length-hexes}
-use Rattle.decimal.specs.Decimal.{Digit, digit, behind, numberOf}
+use Rattle.decimal.specs.Decimal.{DecimalDigit, digit, behind, numberOf}
 use Rattle.event.specs.Event.{Text, Tag, Event, ValidTag}
 use Rattle.jsontext.specs.Grammar as json
 use Rattle.jsontext.proofs.Meaning.{chars-same}
@@ -36,7 +36,7 @@ quoted-shorter (json.quoted {l = l} g) = omega (arith, length-append l (0x22 ∷
 
 -- ---- a number is no longer than its digits
 
-digits-below : (k n : ℕ) {l : List ℕ} → All Digit l → n < 128 ^ k → behind n l < 128 ^ (k + length l)
+digits-below : (k n : ℕ) {l : List ℕ} → All DecimalDigit l → n < 128 ^ k → behind n l < 128 ^ (k + length l)
 digits-below k n span.none h = subst (λ (j : ℕ). n < 128 ^ j) (omega arith) h
 digits-below k n (span.also {b = b} {l = l} (digit p q) g) h =
     let m : n * 10 + (b - 48) < 128 ^ suc k = omega (arith, h, p, q, pow-succ' 128 k) in
@@ -44,7 +44,7 @@ digits-below k n (span.also {b = b} {l = l} (digit p q) g) h =
     let e : suc k + length l ≡ k + suc (length l) = omega arith in
     rw e at r
 
-number-shorter : {b : ℕ} {l : List ℕ} → All Digit (b ∷ l) → length (uleb (numberOf (b ∷ l))) ≤ suc (length l)
+number-shorter : {b : ℕ} {l : List ℕ} → All DecimalDigit (b ∷ l) → length (uleb (numberOf (b ∷ l))) ≤ suc (length l)
 number-shorter {b} {l} g =
     let e : 0 + length (b ∷ l) ≡ suc (length l) = omega arith in
     length-uleb (length l) (numberOf (b ∷ l)) (subst (λ (j : ℕ). numberOf (b ∷ l) < 128 ^ j) e (digits-below 0 0 g (omega arith)))

@@ -14,7 +14,7 @@ use Rattle.event.specs.Event.{Text, Tag, Event, ValidTag, Valid}
 use Rattle.jsontags.specs.TagText.{quoted, tagText, tagsText}
 use Rattle.jsontext.specs.Grammar as json
 use Rattle.json.specs.Meaning.{idName, pubkeyName, sigName, createdAtName, kindName, tagsName, contentName}
-use Rattle.nson.specs.Nson.{Counts, counts, word, words, tagCounts, descriptors, field, nson}
+use Rattle.nson.specs.Nson.{Counts, counts, word, words, tagCounts, descriptors, nsonField, nson}
 use Rattle.nson.specs.Carries.{Fits, Carries}
 use Rattle.nson.proofs.Counts.{Short, TagCounts, Holds}
 use Rattle.nson.proofs.Carrying.{descriptors-length, carried-holds}
@@ -49,8 +49,8 @@ field-bytes {e} c v =
     let few = c .few in
     also {b = 2 * length (descriptors (counts e))} (omega (arith, descriptors-length e)) (counts-bytes (carried-holds c v))
 
-pub field-chars : {e : Event} → Carries e → Valid e → json.Chars (field (counts e)) (field (counts e))
-unfolding field
+pub field-chars : {e : Event} → Carries e → Valid e → json.Chars (nsonField (counts e)) (nsonField (counts e))
+unfolding nsonField
 field-chars c v = hexes-chars (field-bytes c v)
 
 -- ---- the tags

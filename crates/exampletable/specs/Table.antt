@@ -10,7 +10,7 @@ use Rattle.varint.specs.Varint.{varintAt, shortestAt}
 use Rattle.hex.specs.Hex.{hexes}
 use Rattle.event.specs.Event.{Event}
 use Rattle.notepack.specs.Strict.{packElement}
-use Rattle.nson.specs.Nson.{counts, field, headText, bodyText, nson}
+use Rattle.nson.specs.Nson.{counts, nsonField, headText, bodyText, nson}
 use Rattle.nson.specs.Read.{readNson}
 
 -- the event of the examples of NSON
@@ -45,7 +45,7 @@ pub record CheckedExamples : Type 0 where
   pub example-10 : packElement (0x61 ∷ 0x62 ∷ 0x63 ∷ []) ≡ 0x06 ∷ 0x61 ∷ 0x62 ∷ 0x63 ∷ []
   pub example-11 : packElement [] ≡ 0x00 ∷ []
   -- NSON with zero id, pubkey and sig, created_at 1,000,000,000, kind 1, no tags and content a"b: the nson field, the length, and that it is read
-  pub example-12 : (field (counts event) ≡ hexes (0x08 ∷ 0x01 ∷ 0x00 ∷ 0x04 ∷ 0x00 ∷ [])) × (length (nson event) ≡ 366) × (readNson (nson event) ≡ shown event)
+  pub example-12 : (nsonField (counts event) ≡ hexes (0x08 ∷ 0x01 ∷ 0x00 ∷ 0x04 ∷ 0x00 ∷ [])) × (length (nson event) ≡ 366) × (readNson (nson event) ≡ shown event)
   -- the same text with another count of the content's bytes, in the place of 4
   pub example-13 : readNson (with 3) ≡ refused 13 353
   pub example-14 : readNson (with 2) ≡ refused 14 350

@@ -14,7 +14,7 @@ use Rattle.scan.specs.Span as span
 use Rattle.scan.proofs.SpanLaws.{cut, close-span}
 use Rattle.hex.specs.Hex.{hexes}
 use Rattle.hex.proofs.Texts.{length-hexes, hexes-digits, unhex-hexes, digits-pass}
-use Rattle.decimal.specs.Decimal.{Digit, digit, numberOf}
+use Rattle.decimal.specs.Decimal.{DecimalDigit, digit, numberOf}
 use Rattle.event.specs.Event.{Text, Tag, Bytes, ValidTag}
 use Rattle.jsontext.specs.Grammar as json
 use Rattle.jsontext.specs.Token.{spaceAt}
@@ -50,7 +50,7 @@ hex-accepts {n} {c = c} p (is-hex t) (json.is-string g) r = rw (quoted-accepts g
 
 -- ---- numbers
 
-pub digits-only : {l : List ℕ} → All Digit l → digitsOnly l ≡ true
+pub digits-only : {l : List ℕ} → All DecimalDigit l → digitsOnly l ≡ true
 unfolding digitsOnly place.within
 digits-only span.none = refl
 digits-only (span.also {b = b} (digit l h) r) = rw (le-leb 48 b l, le-leb b 57 h) (digits-only r)

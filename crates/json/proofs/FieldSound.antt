@@ -19,7 +19,7 @@ use Rattle.utf8.specs.Utf8.{Utf8}
 use Rattle.hex.specs.Hex.{hexes, unhex, allDigits}
 use Rattle.hex.proofs.Digits.{in-range}
 use Rattle.hex.proofs.Texts.{hexes-unhex, pass-digits, length-unhex, unhex-bytes}
-use Rattle.decimal.specs.Decimal.{Digit, digit, numberOf, isDigit}
+use Rattle.decimal.specs.Decimal.{DecimalDigit, digit, numberOf, isDigit}
 use Rattle.event.specs.Event.{Text, Tag, Bytes, ValidTag}
 use Rattle.jsontext.specs.declared.Spelled.{Spelled}
 use Rattle.jsontext.specs.Grammar as json
@@ -81,7 +81,7 @@ hex-says n s a = then-reads _ (text-consumes s a) (λ t q e g r. told g r)
 
 -- ---- numbers
 
-pub only-digits : (l : List ℕ) → digitsOnly l ≡ true → All Digit l
+pub only-digits : (l : List ℕ) → digitsOnly l ≡ true → All DecimalDigit l
 unfolding digitsOnly
 only-digits [] h = span.none
 only-digits (b ∷ l) h =

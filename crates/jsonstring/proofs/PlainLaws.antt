@@ -19,7 +19,7 @@ use Rattle.scan.proofs.Step.{rest-none, rest-more, pick-true, false-true}
 use Rattle.scan.proofs.AllLaws.{all-at}
 use Rattle.scan.proofs.Fits.{byte-positive}
 use Rattle.scan.proofs.BlockLaws.{not-one, not-control, block-none, stop-within, stop-byte, stop-at, stop-block}
-use Rattle.hex.specs.Hex.{Digit, number, letter, allDigits}
+use Rattle.hex.specs.Hex.{HexDigit, number, letter, allDigits}
 use Rattle.hex.proofs.Texts.{pass-digits}
 use Rattle.jsontext.specs.declared.Spelled.{Spelled}
 use Rattle.jsontext.specs.Escape.{unescape}
@@ -28,7 +28,7 @@ use Rattle.jsontext.proofs.Meaning.{unescape-itself}
 use Rattle.jsonstring.specs.declared.Cursor.{Cursor}
 use Rattle.jsonstring.specs.declared.TextRead.{TextRead}
 use Rattle.jsonstring.specs.declared.TextRead.the-variants as text-by
-use Rattle.jsonstring.specs.Plain.{isSpecial, specialOf, PlainTo, plainEnd, isShort, PlainText, plain}
+use Rattle.jsonstring.specs.Plain.{isSpecial, specialOf, PlainTo, plainEnd, isShortText, PlainText, plain}
 use Rattle.jsonstring.proofs.Turn.{InText, text-start, text-quote, text-ascii}
 
 -- ---- a byte
@@ -63,7 +63,7 @@ pub quote-special : isSpecial 0x22 ≡ true
 unfolding isSpecial
 quote-special = refl
 
-digit-plain : (b : ℕ) → Digit b → isSpecial b ≡ false
+digit-plain : (b : ℕ) → HexDigit b → isSpecial b ≡ false
 digit-plain b (number h l) = not-special b (omega arith) (λ z. omega arith) (λ z. omega arith) (omega arith)
 digit-plain b (letter h l) = not-special b (omega arith) (λ z. omega arith) (λ z. omega arith) (omega arith)
 
@@ -170,39 +170,39 @@ pub plain-own : (s : List ℕ) (a e : ℕ) → PlainTo s a e → unescape (take 
 plain-own s a e p = unescape-itself (run-all s (e - a) a (omega (arith, p .onward, p .inside)) (λ k l m. p .plain k l (omega (arith, p .onward))))
 
 -- digits are their own text
-all-slash : {t : List ℕ} → All Digit t → All (λ (b : ℕ). b ≡ 0x5C → ⊥) t
+all-slash : {t : List ℕ} → All HexDigit t → All (λ (b : ℕ). b ≡ 0x5C → ⊥) t
 all-slash none = none
 all-slash (also {b = b} h r) = also (bare-byte b (digit-plain b h) .no-slash) (all-slash r)
 
-pub digits-own : {t : List ℕ} → All Digit t → unescape t ≡ t
+pub digits-own : {t : List ℕ} → All HexDigit t → unescape t ≡ t
 digits-own d = unescape-itself (all-slash d)
 
 -- what `short_quote` tells
 module _ (s : List ℕ) (at : ℕ) {b : ℕ} (e : b ≡ getD s at 0) where
-  pub short-found : {n c : ℕ} → b ≡ 0x22 → n ≡ plainEnd s (at + 1) → c ≡ getD s n 0 → c ≡ 0x22 → n ≡ pick (isShort s at) (plainEnd s (at + 1)) 0
-  unfolding isShort
+  pub short-found : {n c : ℕ} → b ≡ 0x22 → n ≡ plainEnd s (at + 1) → c ≡ getD s n 0 → c ≡ 0x22 → n ≡ pick (isShortText s at) (plainEnd s (at + 1)) 0
+  unfolding isShortText
   short-found {n} {c} f g h k = g ∙ sym (rw (← e, eq-eqb b 0x22 f, ← g, ← h, eq-eqb c 0x22 k))
 
-  pub short-open : {n c : ℕ} → b ≡ 0x22 → n ≡ plainEnd s (at + 1) → c ≡ getD s n 0 → (c ≡ 0x22 → ⊥) → 0 ≡ pick (isShort s at) (plainEnd s (at + 1)) 0
-  unfolding isShort
+  pub short-open : {n c : ℕ} → b ≡ 0x22 → n ≡ plainEnd s (at + 1) → c ≡ getD s n 0 → (c ≡ 0x22 → ⊥) → 0 ≡ pick (isShortText s at) (plainEnd s (at + 1)) 0
+  unfolding isShortText
   short-open {n} {c} f g h k = sym (rw (← e, eq-eqb b 0x22 f, ← g, ← h, ne-eqb c 0x22 k))
 
-  pub short-none : (b ≡ 0x22 → ⊥) → 0 ≡ pick (isShort s at) (plainEnd s (at + 1)) 0
-  unfolding isShort
+  pub short-none : (b ≡ 0x22 → ⊥) → 0 ≡ pick (isShortText s at) (plainEnd s (at + 1)) 0
+  unfolding isShortText
   short-none f = sym (rw (← e, ne-eqb b 0x22 f))
 
 -- the quote is found: the string, whole
 pub record Short (s : List ℕ) (at e : ℕ) : Type 0 where
-  pub is : isShort s at ≡ true
+  pub is : isShortText s at ≡ true
   pub opened : getD s at 0 ≡ 0x22
   pub closed : getD s e 0 ≡ 0x22
   pub plain : PlainTo s (at + 1) e
 
-pub short-is : (s : List ℕ) (at : ℕ) {e : ℕ} → e ≡ pick (isShort s at) (plainEnd s (at + 1)) 0 → (e ≡ 0 → ⊥) → Short s at e
-unfolding isShort
-short-is s at {e} q n = go (isShort s at) refl q
+pub short-is : (s : List ℕ) (at : ℕ) {e : ℕ} → e ≡ pick (isShortText s at) (plainEnd s (at + 1)) 0 → (e ≡ 0 → ⊥) → Short s at e
+unfolding isShortText
+short-is s at {e} q n = go (isShortText s at) refl q
   where
-    go : (t : Bool) → isShort s at ≡ t → e ≡ pick t (plainEnd s (at + 1)) 0 → Short s at e
+    go : (t : Bool) → isShortText s at ≡ t → e ≡ pick t (plainEnd s (at + 1)) 0 → Short s at e
     go false i q = absurd (n q)
     go true i q =
         let x = pick-true (eqb (getD s at 0) 0x22) (eqb (getD s (plainEnd s (at + 1)) 0) 0x22) i in
@@ -210,11 +210,11 @@ short-is s at {e} q n = go (isShort s at) refl q
         let h = byte-positive s at (getD s at 0) 0x22 refl o (omega arith) in
         record { is = i; opened = o; closed = rw q (eqb-true _ 0x22 (x .1)); plain = rw q (plain-end-to s (at + 1) (omega arith)) }
 
-pub short-not : (s : List ℕ) (at : ℕ) {e : ℕ} → e ≡ pick (isShort s at) (plainEnd s (at + 1)) 0 → e ≡ 0 → isShort s at ≡ false
+pub short-not : (s : List ℕ) (at : ℕ) {e : ℕ} → e ≡ pick (isShortText s at) (plainEnd s (at + 1)) 0 → e ≡ 0 → isShortText s at ≡ false
 unfolding plainEnd
-short-not s at q z = go (isShort s at) refl (sym z ∙ q)
+short-not s at q z = go (isShortText s at) refl (sym z ∙ q)
   where
-    go : (t : Bool) → isShort s at ≡ t → 0 ≡ pick t (plainEnd s (at + 1)) 0 → isShort s at ≡ false
+    go : (t : Bool) → isShortText s at ≡ t → 0 ≡ pick t (plainEnd s (at + 1)) 0 → isShortText s at ≡ false
     go true i q = absurd (omega arith)
     go false i q = i
 

@@ -32,12 +32,12 @@ unfoldable pub plainEnd : List ℕ → ℕ → ℕ
 plainEnd s at = at + min 80 (beforeStop isSpecial (drop at s))
 
 -- whether a string at a place is at most 80 plain bytes
-unfoldable pub isShort : List ℕ → ℕ → Bool
-isShort s at = pick (eqb (byteAt s at) 0x22) (eqb (byteAt s (plainEnd s (at + 1))) 0x22) false
+unfoldable pub isShortText : List ℕ → ℕ → Bool
+isShortText s at = pick (eqb (byteAt s at) 0x22) (eqb (byteAt s (plainEnd s (at + 1))) 0x22) false
 
 -- exactly those strings are told to be plain, and each is its own text
 pub data PlainText (s : List ℕ) (at : ℕ) : TextRead → Type 0 where
-  plain : {p : Spelled} {c : _} → isShort s at ≡ true → unescape (take (p .count) (drop (p .from) s)) ≡ take (p .count) (drop (p .from) s)
+  plain : {p : Spelled} {c : _} → isShortText s at ≡ true → unescape (take (p .count) (drop (p .from) s)) ≡ take (p .count) (drop (p .from) s)
       → PlainText s at (text-by.Plain p c)
-  other : {p : Spelled} {c : _} → isShort s at ≡ false → PlainText s at (text-by.Other p c)
-  refused : {r : _} → isShort s at ≡ false → PlainText s at (text-by.Refused r)
+  other : {p : Spelled} {c : _} → isShortText s at ≡ false → PlainText s at (text-by.Other p c)
+  refused : {r : _} → isShortText s at ≡ false → PlainText s at (text-by.Refused r)

@@ -8,7 +8,7 @@ ghost use Rattle.scan.specs.Choice.{pick, refused};
 ghost use Rattle.scan.specs.Place.{byteAt};
 ghost use Rattle.scan.specs.Blocks.{sumOf, neighbours, beforeStop};
 ghost use Rattle.jsontext.specs.Text.{stringAt};
-ghost use Rattle.jsonstring.specs.Plain.{specialOf, PlainTo, isSpecial, plainEnd, isShort, PlainText};
+ghost use Rattle.jsonstring.specs.Plain.{specialOf, PlainTo, isSpecial, plainEnd, isShortText, PlainText};
 ghost use Rattle.jsonstring.specs.Loose.{LooseTo, clashOf};
 ghost use Rattle.jsonstring.specs.Answers.{stringRead, textRead};
 
@@ -319,7 +319,7 @@ fn plain_end(s: &[u8], at: usize) -> usize
 
 // The place of the quote that closes a short plain string at a place; 0 where none stands there.
 fn short_quote(s: &[u8], at: usize) -> usize
-    ensures { λ r. ⌜ r ≡ pick (isShort (now (s .entry)) at) (plainEnd (now (s .entry)) (at + 1)) 0 ⌝ }
+    ensures { λ r. ⌜ r ≡ pick (isShortText (now (s .entry)) at) (plainEnd (now (s .entry)) (at + 1)) 0 ⌝ }
 {
     if scan::byte_at(s, at) == 0x22 {
         let end = plain_end(s, at + 1);

@@ -16,7 +16,7 @@ use Rattle.utf8.specs.Utf8 as utf8
 use Rattle.hex.specs.Hex as hex
 use Rattle.hex.proofs.Digits.{in-range}
 use Rattle.hex.proofs.Texts.{hexes-digits}
-use Rattle.decimal.specs.Decimal.{Digit, digit, decimal}
+use Rattle.decimal.specs.Decimal.{DecimalDigit, digit, decimal}
 use Rattle.decimal.proofs.Spelling.{decimal-last, length-some, decimal-digits, decimal-first}
 use Rattle.jsontext.specs.Grammar as json
 
@@ -82,12 +82,12 @@ arrayOf l = json.array (items l)
 one-char : {b : ℕ} {l : List ℕ} → json.Unescaped (b ∷ []) → json.Chars l l → json.Chars (b ∷ l) (b ∷ l)
 one-char {b} g r = json.char {c = b ∷ []} {t = b ∷ []} (json.unescaped g) r
 
-hex-char : {b : ℕ} → hex.Digit b → json.Unescaped (b ∷ [])
+hex-char : {b : ℕ} → hex.HexDigit b → json.Unescaped (b ∷ [])
 hex-char {b} (hex.number l h) = json.to-5B (utf8.octet {b = b} (omega arith) (omega arith))
 hex-char {b} (hex.letter l h) = json.to-7F (utf8.octet {b = b} (omega arith) (omega arith))
 
 -- hex digits
-pub digits-chars : {l : List ℕ} → All hex.Digit l → json.Chars l l
+pub digits-chars : {l : List ℕ} → All hex.HexDigit l → json.Chars l l
 digits-chars none = json.no-char
 digits-chars (also p r) = one-char (hex-char p) (digits-chars r)
 
@@ -108,7 +108,7 @@ name-chars (b ∷ l) h =
 
 -- ---- numbers
 
-int-of : {l : List ℕ} → All Digit l → 0 < length l → (getD l 0 0 ≡ 0x30 → l ≡ 0x30 ∷ []) → json.Int l
+int-of : {l : List ℕ} → All DecimalDigit l → 0 < length l → (getD l 0 0 ≡ 0x30 → l ≡ 0x30 ∷ []) → json.Int l
 int-of none h z = absurd (omega arith)
 int-of (also {b = b} (digit p q) r) h z =
     dite (ℕ-discrete b 0x30) (λ e. rw (z e) json.zero) (λ n. json.digit1-9 {b = b} (omega (arith, n)) q r)

@@ -18,7 +18,7 @@ use Rattle.scan.proofs.Reading.{Reads, reads, fails, pick-reads}
 use Rattle.hex.proofs.Digits.{in-range}
 use Rattle.jsontext.specs.Grammar as json
 use Rattle.jsontext.specs.Token.{Done, done, past, isSpace, spaceAt, wordAt, digitsOr, minusAt, signAt, intAt, fracAt, isE, expAt, numberFrom, unsignedFrom, skipNumber}
-use Rattle.decimal.specs.Decimal.{Digit, digit, isDigit}
+use Rattle.decimal.specs.Decimal.{DecimalDigit, digit, isDigit}
 
 -- a piece of G stands from a to e
 pub data Ends (G : List ℕ → Type 0) (s : List ℕ) (a : ℕ) : ℕ → Type 0 where
@@ -87,10 +87,10 @@ word-accepts {w} {s} {a} {c} r = rw (span-stands r, ← span-length r)
 
 -- ---- digits
 
-to-digit : (b : ℕ) → isDigit b ≡ true → Digit b
+to-digit : (b : ℕ) → isDigit b ≡ true → DecimalDigit b
 to-digit b t = let r = in-range 0x30 0x39 b t in digit (r .0) (r .1)
 
-of-digit : (b : ℕ) → Digit b → isDigit b ≡ true
+of-digit : (b : ℕ) → DecimalDigit b → isDigit b ≡ true
 unfolding within
 of-digit b (digit l h) = simp (le-leb 0x30 b l, le-leb b 0x39 h)
 
@@ -99,7 +99,7 @@ unfolding within
 digits-consume s a t =
     let h = seen isDigit s a refl t in
     let e = run-again isDigit s a a true refl h (sym t) refl in
-    let r = run-span isDigit Digit to-digit s (a + 1) in
+    let r = run-span isDigit DecimalDigit to-digit s (a + 1) in
     rw e (ends {e = runAt isDigit s (a + 1)} (json.digits (to-digit (getD s a 0) t) (r .1)) (step h refl (r .2)))
 
 digits-accept : {s l : List ℕ} {a c : ℕ} (other : ℕ) → json.SomeDigits l → Span s a l c → isDigit (getD s c 0) ≡ false
@@ -107,7 +107,7 @@ digits-accept : {s l : List ℕ} {a c : ℕ} (other : ℕ) → json.SomeDigits l
 unfolding digitsOr
 digits-accept {s} {a = a} other (json.digits {b = b} g m) (step h e r) n =
     let t : within 0x30 0x39 (getD s a 0) ≡ true = rw e (of-digit b g) in
-    (rw t (span-run isDigit Digit of-digit s (also g m) (step h e r) (λ k. n)), t)
+    (rw t (span-run isDigit DecimalDigit of-digit s (also g m) (step h e r) (λ k. n)), t)
 
 -- a digit is none of the marks
 digit-range : (b : ℕ) → isDigit b ≡ true → (0x30 ≤ b) × (b ≤ 0x39)

@@ -4,7 +4,7 @@ use mathlib.Core.List.{List, [], _∷_, _++_}
 use Rattle.scan.specs.Span.{All}
 use Rattle.utf8.specs.Utf8 as utf8
 use Rattle.utf8.specs.Encode.{Scalar, encode}
-use Rattle.decimal.specs.Decimal.{Digit}
+use Rattle.decimal.specs.Decimal.{DecimalDigit}
 
 -- ---- section 2: white space, and structural characters with the white space around them
 
@@ -26,7 +26,7 @@ pub data Separator (b : ℕ) : List ℕ → Type 0 where
 
 -- 1*DIGIT; DIGIT is decimal's
 pub data SomeDigits : List ℕ → Type 0 where
-  digits : {b : ℕ} {l : List ℕ} → Digit b → All Digit l → SomeDigits (b ∷ l)
+  digits : {b : ℕ} {l : List ℕ} → DecimalDigit b → All DecimalDigit l → SomeDigits (b ∷ l)
 
 -- [ minus ]
 pub data Minus : List ℕ → Type 0 where
@@ -36,7 +36,7 @@ pub data Minus : List ℕ → Type 0 where
 -- int = zero / ( digit1-9 *DIGIT )
 pub data Int : List ℕ → Type 0 where
   zero : Int (0x30 ∷ [])
-  digit1-9 : {b : ℕ} {l : List ℕ} → 0x31 ≤ b → b ≤ 0x39 → All Digit l → Int (b ∷ l)
+  digit1-9 : {b : ℕ} {l : List ℕ} → 0x31 ≤ b → b ≤ 0x39 → All DecimalDigit l → Int (b ∷ l)
 
 -- [ frac ], frac = decimal-point 1*DIGIT
 pub data Frac : List ℕ → Type 0 where

@@ -100,7 +100,7 @@ pub enum Walk {
 
 impl Cursor {
     // n bytes. A length beyond the rest is refused at the place of that length.
-    pub fn payload(self, s: &[u8], place: usize, raw: bool, n: u64) -> PartRead
+    fn payload(self, s: &[u8], place: usize, raw: bool, n: u64) -> PartRead
         ensures { λ r. ⌜ partRead r ≡ payloadAt place raw n (now (s .entry)) (self .at) ⌝ }
     {
         let at = self.at;
@@ -183,7 +183,7 @@ impl Cursor {
     }
 
     // The number of elements of a tag.
-    pub fn tag_count(self, s: &[u8]) -> NumberRead
+    fn tag_count(self, s: &[u8]) -> NumberRead
         ensures { λ r. ⌜ numberRead r ≡ tagCountAt (now (s .entry)) (self .at) ⌝ }
     {
         let at = self.at;

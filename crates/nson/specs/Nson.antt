@@ -83,12 +83,12 @@ pub record Counts : Type 0 where
   pub tags : List (List ℕ)
 
 -- the escaped bytes between the quotes
-unfoldable pub bytesIn : Text → ℕ
-bytesIn t = length (escaped nsonByte t)
+unfoldable pub escapedSize : Text → ℕ
+escapedSize t = length (escaped nsonByte t)
 
 -- an event's counts
 unfoldable pub counts : Event → Counts
-counts e = record { kind = length (decimal (e .kind)); content = bytesIn (e .content); tags = map (map bytesIn) (e .tags) }
+counts e = record { kind = length (decimal (e .kind)); content = escapedSize (e .content); tags = map (map escapedSize) (e .tags) }
 
 -- a count of two bytes, the upper one first
 abbrev pub word : ℕ → List ℕ
@@ -109,8 +109,8 @@ abbrev pub descriptors : Counts → List ℕ
 descriptors c = c .kind ∷ (word (c .content) ++ (length (c .tags) ∷ tagCounts (c .tags)))
 
 -- the nson field: the size, which counts the hex characters behind it, and the descriptors
-unfoldable pub field : Counts → List ℕ
-field c = hexes (2 * length (descriptors c) ∷ descriptors c)
+unfoldable pub nsonField : Counts → List ℕ
+nsonField c = hexes (2 * length (descriptors c) ∷ descriptors c)
 
 -- ---- the whole
 
@@ -139,4 +139,4 @@ bodyText e =
     ++ endLabel
 
 unfoldable pub nson : Event → List ℕ
-nson e = headText e ++ field (counts e) ++ bodyText e
+nson e = headText e ++ nsonField (counts e) ++ bodyText e

@@ -190,8 +190,8 @@ bodyAt n s at =
 -- ---- the whole
 
 -- id, pubkey and sig have their places
-unfoldable pub eventOf : List ℕ → ℕ → Body → Event
-eventOf s time b =
+unfoldable pub eventRead : List ℕ → ℕ → Body → Event
+eventRead s time b =
     record {
       id = unhex (partAt 64 s idPlace);
       pubkey = unhex (partAt 64 s pubkeyPlace);
@@ -207,7 +207,7 @@ eventAt s =
     andThen (headAt s) λ h.
     andThen (countsAt s) λ n.
     andThen (bodyAt (n .value) s (n .next)) λ b.
-    read (eventOf s (h .value) (b .value)) (b .next)
+    read (eventRead s (h .value) (b .value)) (b .next)
 
 -- the event that a text shows, or the refusal: 1 first of all, and 10 for a byte after the end
 unfoldable pub readNson : List ℕ → Answer Event

@@ -14,7 +14,7 @@ use Rattle.scan.specs.Choice.{pick, refused, read}
 use Rattle.scan.specs.Span.{Span, All}
 use Rattle.scan.proofs.Step.{pick-true, false-true}
 use Rattle.scan.proofs.SpanLaws.{whole-span, input-span, span-length, span-fits}
-use Rattle.decimal.specs.Decimal.{Digit, Digits, number, over, decimal, numberOf, digitsAt}
+use Rattle.decimal.specs.Decimal.{DecimalDigit, Digits, number, over, decimal, numberOf, digitsAt}
 use Rattle.decimal.proofs.Spelling.{decimal-first, decimal-last, decimal-unique, decimal-digits, length-some, ten-length}
 use Rattle.decimal.proofs.Reading.{accepts-number, accepts-over, consumes-number, consumes-over}
 use Rattle.scan.specs.Compare.{sameBytes}
@@ -80,7 +80,7 @@ spelled-width max n l {c} e t = let s = spelled max n l t in rw (eq-eqb c n (sym
 
 -- digits from the start of a list up to a place
 record Run (l d : List ℕ) (c : ℕ) : Type 0 where
-  all : All Digit d
+  all : All DecimalDigit d
   some : 0 < length d
   span : Span l 0 d c
 
@@ -89,7 +89,7 @@ record Says (n : ℕ) (l d : List ℕ) : Type 0 where
   same : l ≡ d
   spelling : isDecimal n l ≡ true
 
-digits-spelled : (l : List ℕ) → All Digit l → 0 < length l → (getD l 0 0 ≡ 48 → length l ≡ 1) → decimal (numberOf l) ≡ l
+digits-spelled : (l : List ℕ) → All DecimalDigit l → 0 < length l → (getD l 0 0 ≡ 48 → length l ≡ 1) → decimal (numberOf l) ≡ l
 digits-spelled [] d h k = absurd (omega arith)
 digits-spelled (b ∷ []) d h k = decimal-unique b [] d (λ e. refl)
 digits-spelled (b ∷ c ∷ l) d h k = decimal-unique b (c ∷ l) d (λ e. absurd (omega (arith, k e)))
@@ -102,7 +102,7 @@ width-spelled n l {d} {c} m r t =
     let w : length l ≡ n = omega (arith, span-length (r .span), span-fits (r .span)) in
     let g : Span l 0 d (length l) = rw (w ∙ sym k) (r .span) in
     let q : l ≡ d = whole-span g in
-    let all : All Digit l = rw q (r .all) in
+    let all : All DecimalDigit l = rw q (r .all) in
     let o = ap length q in
     let x = digits-spelled l all (omega (arith, r .some)) (λ z. w ∙ one (p .1) z) in
     record { whole = w; same = q; spelling = rw (eq-eqb (length l) n w, x) (same-same l) }

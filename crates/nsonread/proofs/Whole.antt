@@ -33,8 +33,8 @@ pub record Shows (s : List ℕ) (w : NsonWalked) : Type 0 where
   pub text : strictOf s w ≡ pack event
 
 module _ (s : List ℕ) (time : ℕ) (n : Read Counts) (b : nson.Body) (h : Head s time) (p : Placed s (n .value)) (d : Stands (n .value) s (n .next) b) where
-  pub text-is : strictOf s (walkedOf s time n b) ≡ pack (nson.eventOf s time b)
-  unfolding strictOf nsonFrontText pack nson.eventOf
+  pub text-is : strictOf s (walkedOf s time n b) ≡ pack (nson.eventRead s time b)
+  unfolding strictOf nsonFrontText pack nson.eventRead
   text-is =
       let l = n .value .tags in
       let m : l ≡ tagSizes (length l) s tagCountsPlace = ap (λ (c : Counts). c .tags) (p .same) in
@@ -76,7 +76,7 @@ pub walk-refuses : (s : List ℕ) {n p : ℕ} → nsonWalkAt s ≡ refused n p �
 walk-refuses s e = alike-refused (walk-alike s) e
 
 event-shown : (s : List ℕ) (h : Read ℕ) (n : Read Counts) (y : Read nson.Body) → leb (length s) 65_536 ≡ true → nson.headAt s ≡ shown h → nson.countsAt s ≡ shown n
-    → nson.bodyAt (n .value) s (n .next) ≡ shown y → eqb (y .next) (length s) ≡ true → nson.readNson s ≡ shown (nson.eventOf s (h .value) (y .value))
+    → nson.bodyAt (n .value) s (n .next) ≡ shown y → eqb (y .next) (length s) ≡ true → nson.readNson s ≡ shown (nson.eventRead s (h .value) (y .value))
 unfolding nson.readNson nson.eventAt
 event-shown s h n y l a b c k = rw (l, a, b, c, k) refl
 
@@ -94,7 +94,7 @@ walk-shows s w e =
     let f : walkedOf s (h .value) n (y .value) ≡ w = shown-same (k .1) in
     let r = event-shown s h n y (l .0) a b c (k .0) in
     let g : Shows s (walkedOf s (h .value) n (y .value)) =
-    record { event = nson.eventOf s (h .value) (y .value); shows = r; len = refl; text = text-is s (h .value) n (y .value) (head-shown s h a) (counts-placed s n b) (body-stands (n .value) s (n .next) y c) } in
+    record { event = nson.eventRead s (h .value) (y .value); shows = r; len = refl; text = text-is s (h .value) n (y .value) (head-shown s h a) (counts-placed s n b) (body-stands (n .value) s (n .next) y c) } in
     rw f at g)))
 
 -- ---- the entry

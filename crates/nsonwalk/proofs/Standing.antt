@@ -130,11 +130,11 @@ module _ (s : List ℕ) (time : ℕ) (n : Read Counts) (b : nson.Body) (h : Head
 
   -- the length by what was measured is that of the strict form
   pub kept-is : kept time (sizesOf (n .value)) (n .next) (bodySize b) ≡ walkedOf s time n b
-  unfolding nson.eventOf
+  unfolding nson.eventRead
   kept-is =
       let i = h .id .count in
       let k = h .pubkey .count in
       let g = h .sig .count in
       let v = ap (λ (m : ℕ). length (uleb m)) tag-count in
-      let e = pack-length (nson.eventOf s time b) in
+      let e = pack-length (nson.eventRead s time b) in
       ap (walked s time n b) (omega arith)

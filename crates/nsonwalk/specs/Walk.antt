@@ -7,7 +7,7 @@ use Rattle.scan.specs.Choice.{pick, Answer, shown, refused, Read, read, andThen
 use Rattle.varint.specs.Uleb.{uleb}
 use Rattle.notepack.specs.Strict.{packTags, pack}
 use Rattle.nson.specs.Nson.{aroundKind, beforeTags, Counts}
-use Rattle.nson.specs.Read.{Body, headAt, countsAt, bodyAt, eventOf}
+use Rattle.nson.specs.Read.{Body, headAt, countsAt, bodyAt, eventRead}
 use Rattle.nsoncounts.specs.declared.Sizes.{Sizes}
 use Rattle.nsoncounts.specs.Counted.{sizesOf}
 use Rattle.nsonwalk.specs.declared.BodySizes.{BodySizes}
@@ -59,7 +59,7 @@ walkedOf s time n b = record {
   sizes = sizesOf (n .value);
   «body_at» = n .next;
   «content_len» = length (b .content);
-  len = length (pack (eventOf s time b));
+  len = length (pack (eventRead s time b));
 }
 
 -- where the content stands, and where the first tag

@@ -16,7 +16,7 @@ use Rattle.notepack.specs.Unpack.{textOf}
 use Rattle.notepack.specs.Again.{tagsAgain, eventAgain}
 use Rattle.notepack.proofs.Again.{tags-count}
 use Rattle.jsontags.specs.TagText.{commaed, tagText}
-use Rattle.nson.specs.Nson.{bytesIn}
+use Rattle.nson.specs.Nson.{escapedSize}
 use Rattle.nson.specs.Carries.{fits, allFit, tagsFit}
 use Rattle.nsonwrite.specs.Measure.{cutWord, cutWords, cutCounts, cutDescriptors, textsFit, textsLength}
 
@@ -28,7 +28,7 @@ and-pick false b = refl
 
 -- the code's test of a text
 pub text-fit : (t : Text) {n : ℕ} {b : Bool} → n ≡ length (escaped nsonByte t) → b ≡ pick (nsonText t) (leb n 65_535) false → b ≡ fits t
-unfolding fits bytesIn
+unfolding fits escapedSize
 text-fit t e k = k ∙ rw e
 
 pub all-fit-more : (a : Bool) {l m : List Text} {t : Text} {b : Bool} → l ≡ t ∷ m → b ≡ fits t → a && allFit l ≡ (a && b) && allFit m
@@ -55,7 +55,7 @@ tags-fit-none false e = refl
 
 -- a text whose escaped length is n
 pub words-more : {l m : List Text} {t : Text} {n : ℕ} → l ≡ t ∷ m → n ≡ length (escaped nsonByte t) → cutWords l ≡ cutWord n ++ cutWords m
-unfolding cutWords bytesIn
+unfolding cutWords escapedSize
 words-more e k = rw (e, k)
 
 pub words-none : {l : List Text} → l ≡ [] → cutWords l ≡ []
@@ -80,11 +80,11 @@ module _ (s : List ℕ) (h : Head) where
 
   pub texts-length : {n m : ℕ} → n ≡ length (escaped nsonByte (textOf s (h .content))) → m ≡ length (commaed (map (tagText nsonByte) (tagsAgain (h .«tag_count») s (h .«tags_at»))))
       → n + m ≡ textsLength (eventAgain s h)
-  unfolding textsLength bytesIn eventAgain
+  unfolding textsLength escapedSize eventAgain
   texts-length e f = rw (e, f)
 
   -- the descriptors as they are written
   pub counts-wrote : {d d′ : List ℕ} {k n r : ℕ} → k ≡ length (decimal (h .kind)) → n ≡ length (escaped nsonByte (textOf s (h .content)))
       → Wrote d 0 ((k ∷ []) ++ cutWord n ++ (h .«tag_count» % 256 ∷ []) ++ cutCounts (tagsAgain (h .«tag_count») s (h .«tags_at»))) d′ r → Wrote d 0 (cutDescriptors (eventAgain s h)) d′ r
-  unfolding cutDescriptors bytesIn eventAgain
+  unfolding cutDescriptors escapedSize eventAgain
   counts-wrote e f w = rw (tags-count s (h .«tag_count») (h .«tags_at»), ← e, ← f) w

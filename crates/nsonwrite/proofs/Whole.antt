@@ -16,7 +16,7 @@ use Rattle.decimal.specs.Decimal.{decimal}
 use Rattle.escape.specs.Escape.{nsonByte, escaped}
 use Rattle.event.specs.Event.{Event, Valid}
 use Rattle.jsontags.specs.TagText.{commaed, tagText, tagsText}
-use Rattle.nson.specs.Nson.{idLabel, pubkeyLabel, sigLabel, timeLabel, nsonLabel, kindLabel, contentLabel, tagsLabel, endLabel, bytesIn, counts, descriptors, field, headText, bodyText, nson}
+use Rattle.nson.specs.Nson.{idLabel, pubkeyLabel, sigLabel, timeLabel, nsonLabel, kindLabel, contentLabel, tagsLabel, endLabel, escapedSize, counts, descriptors, nsonField, headText, bodyText, nson}
 use Rattle.nson.specs.Carries.{tagBytes, fits, tagsFit, carries}
 use Rattle.nsonwrite.specs.Measure.{textsFit, textsLength, lengthWith, measuredFit, fieldWith, nsonWith}
 use Rattle.nsonwrite.proofs.Counts.{descriptors-length}
@@ -49,14 +49,14 @@ module _ (e : Event) where
 
   -- with the event's own descriptors it is the event's NSON
   pub nson-with : (d : List ℕ) → d ≡ descriptors (counts e) → length d ≤ 127 → nsonWith d e ≡ nson e
-  unfolding nsonWith fieldWith nson field
+  unfolding nsonWith fieldWith nson nsonField
   nson-with d k few =
       let z : 2 * length d % 256 ≡ 2 * length d = omega arith in
       rw (z, k)
 
   -- as long as was measured
   pub nson-length : Valid e → length (nson e) ≡ lengthWith (4 + tagBytes (e .tags)) e
-  unfolding nson headText field bodyText tagsText lengthWith textsLength bytesIn
+  unfolding nson headText nsonField bodyText tagsText lengthWith textsLength escapedSize
   nson-length v =
       let n = descriptors-length e in
       pieces (e .id) (e .pubkey) (e .sig) (decimal (e .createdAt)) (2 * length (descriptors (counts e))) (descriptors (counts e)) (decimal (e .kind)) (escaped nsonByte (e .content)) (commaed (map (tagText nsonByte) (e .tags)))

@@ -11,7 +11,7 @@ use Rattle.decimal.specs.Decimal.{decimal}
 use Rattle.escape.specs.Escape.{nsonByte}
 use Rattle.event.specs.Event.{Text, Tag, Event}
 use Rattle.jsontags.specs.TagText.{commaed, tagText}
-use Rattle.nson.specs.Nson.{bytesIn, headText, bodyText}
+use Rattle.nson.specs.Nson.{escapedSize, headText, bodyText}
 use Rattle.nson.specs.Carries.{fits, tagsFit}
 
 -- ---- the descriptors, each count cut to its bytes
@@ -22,14 +22,14 @@ cutWord n = n / 256 % 256 ∷ n % 256 ∷ []
 
 unfoldable pub cutWords : List Text → List ℕ
 cutWords [] = []
-cutWords (t ∷ l) = cutWord (bytesIn t) ++ cutWords l
+cutWords (t ∷ l) = cutWord (escapedSize t) ++ cutWords l
 
 unfoldable pub cutCounts : List Tag → List ℕ
 cutCounts [] = []
 cutCounts (t ∷ l) = (length t % 256 ∷ []) ++ (cutWords t ++ cutCounts l)
 
 unfoldable pub cutDescriptors : Event → List ℕ
-cutDescriptors e = (length (decimal (e .kind)) ∷ []) ++ cutWord (bytesIn (e .content)) ++ (length (e .tags) % 256 ∷ []) ++ cutCounts (e .tags)
+cutDescriptors e = (length (decimal (e .kind)) ∷ []) ++ cutWord (escapedSize (e .content)) ++ (length (e .tags) % 256 ∷ []) ++ cutCounts (e .tags)
 
 -- ---- what is asked
 
@@ -39,7 +39,7 @@ textsFit e = pick (fits (e .content)) (tagsFit (e .tags)) false
 
 -- the length of the content and the tags
 unfoldable pub textsLength : Event → ℕ
-textsLength e = bytesIn (e .content) + length (commaed (map (tagText nsonByte) (e .tags)))
+textsLength e = escapedSize (e .content) + length (commaed (map (tagText nsonByte) (e .tags)))
 
 -- the length of the whole with n bytes of descriptors
 unfoldable pub lengthWith : ℕ → Event → ℕ

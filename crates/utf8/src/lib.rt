@@ -7,7 +7,7 @@ ghost use lib.Dec.{ltb};
 ghost use Rattle.scan.specs.Place.{within};
 ghost use Rattle.buffer.specs.Store.{Wrote};
 ghost use Rattle.utf8.specs.Width.{secondLow, secondHigh, twoOf, threeOf, fourOf, widthOf, widthAt, isUtf8};
-ghost use Rattle.utf8.specs.Block.{highest, Walked};
+ghost use Rattle.utf8.specs.Block.{highest, PassedTo};
 ghost use Rattle.utf8.specs.Misfit.{misfit, misfits, misfitsFrom};
 ghost use Rattle.utf8.specs.Encode.{tailOf, encode};
 
@@ -215,7 +215,7 @@ fn by_windows(s: &[u8]) -> bool
 // Passes sequence after sequence until at or past the place e, or until none stands.
 fn pass_sequences(s: &[u8], at: usize, e: usize) -> usize
     requires { ⌜ at ≤ length (now s) ⌝ }
-    ensures { λ r. ⌜ Walked (now (s .entry)) at e r ⌝ }
+    ensures { λ r. ⌜ PassedTo (now (s .entry)) at e r ⌝ }
 {
     let mut i = at;
     while i < e {
