@@ -1,7 +1,7 @@
 -- The NSON reader accepts no string whose nson field holds a count that lies.
 -- An accepted string is the writer's own text, so its tree is the event's; the field says one size and one set of counts, the event's.
 use Prim.Native.Nat.{ℕ, _+_, _*_}
-use mathlib.Core.Path.{_≡_, refl, sym, _∙_, subst}
+use mathlib.Core.Path.{_≡_, refl, sym, subst}
 use mathlib.Core.List.{List, [], _∷_, map}
 use native.Mathlib.Omega.{arith}
 use lib.ListN.{length}
@@ -21,7 +21,7 @@ use Rattle.nson.specs.Read.{readNson}
 use Rattle.nson.proofs.Sound.{accepted, field-true, size-true}
 use Rattle.agreement.specs.Counted.{nsonName, StringOf, string-of, number-of, TrueCounts, FieldHolds}
 use Rattle.agreement.specs.Demand3.{NoLie, CountsFollowed}
-use Rattle.agreement.proofs.Spelled.{items}
+use Rattle.jsontext.proofs.Compact.{items}
 use Rattle.agreement.proofs.Tree.{textTree, tagTree, members, tree}
 use Rattle.agreement.proofs.Naming.{plain-values}
 use Rattle.agreement.proofs.Written.{field-chars, tree-text}
@@ -83,7 +83,7 @@ holds-one {e} {size} {c} k v (once {v = w} q g) =
 
 -- ---- the sentences
 
-own-text : {s : List ℕ} {e : Event} → readNson s ≡ shown e → json.Text (tree e) s
+own-text : {s : List ℕ} {e : Event} → readNson s ≡ shown e → json.JsonText (tree e) s
 own-text r = let a = accepted r in rw (a .text) (tree-text (a .carries) (a .valid))
 
 pub no-lie : NoLie

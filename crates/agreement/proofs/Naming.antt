@@ -9,7 +9,7 @@ use Rattle.event.specs.Event.{Text}
 use Rattle.scan.proofs.CompareLaws.{same-same, bytes-same}
 use Rattle.jsontext.specs.Grammar as json
 use Rattle.json.specs.Meaning.{Values, no-value, named, other}
-use Rattle.agreement.proofs.Texts.{letters, name-chars}
+use Rattle.jsontext.proofs.Compact.{letters, name-chars}
 
 -- whether every name is of letters alone
 abbrev pub plainNames : json.Members → Bool

@@ -12,7 +12,7 @@ use Rattle.jsontext.specs.Grammar as json
 use Rattle.json.specs.Meaning.{idName, pubkeyName, sigName, createdAtName, kindName, tagsName, contentName}
 use Rattle.nson.specs.Nson.{idLabel, pubkeyLabel, sigLabel, timeLabel, nsonLabel, kindLabel, contentLabel, tagsLabel, endLabel, counts, field, headText, bodyText, nson}
 use Rattle.agreement.specs.Counted.{nsonName}
-use Rattle.agreement.proofs.Spelled.{string, member, comma, braces, arrayOf}
+use Rattle.jsontext.proofs.Compact.{string, member, comma, braces, arrayOf}
 
 -- ---- the tree
 

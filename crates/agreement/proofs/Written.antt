@@ -19,8 +19,9 @@ use Rattle.nson.specs.Carries.{Fits, Carries}
 use Rattle.nson.proofs.Counts.{Short, TagCounts, Holds}
 use Rattle.nson.proofs.Carrying.{descriptors-length, carried-holds}
 use Rattle.agreement.specs.Counted.{nsonName}
-use Rattle.agreement.proofs.Texts.{hexes-chars, name-chars, nson-chars, decimal-number}
-use Rattle.agreement.proofs.Spelled.{string-spells, member-spells, more-members, object-text, Spelt, array-spells}
+use Rattle.jsontext.proofs.Compact.{hexes-chars, name-chars, decimal-number, string-spells, member-spells, more-members, object-text}
+use Rattle.agreement.proofs.Texts.{nson-chars}
+use Rattle.agreement.proofs.Spelled.{Spelt, array-spells}
 use Rattle.agreement.proofs.Tree.{textTree, tagTree, tagsTree, members, tree, front, back, nson-members}
 
 -- ---- the bytes of the nson field. General: belongs to crate nson
@@ -91,8 +92,8 @@ tree-spells {e} c v =
     more-members id (more-members pubkey (more-members sig (more-members time (more-members nson (more-members kind (more-members content (json.last-member tags)))))))
 
 -- THE text: what the NSON writer writes is a JSON text, and its tree is `tree`
-pub tree-text : {e : Event} → Carries e → Valid e → json.Text (tree e) (nson e)
+pub tree-text : {e : Event} → Carries e → Valid e → json.JsonText (tree e) (nson e)
 tree-text {e} c v =
     let l = nson e in
     let g : json.Spells (tree e) l = subst (json.Spells (tree e)) (nson-members e) (object-text (tree-spells c v)) in
-    subst (json.Text (tree e)) (append-nil l) (json.text {w = []} {l = l} {x = []} none g none)
+    subst (json.JsonText (tree e)) (append-nil l) (json.text {w = []} {l = l} {x = []} none g none)

@@ -16,12 +16,12 @@ use Rattle.buffer.proofs.EntryLaws.{short}
 use Rattle.scan.specs.Compare.{sameBytes}
 use Rattle.event.specs.Event.{Event}
 use Rattle.scan.proofs.CompareLaws.{same-same}
+use Rattle.scan.proofs.Many.{shown-same}
 use Rattle.notepack.specs.Strict.{pack}
 use Rattle.json.specs.Object.{readJson}
 use Rattle.json.specs.Entries.{jsonLeaves, jsonNeeds}
 use Rattle.nson.specs.Read.{readNson}
 use Rattle.nson.specs.Entries.{nsonLeaves, nsonNeeds}
-use Rattle.nson.proofs.Pieces.{shown-same}
 use Rattle.agreement.proofs.Agree.{both-accept}
 use Rattle.agreement.proofs.Entries.{fits}
 use Rattle.bothreaders.specs.Both.{Compared, compared, bothOf, firstOf, secondOf, both, bothFirst, bothSecond}

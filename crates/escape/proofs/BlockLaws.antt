@@ -1,14 +1,16 @@
 -- Blocks of a text: how much longer one gets, and how far one goes with no escape.
 -- Each turn of the loops is one law whose premises are what the loop knows; `byte-tests` says what a byte becomes.
-use Prim.Native.Nat.{ℕ, suc, _+_, _-_, _<_, _≤_, min}
+use Prim.Native.Nat.{ℕ, suc, _+_, _-_, _<_, _≤_}
 use mathlib.Core.Path.{_≡_, refl, sym, ap, _∙_}
 use mathlib.Core.Bool.{Bool, true, false}
-use mathlib.Core.List.{List, [], _∷_, _++_, append-nil}
+use mathlib.Core.List.{List, [], _∷_, _++_}
 use native.Mathlib.Omega.{arith}
 use lib.ListN.{length, getD, take, drop, length-append, length-take, length-drop, take-append-drop}
 use lib.Seq.{drop-drop, drop-append-le, take-all, length-take-le, getD-take, getD-drop}
 use Rattle.scan.specs.Choice.{pick}
-use Rattle.scan.proofs.Step.{rest-none, rest-more, pick-by}
+use Rattle.scan.specs.Blocks.{beforeStop}
+use Rattle.scan.proofs.Step.{rest-none, rest-more}
+use Rattle.scan.proofs.BlockLaws.{stop-within, stop-here}
 use Rattle.buffer.specs.Store.{Wrote}
 use Rattle.buffer.proofs.Laws.{Left, also}
 use Rattle.escape.specs.Escape.{backslashed, escaped, isUncarried, controls}
@@ -83,34 +85,10 @@ length-last f s i n h q =
 
 -- ---- the run
 
--- the run ends within the block
-pub run-within : (all : Bool) (x : List ℕ) → runOf all x ≤ length x
-unfolding runOf
-run-within all [] = omega arith
-run-within all (b ∷ x) = let n = run-within all x in pick-by (λ (r : ℕ). r ≤ suc (length x)) (isEscaped all b) (λ t. omega arith) (λ t. omega arith)
-
-module _ (all : Bool) (s : List ℕ) (i n m : ℕ) where
-  -- a byte more is looked at
-  pub run-more : {t : Bool} {k r : ℕ} → runOf all s ≡ min m (i + runOf all (drop i s)) → i < length s → m ≤ n → t ≡ isEscaped all (getD s i 0) → k ≡ pick t i n → r ≡ min k m
-      → runOf all s ≡ min r (i + 1 + runOf all (drop (i + 1) s))
-  unfolding runOf
-  run-more {t} {k} {r} v h l p q w =
-      let f : runOf all (drop i s) ≡ pick t 0 (suc (runOf all (drop (i + 1) s))) = rw (rest-more s i h, p) refl in
-      by-cases t f q
-    where
-      by-cases : (t : Bool) → runOf all (drop i s) ≡ pick t 0 (suc (runOf all (drop (i + 1) s))) → k ≡ pick t i n → runOf all s ≡ min r (i + 1 + runOf all (drop (i + 1) s))
-      by-cases true f q = omega arith
-      by-cases false f q = omega arith
-
-  -- all is looked at
-  pub run-done : runOf all s ≡ min m (i + runOf all (drop i s)) → length s ≤ i → m ≤ length s → m ≡ runOf all s
-  unfolding runOf
-  run-done v h l = let f : runOf all (drop i s) ≡ 0 = rw (rest-none s i h) refl in omega arith
-
 module _ (all : Bool) where
   -- the bytes of the run stand as they are
   run-front : (x y : List ℕ) → escaped (byteBy all) (x ++ y) ≡ take (runOf all x) x ++ escaped (byteBy all) (drop (runOf all x) x ++ y)
-  unfolding runOf escaped
+  unfolding beforeStop escaped
   run-front [] y = refl
   run-front (b ∷ x) y = by-cases (isEscaped all b) (byte-tests all b) (run-front x y)
     where
@@ -120,22 +98,12 @@ module _ (all : Bool) where
       by-cases true e f = refl
       by-cases false e f = rw (e, f)
 
-  -- the byte behind the run becomes two
-  run-stop : (x : List ℕ) → runOf all x < length x → isEscaped all (getD x (runOf all x) 0) ≡ true
-  unfolding runOf
-  run-stop [] h = absurd (omega arith)
-  run-stop (b ∷ x) h = by-cases (isEscaped all b) refl (run-stop x) h
-    where
-      by-cases : (t : Bool) → isEscaped all b ≡ t → (runOf all x < length x → isEscaped all (getD x (runOf all x) 0) ≡ true) → pick t 0 (suc (runOf all x)) < suc (length x) → isEscaped all (getD (b ∷ x) (pick t 0 (suc (runOf all x))) 0) ≡ true
-      by-cases true e f h = e
-      by-cases false e f h = f (omega arith)
-
   module _ (s : List ℕ) (i k m : ℕ) (fits : i + k ≤ length s) (is : m ≡ runOf all (take k (drop i s))) where
     block-length : length (take k (drop i s)) ≡ k
     block-length = length-take-le k (drop i s) (omega (arith, length-drop i s))
 
     run-inside : m ≤ k
-    run-inside = omega (arith, block-length, run-within all (take k (drop i s)))
+    run-inside = omega (arith, block-length, stop-within (isEscaped all) (take k (drop i s)))
 
     -- the run of the block, and the rest of the text
     run-then : escaped (byteBy all) (drop i s) ≡ take m (take k (drop i s)) ++ escaped (byteBy all) (drop (i + m) s)
@@ -165,7 +133,7 @@ module _ (all : Bool) where
         let h = run-inside in
         let block = take k (drop i s) in
         let here : getD block m 0 ≡ getD s (i + m) 0 = getD-take k (drop i s) m 0 (omega arith) ∙ getD-drop i s m 0 in
-        let stop : isEscaped all (getD s (i + m) 0) ≡ true = rw (sym is, here) at (run-stop block (omega (arith, block-length))) in
+        let stop : isEscaped all (getD s (i + m) 0) ≡ true = rw (sym is, here) at (stop-here (isEscaped all) block (omega (arith, block-length))) in
         rw (rest-more s (i + m) (omega arith), byte-tests all (getD s (i + m) 0), stop)
 
 -- ---- what NSON can carry

@@ -1,10 +1,11 @@
 -- Inner definitions: the two escapings by one flag, `all`, true for the canonical text's and false for NSON's, as the private functions have it. Assumes nothing.
-use Prim.Native.Nat.{ℕ, suc}
+use Prim.Native.Nat.{ℕ}
 use mathlib.Core.Bool.{Bool, true, false}
-use mathlib.Core.List.{List, [], _∷_}
+use mathlib.Core.List.{List}
 use lib.Dec.{eqb}
 use Rattle.scan.specs.Choice.{pick}
 use Rattle.scan.specs.Place.{within}
+use Rattle.scan.specs.Blocks.{beforeStop}
 use Rattle.escape.specs.Escape.{canonicalByte, nsonByte}
 
 abbrev pub byteBy : Bool → ℕ → List ℕ
@@ -24,6 +25,5 @@ escapeLetter b =
     (pick (eqb b 0x0D) 0x72 (pick (eqb b 0x09) 0x74 (pick (eqb b 0x08) 0x62 (pick (eqb b 0x0C) 0x66 b))))
 
 -- how many bytes stand before the first that becomes two
-unfoldable pub runOf : Bool → List ℕ → ℕ
-runOf all [] = 0
-runOf all (b ∷ l) = pick (isEscaped all b) 0 (suc (runOf all l))
+abbrev pub runOf : Bool → List ℕ → ℕ
+runOf all = beforeStop (isEscaped all)

@@ -31,7 +31,7 @@ pub end-stops : (s : List ℕ) → Stop (getD s (length s) 0)
 end-stops s = rw (byte-none s (length s) (omega arith)) stop-end
 
 -- general: belongs to crate jsontext
-pub text-value : {v : json.Json} {s : List ℕ} → json.Text v s → ValueIn s v
+pub text-value : {v : json.Json} {s : List ℕ} → json.JsonText v s → ValueIn s v
 text-value {v} {s} (json.text {w = w} {l = l} {x = x} g h k) =
     let u = cut w (input-span s) in
     let y = cut l (u .2) in
@@ -39,7 +39,7 @@ text-value {v} {s} (json.text {w = w} {l = l} {x = x} g h k) =
     value-in {e = y .0} h (rw e (y .1)) (ws-stop k (y .2) (end-stops s))
 
 -- THE unambiguity of a text, general: belongs to crate jsontext. A JSON text spells at most one value.
-pub one-value : {v w : json.Json} {s : List ℕ} → json.Text v s → json.Text w s → v ≡ w
+pub one-value : {v w : json.Json} {s : List ℕ} → json.JsonText v s → json.JsonText w s → v ≡ w
 one-value g h = go (text-value g) (text-value h)
   where
     go : {s : List ℕ} {v w : json.Json} → ValueIn s v → ValueIn s w → v ≡ w
@@ -95,5 +95,5 @@ event-one (is-event a p x) (is-event b q y) =
     (once-one (λ v. text-one) (a .content) (b .content))
 
 -- THE two together: a text has at most one event
-pub one-event : {v w : json.Json} {s : List ℕ} {d e : Event} → json.Text v s → IsEvent v d → json.Text w s → IsEvent w e → d ≡ e
+pub one-event : {v w : json.Json} {s : List ℕ} {d e : Event} → json.JsonText v s → IsEvent v d → json.JsonText w s → IsEvent w e → d ≡ e
 one-event {v} {w} {e = e} g p h q = event-one p (rw (one-value g h) q)

@@ -12,7 +12,7 @@ use Rattle.scan.specs.Compare.{sameBytes}
 use Rattle.event.specs.Event.{Text, Tag}
 use Rattle.jsontext.specs.declared.Spelled.{Spelled}
 use Rattle.jsontext.specs.Escape.{unescape}
-use Rattle.jsontext.specs.Token.{spaceAt, numberAt}
+use Rattle.jsontext.specs.Token.{spaceAt, skipNumber}
 use Rattle.jsontext.specs.Text.{stringAt}
 use Rattle.jsontext.specs.Value.{valueAt}
 use Rattle.json.specs.Meaning.{names}
@@ -43,7 +43,7 @@ wholeOf max number l at next =
     pick (digitsOnly l) (pick (leb (numberOf l) max) (read (numberOf l) next) (refused number at)) (refused 14 at)
 
 unfoldable pub wholeAt : ℕ → ℕ → List ℕ → ℕ → Answer (Read ℕ)
-wholeAt max number s at = andThen (numberAt s at) λ r. wholeOf max number (take (r .next - at) (drop at s)) at (r .next)
+wholeAt max number s at = andThen (skipNumber s at) λ r. wholeOf max number (take (r .next - at) (drop at s)) at (r .next)
 
 -- ---- arrays of up to 1 + left items, each read by `item`
 

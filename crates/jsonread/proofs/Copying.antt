@@ -19,7 +19,7 @@ use Rattle.notepack.proofs.Lengths.{tag-form}
 use Rattle.jsontext.specs.declared.Spelled.{Spelled}
 use Rattle.jsontext.specs.Token.{spaceAt}
 use Rattle.jsontext.specs.Text.{stringAt}
-use Rattle.jsontext.proofs.Fits.{byte-positive}
+use Rattle.scan.proofs.Fits.{byte-positive}
 use Rattle.json.specs.Field.{textOf, textAt, itemsAt, insideAt, arrayAt, oneOrMore, tagAt}
 use Rattle.jsonread.specs.Copy.{behindAt, nextAt, textEnd, countTexts, textsText, textsEnd, tagText, tagsText}
 use Rattle.jsonread.proofs.Strings.{string-ends, text-string}

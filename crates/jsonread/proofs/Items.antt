@@ -15,8 +15,8 @@ use Rattle.scan.proofs.Reading.{read-same}
 use Rattle.event.specs.declared.Refusal.{Refusal}
 use Rattle.event.specs.Answers.{told}
 use Rattle.jsontext.specs.Token.{spaceAt}
-use Rattle.jsontext.proofs.Fits.{byte-positive}
-use Rattle.jsontext.proofs.Walk.{space-onward}
+use Rattle.scan.proofs.Fits.{byte-positive}
+use Rattle.jsontext.proofs.TokenLaws.{space-onward}
 use Rattle.json.specs.Field.{under, afterItem, itemsAt, insideAt}
 use Rattle.jsonread.specs.declared.Cursor.{Cursor}
 use Rattle.jsonread.specs.declared.Sized.{Sized}

@@ -7,4 +7,3 @@ pub mod Known
 pub mod Members
 pub mod Whole
 pub mod Plain
-pub mod Runs

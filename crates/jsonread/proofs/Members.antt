@@ -16,8 +16,8 @@ use Rattle.event.specs.declared.Refusal.{Refusal}
 use Rattle.event.specs.Answers.{told}
 use Rattle.event.specs.Event.{Event, Text}
 use Rattle.jsontext.specs.Token.{spaceAt}
-use Rattle.jsontext.proofs.Fits.{byte-positive}
-use Rattle.jsontext.proofs.Walk.{space-onward, space-inside}
+use Rattle.scan.proofs.Fits.{byte-positive}
+use Rattle.jsontext.proofs.TokenLaws.{space-onward, space-inside}
 use Rattle.json.specs.Field.{Value, under, textAt, fieldOf, fieldAt}
 use Rattle.json.specs.Object.{noFields, isMissing, field, colonAt, memberAt, afterMember, membersAt, insideAt, objectAt}
 use Rattle.json.proofs.FieldSound.{field-says}

@@ -20,11 +20,12 @@ use Rattle.notepack.specs.Strict.{packElement}
 use Rattle.notepack.proofs.Lengths.{element-bytes, element-text, length-as-bytes, length-as-text}
 use Rattle.jsontext.specs.declared.Spelled.{Spelled}
 use Rattle.jsontext.specs.Grammar as json
-use Rattle.jsontext.specs.Escape.{escapeAt, plainAt, orItself, unescape}
+use Rattle.jsontext.specs.Escape.{escapeAt, orItself, unescape}
+use Rattle.jsonunescape.specs.Run.{backslashAt}
 use Rattle.jsontext.specs.Text.{stringAt}
 use Rattle.jsontext.proofs.Meaning.{unescape-chars, chars-same}
 use Rattle.jsontext.proofs.TextLaws.{string-reads}
-use Rattle.jsontext.proofs.Unescape.{run-onward, run-inside, run-slash, length-run, unescape-end, taken, length-escape}
+use Rattle.jsonunescape.proofs.Unescape.{run-onward, run-inside, run-slash, length-run, unescape-end, taken, length-escape}
 use Rattle.json.specs.Field.{textOf, textAt}
 use Rattle.jsonread.specs.Size.{elementSize}
 
@@ -34,7 +35,7 @@ use Rattle.jsonread.specs.Size.{elementSize}
 pub string-ends : (s : List ℕ) (a : ℕ) {x : Spelled} {e : ℕ} → stringAt s a ≡ read x e → (x .from ≡ a + 1) × (a + x .count + 2 ≡ e) × (e ≤ length s)
 string-ends s a {x} {e} h = let g = string-reads h in go (g .0) (g .1) (g .2) (g .3) (g .4)
   where
-    go : (l q : List ℕ) → json.Quoted l q → Span s a q e → x ≡ record { from = a + 1; count = length l } → (x .from ≡ a + 1) × (a + x .count + 2 ≡ e) × (e ≤ length s)
+    go : (l q : List ℕ) → json.QuotedChars l q → Span s a q e → x ≡ record { from = a + 1; count = length l } → (x .from ≡ a + 1) × (a + x .count + 2 ≡ e) × (e ≤ length s)
     go l q (json.quoted g) r f =
         let n = length-append l (0x22 ∷ []) in
         (ap (λ (y : Spelled). y .from) f, omega (arith, ap (λ (y : Spelled). y .count) f, span-length r, n), omega (arith, span-length r, span-fits r, n))
@@ -46,7 +47,7 @@ unescape-most t = omega (arith, go (length t) 0 (omega arith) (omega arith))
     go : (k i : ℕ) → length t ≤ i + k → i ≤ length t → length (unescape (drop i t)) ≤ length t - i
     go zero i h l = rw (unescape-end t i (omega arith)) (omega arith)
     go (suc k) i h l =
-        let e = plainAt t i in
+        let e = backslashAt t i in
         let run = length-run t i {e = e} refl l in
         dite (decLt e (length t))
         (λ q.
@@ -61,7 +62,7 @@ unescape-most t = omega (arith, go (length t) 0 (omega arith) (omega arith))
 pub string-same : (s : List ℕ) (a : ℕ) {x : Spelled} {e : ℕ} → stringAt s a ≡ read x e → length (textOf s x) ≡ x .count → textOf s x ≡ take (x .count) (drop (x .from) s)
 string-same s a {x} {e} h n = let g = string-reads h in go (g .0) (g .2) (ap (λ (y : Spelled). y .count) (g .4)) (g .5)
   where
-    go : (l : List ℕ) {q : List ℕ} → json.Quoted l q → x .count ≡ length l → take (x .count) (drop (x .from) s) ≡ l → textOf s x ≡ take (x .count) (drop (x .from) s)
+    go : (l : List ℕ) {q : List ℕ} → json.QuotedChars l q → x .count ≡ length l → take (x .count) (drop (x .from) s) ≡ l → textOf s x ≡ take (x .count) (drop (x .from) s)
     go l (json.quoted {t = t} g) k f =
         let u : textOf s x ≡ t = ap unescape f ∙ unescape-chars g in
         u ∙ chars-same g .1 (sym (ap length u) ∙ n ∙ k) ∙ sym f

@@ -26,23 +26,24 @@ use Rattle.notepack.proofs.Lengths.{tag-form}
 use Rattle.event.specs.declared.Refusal.{Refusal}
 use Rattle.event.specs.Answers.{told}
 use Rattle.jsontext.specs.declared.Spelled.{Spelled}
-use Rattle.jsontext.specs.declared.Cursor.{Cursor}
-use Rattle.jsontext.specs.declared.Skip.{Skip}
-use Rattle.jsontext.specs.declared.Skip.the-variants as skip
-use Rattle.jsontext.specs.declared.StringRead.{StringRead}
-use Rattle.jsontext.specs.declared.StringRead.the-variants as string
-use Rattle.jsontext.specs.Answers.{stringRead, skipRead}
+use Rattle.jsonvalue.specs.declared.Cursor.{Cursor}
+use Rattle.jsonvalue.specs.declared.Skip.{Skip}
+use Rattle.jsonvalue.specs.declared.Skip.the-variants as skip
+use Rattle.jsonstring.specs.declared.StringRead.{StringRead}
+use Rattle.jsonstring.specs.declared.StringRead.the-variants as string
+use Rattle.jsonstring.specs.Answers.{stringRead}
+use Rattle.jsonvalue.specs.Answers.{skipRead}
 use Rattle.jsontext.specs.Text.{stringAt}
 use Rattle.jsontext.specs.Value.{valueAt}
-use Rattle.jsontext.specs.Token.{spaceAt, numberAt, past, Done}
+use Rattle.jsontext.specs.Token.{spaceAt, skipNumber, past, Done}
 use Rattle.jsontext.specs.Grammar as json
-use Rattle.jsontext.proofs.TokenLaws.{number-consumes}
+use Rattle.jsontext.proofs.TokenLaws.{number-consumes, space-onward}
 use Rattle.jsontext.proofs.FirstByte.{begins-value, some-bytes}
-use Rattle.jsontext.proofs.Walk.{space-onward}
 use Rattle.json.specs.Field.{textOf, textAt, hexAt, isHexOf, digitsOnly, wholeOf, wholeAt, insideAt, arrayAt, oneOrMore, tagAt, tagsAt, missing, bytes, tags, text, under}
 use Rattle.json.specs.Field as field
 use Rattle.jsonread.specs.declared.Spot.{Spot}
 use Rattle.jsonread.specs.declared.Sized.{Sized}
+use Rattle.jsonstring.specs.declared.Cursor as behind
 use Rattle.jsonread.specs.declared.Cursor as own
 use Rattle.jsonread.specs.declared.SizedRead.{SizedRead}
 use Rattle.jsonread.specs.declared.SizedRead.the-variants as sized-by
@@ -154,7 +155,7 @@ module _ (max refusal : ℕ) (l : List ℕ) (at next : ℕ) where
   whole-none e h = whole-other 0 h (consumes-none max l 0 (sym e))
 
 -- a number that was read takes a byte or more, and ends within the input
-pub number-ends : (s : List ℕ) (a : ℕ) {e : ℕ} → numberAt s a ≡ past e → (a < e) × (e ≤ length s)
+pub number-ends : (s : List ℕ) (a : ℕ) {e : ℕ} → skipNumber s a ≡ past e → (a < e) × (e ≤ length s)
 number-ends s a {e} h = go (rw h at (number-consumes s a))
   where
     go : Reads (λ (x : Done). json.Number) s a (past e) → (a < e) × (e ≤ length s)
@@ -287,7 +288,7 @@ module _ (s : List ℕ) (at : ℕ) {f : StringRead} (e : stringRead f ≡ string
   unfolding hexAt textAt
   hex-refused n k = let r = sym e ∙ ap stringRead k in rw r
 
-  module _ {x : Spelled} {c : Cursor} (k : f ≡ string.Text x c) where
+  module _ {x : Spelled} {c : behind.Cursor} (k : f ≡ string.Text x c) where
     was-read : stringAt s at ≡ read x (c .at)
     was-read = sym e ∙ ap stringRead k
 
@@ -337,13 +338,13 @@ unfolding saysAs spotText
 good-number s (found w) = found (record { there = w .there; fixed = w .fixed; writes = w .writes; len = w .len; most = omega (arith, w .most) })
 good-number s SpotGood.refused = SpotGood.refused
 
-module _ (s : List ℕ) (at max refusal : ℕ) (f : Skip) (e : skipRead f ≡ numberAt s at) where
+module _ (s : List ℕ) (at max refusal : ℕ) (f : Skip) (e : skipRead f ≡ skipNumber s at) where
   pub whole-refused : {r : Refusal} → f ≡ skip.Refused r → told r ≡ under field.number (wholeAt max refusal s at)
   unfolding wholeAt
   whole-refused k = let r = sym e ∙ ap skipRead k in rw r
 
   module _ {c : Cursor} (k : f ≡ skip.Past c) where
-    number-past : numberAt s at ≡ past (c .at)
+    number-past : skipNumber s at ≡ past (c .at)
     number-past = sym e ∙ ap skipRead k
 
     pub number-place : (at < c .at) × (c .at ≤ length s)

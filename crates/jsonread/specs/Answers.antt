@@ -6,9 +6,6 @@ use Rattle.event.specs.Answers.{told}
 use Rattle.event.specs.Event.{Event}
 use Rattle.json.specs.Field.{Value}
 use Rattle.jsonread.specs.declared.Sized.{Sized}
-use Rattle.jsontext.specs.declared.Spelled.{Spelled}
-use Rattle.jsonread.specs.declared.TextRead.{TextRead}
-use Rattle.jsonread.specs.declared.TextRead.the-variants as text-by
 use Rattle.jsonread.specs.declared.LenRead.{LenRead}
 use Rattle.jsonread.specs.declared.LenRead.the-variants as len-by
 use Rattle.jsonread.specs.declared.SizedRead.{SizedRead}
@@ -18,12 +15,6 @@ use Rattle.jsonread.specs.declared.SpotRead.the-variants as spot-by
 use Rattle.jsonread.specs.declared.FieldsRead.{FieldsRead}
 use Rattle.jsonread.specs.declared.FieldsRead.the-variants as fields-by
 use Rattle.jsonread.specs.Found.{saysAs, fieldsOf, eventBy}
-
--- a string as spelled, or the refusal
-abbrev pub textRead : TextRead → Answer (Read Spelled)
-textRead (text-by.Plain p c) = read p (c .at)
-textRead (text-by.Other p c) = read p (c .at)
-textRead (text-by.Refused r) = told r
 
 -- a length with the place behind what has it, or the refusal
 abbrev pub lenRead : LenRead → Answer (Read ℕ)

@@ -3,17 +3,14 @@ use Prim.Native.Nat.{ℕ, _+_, _*_, _<_, _≤_}
 use mathlib.Core.Path.{_≡_}
 use mathlib.Core.Bool.{Bool, true, false}
 use mathlib.Core.List.{List, [], _∷_}
-use lib.ListN.{length, take, drop}
+use lib.ListN.{length}
 use lib.Dec.{leb, eqb}
 use Rattle.scan.specs.Choice.{pick, orElse}
 use Rattle.hex.specs.Hex.{unhex}
 use Rattle.event.specs.Event.{Tag, Event}
 use Rattle.notepack.specs.Strict.{pack}
 use Rattle.json.specs.Field.{textOf, insideAt, tagAt, Value, missing, bytes, number, tags, text}
-use Rattle.jsontext.specs.declared.Spelled.{Spelled}
 use Rattle.jsonread.specs.declared.Spot.{Spot}
-use Rattle.jsonread.specs.declared.TextRead.{TextRead}
-use Rattle.jsonread.specs.declared.TextRead.the-variants as text-by
 use Rattle.jsonread.specs.declared.Fields.{Fields}
 use Rattle.jsonread.specs.declared.SpotRead.{SpotRead}
 use Rattle.jsonread.specs.declared.SpotRead.the-variants as spot-by
@@ -21,12 +18,6 @@ use Rattle.jsonread.specs.declared.FieldsRead.{FieldsRead}
 use Rattle.jsonread.specs.declared.FieldsRead.the-variants as fields-by
 use Rattle.jsonread.specs.Size.{packValue}
 use Rattle.jsonread.specs.Copy.{partOf, spotText, fieldsText, measured}
-
--- a string that is told to be plain is its own text
-pub data PlainText (s : List ℕ) : TextRead → Type 0 where
-  plain : {p : Spelled} {c : _} → textOf s p ≡ take (p .count) (drop (p .from) s) → PlainText s (text-by.Plain p c)
-  other : {p : Spelled} {c : _} → PlainText s (text-by.Other p c)
-  refused : {r : _} → PlainText s (text-by.Refused r)
 
 -- the tags from the first one on; none where they are refused
 unfoldable pub tagsFrom : List ℕ → ℕ → List Tag

@@ -2,4 +2,3 @@ pub mod Size
 pub mod Copy
 pub mod Found
 pub mod Answers
-pub mod Run

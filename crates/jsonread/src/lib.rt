@@ -2,33 +2,28 @@
 use decimal::DecimalRead;
 use event::Refusal;
 use event::Writing;
-use jsontext::Skip;
+use jsonstring::StringRead;
+use jsonstring::TextRead;
 use jsontext::Spelled;
-use jsontext::StringRead;
-ghost use Prim.Native.Nat.{min, _+_, _*_, _^_, _≤_, _<_};
+use jsonvalue::Skip;
+ghost use Prim.Native.Nat.{_+_, _*_, _^_, _≤_, _<_};
 ghost use mathlib.Core.Path.{_≡_};
 ghost use mathlib.Core.List.{[]};
 ghost use lib.ListN.{length};
-ghost use lib.Dec.{eqb};
-ghost use Rattle.scan.specs.Choice.{pick};
 ghost use Rattle.buffer.specs.Store.{Wrote};
 ghost use Rattle.event.specs.Answers.{writing};
 ghost use Rattle.hex.specs.Hex.{unhex};
 ghost use Rattle.notepack.specs.Strict.{packElement};
-ghost use Rattle.jsontext.specs.Block.{specialOf, PlainTo};
 ghost use Rattle.jsontext.specs.Token.{spaceAt};
-ghost use Rattle.jsontext.specs.Text.{stringAt};
 ghost use Rattle.jsontext.specs.Value.{valueAt};
-ghost use Rattle.json.specs.Field.{missing, bytes, number, tags, text, under, textOf, textAt, isHexOf, hexAt, wholeOf, insideAt, tagAt, tagsAt, fieldOf, fieldAt};
-ghost use Rattle.json.specs.Field.{wholeAt};
+ghost use Rattle.json.specs.Field.{missing, bytes, number, tags, text, under, textOf, textAt, isHexOf, hexAt, wholeOf, insideAt, tagAt, tagsAt, fieldOf, fieldAt, wholeAt};
 ghost use Rattle.json.specs.Object.{noFields, colonAt, memberAt, membersAt, objectAt};
 ghost use Rattle.json.specs.Entries.{jsonReads, jsonLeaves, jsonNeeds};
 ghost use Rattle.json.specs.Object as object;
-ghost use Rattle.jsonread.specs.Run.{plainRun};
 ghost use Rattle.jsonread.specs.Size.{elementSize, tagSize, sized};
 ghost use Rattle.jsonread.specs.Copy.{behindAt, textEnd, countTexts, textsText, textsEnd, tagsText, partOf, contentText, fieldsText, measured};
-ghost use Rattle.jsonread.specs.Found.{PlainText, fieldsOf, noSpot, spotOf, withSpot, noneFound, allFound, SpotGood, Good, FieldsGood, ObjectGood};
-ghost use Rattle.jsonread.specs.Answers.{textRead, lenRead, sizedRead, spotRead, fieldsRead, objectRead, wholeRead};
+ghost use Rattle.jsonread.specs.Found.{fieldsOf, noSpot, spotOf, withSpot, noneFound, allFound, SpotGood, Good, FieldsGood, ObjectGood};
+ghost use Rattle.jsonread.specs.Answers.{lenRead, sizedRead, spotRead, fieldsRead, objectRead, wholeRead};
 
 // A place in the input. A cursor past the end reads as the end.
 struct Cursor {
@@ -82,13 +77,6 @@ enum FieldsRead {
     Refused(Refusal),
 }
 
-// A string of plain ASCII, which is its own text; any other string; or the refusal.
-enum TextRead {
-    Plain(Spelled, Cursor),
-    Other(Spelled, Cursor),
-    Refused(Refusal),
-}
-
 // The length of an item in the strict form, or a number, with the cursor behind it; or the refusal.
 enum LenRead {
     Len(usize, Cursor),
@@ -130,130 +118,11 @@ fn no_items(number: u8, place: usize) -> SizedRead
 fn past_space(s: &[u8], at: usize) -> usize
     ensures { λ r. ⌜ r ≡ spaceAt (now (s .entry)) at ⌝ }
 {
-    let c = jsontext::Cursor { at }.skip_space(s);
+    let c = jsonvalue::Cursor { at }.skip_space(s);
     c.at
 }
 
 // ---- strings and numbers
-
-// Whether a byte is plain ASCII in a string: no control byte, no quote, no backslash.
-fn is_plain(b: u8) -> bool
-    ensures { λ r. ⌜ r ≡ eqb (specialOf b) 0 ⌝ }
-{
-    if b < 0x20 {
-        return false;
-    }
-    if b == 0x22 {
-        return false;
-    }
-    if b == 0x5C {
-        return false;
-    }
-    b < 0x80
-}
-
-// The end of 80 bytes from a place on, or of the n bytes.
-fn short_end(at: usize, n: usize) -> usize
-    requires { ⌜ at ≤ n ⌝ }
-    ensures { λ r. ⌜ r ≡ min (at + 80) n ⌝ }
-{
-    if n - at <= 80 { n } else { at + 80 }
-}
-
-// Passes plain bytes from a place on, at most 80.
-fn pass_plain(s: &[u8], at: usize) -> usize
-    requires { ⌜ at ≤ length (now s) ⌝ }
-    ensures { λ r. ⌜ PlainTo (now (s .entry)) at r ⌝ }
-{
-    let end = short_end(at, s.len());
-    let mut i = at;
-    while i < end {
-        let b = s[i];
-        if is_plain(b) {
-            i += 1;
-        } else {
-            break;
-        }
-    }
-    i
-}
-
-// n for a plain byte, and else its place.
-fn stop_place(plain: bool, i: u8, n: u8) -> u8
-    ensures { λ r. ⌜ r ≡ pick plain n i ⌝ }
-{
-    if plain { n } else { i }
-}
-
-fn lesser(a: u8, b: u8) -> u8
-    ensures { λ r. ⌜ r ≡ min a b ⌝ }
-{
-    if a < b { a } else { b }
-}
-
-// How many bytes of a block stand before the first that is not plain. No exit on the way, and a minimum of bytes: a loop for vectors.
-fn plain_run(block: &[u8]) -> u8
-    requires { ⌜ length (now block) ≤ 32 ⌝ }
-    ensures { λ r. ⌜ r ≡ plainRun (now (block .entry)) ⌝ }
-{
-    let n = block.len() as u8;
-    let mut i = 0;
-    let mut m = n;
-    while i < block.len() {
-        m = lesser(stop_place(is_plain(block[i]), i as u8, n), m);
-        i += 1;
-    }
-    m
-}
-
-// Passes plain bytes from a place on. 64 hex digits in front of a quote, an id or a key, are passed at once, and so is what ends within 32 bytes.
-fn plain_end(s: &[u8], at: usize) -> usize
-    requires { ⌜ at ≤ length (now s) ⌝ }
-    ensures { λ r. ⌜ PlainTo (now (s .entry)) at r ⌝ }
-{
-    let e = at + 64;
-    if scan::byte_at(s, e) == 0x22 {
-        if hex::all_digits(scan::part(s, at, 64)) {
-            return e;
-        }
-    }
-    if s.len() - at >= 32 {
-        let k = at + 32;
-        let m = plain_run(&s[at..k]) as usize;
-        if m < 32 {
-            return at + m;
-        }
-    }
-    pass_plain(s, at)
-}
-
-impl Cursor {
-    // The string at the cursor. Most are short and plain, which is told at once.
-    fn spelled(self, s: &[u8]) -> TextRead
-        ensures { λ r. ⌜ textRead r ≡ stringAt (now (s .entry)) (self .at) ⌝ }
-        ensures { λ r. ⌜ PlainText (now (s .entry)) r ⌝ }
-    {
-        let at = self.at;
-        if scan::byte_at(s, at) == 0x22 {
-            let from = at + 1;
-            let end = plain_end(s, from);
-            if scan::byte_at(s, end) == 0x22 {
-                return TextRead::Plain(
-                    Spelled {
-                        from,
-                        count: end - from,
-                    },
-                    Cursor { at: end + 1 },
-                );
-            }
-        }
-        let found = jsontext::Cursor { at }.string(&s[..]);
-        match found {
-            StringRead::Text(p, next) => TextRead::Other(p, Cursor { at: next.at }),
-            StringRead::Refused(r) => TextRead::Refused(r),
-        }
-    }
-}
 
 // Whether the text of a spelled string is n bytes in lowercase hex. Most are spelled so, with no escape.
 fn is_hex_of(s: &[u8], p: Spelled, n: usize) -> bool
@@ -269,8 +138,8 @@ fn is_hex_of(s: &[u8], p: Spelled, n: usize) -> bool
             return true;
         }
     }
-    if jsontext::unescaped_len(s, from, count) == 2 * n {
-        return jsontext::unescaped_goes_as_bytes(s, from, count);
+    if jsonunescape::unescaped_len(s, from, count) == 2 * n {
+        return jsonunescape::unescaped_goes_as_bytes(s, from, count);
     }
     false
 }
@@ -284,7 +153,7 @@ impl Cursor {
         ensures { λ r. ⌜ SpotGood (now (s .entry)) 0 r ⌝ }
     {
         let at = self.at;
-        let found = jsontext::Cursor { at }.string(&s[..]);
+        let found = jsonstring::Cursor { at }.string(&s[..]);
         match found {
             StringRead::Text(p, next) => {
                 if is_hex_of(s, p, n) {
@@ -310,10 +179,10 @@ impl Cursor {
         ensures { λ r. ⌜ SpotGood (now (s .entry)) 6 r ⌝ }
     {
         let at = self.at;
-        let found = jsontext::Cursor { at }.string(&s[..]);
+        let found = jsonstring::Cursor { at }.string(&s[..]);
         match found {
             StringRead::Text(p, next) => {
-                let n = jsontext::unescaped_len(s, p.from, p.count);
+                let n = jsonunescape::unescaped_len(s, p.from, p.count);
                 let k = varint::varint_len(n as u64);
                 SpotRead::Found(
                     Spot {
@@ -335,7 +204,7 @@ impl Cursor {
         ensures { λ r. ⌜ SpotGood (now (s .entry)) 3 r ⌝ }
     {
         let at = self.at;
-        let found = jsontext::Cursor { at }.number(&s[..]);
+        let found = jsonvalue::Cursor { at }.number(&s[..]);
         match found {
             Skip::Past(next) => {
                 let end = next.at;
@@ -386,8 +255,8 @@ fn element_len(s: &[u8], p: Spelled) -> usize
 {
     let from = p.from;
     let count = p.count;
-    let n = jsontext::unescaped_len(s, from, count);
-    if jsontext::unescaped_goes_as_bytes(s, from, count) {
+    let n = jsonunescape::unescaped_len(s, from, count);
+    if jsonunescape::unescaped_goes_as_bytes(s, from, count) {
         let half = n / 2;
         return varint::varint_len(2 * half as u64 + 1) + half;
     }
@@ -399,13 +268,14 @@ impl Cursor {
     fn element(self, s: &[u8]) -> LenRead
         ensures { λ r. ⌜ lenRead r ≡ under elementSize (textAt (now (s .entry)) (self .at)) ⌝ }
     {
-        let found = self.spelled(&s[..]);
+        let at = self.at;
+        let found = jsonstring::Cursor { at }.read_text(&s[..]);
         match found {
             TextRead::Plain(p, next) => LenRead::Len(
                 notepack::packed_text_len(scan::part(s, p.from, p.count)),
-                next,
+                Cursor { at: next.at },
             ),
-            TextRead::Other(p, next) => LenRead::Len(element_len(s, p), next),
+            TextRead::Other(p, next) => LenRead::Len(element_len(s, p), Cursor { at: next.at }),
             TextRead::Refused(r) => LenRead::Refused(r),
         }
     }
@@ -533,42 +403,42 @@ fn field_of(s: &[u8], p: Spelled) -> usize
 {
     let from = p.from;
     let count = p.count;
-    let n = jsontext::unescaped_len(s, from, count);
+    let n = jsonunescape::unescaped_len(s, from, count);
     if n == 2 {
-        if jsontext::unescaped_is(s, from, count, b"id") {
+        if jsonunescape::unescaped_is(s, from, count, b"id") {
             return 0;
         }
         return 7;
     }
     if n == 3 {
-        if jsontext::unescaped_is(s, from, count, b"sig") {
+        if jsonunescape::unescaped_is(s, from, count, b"sig") {
             return 2;
         }
         return 7;
     }
     if n == 4 {
-        if jsontext::unescaped_is(s, from, count, b"kind") {
+        if jsonunescape::unescaped_is(s, from, count, b"kind") {
             return 4;
         }
-        if jsontext::unescaped_is(s, from, count, b"tags") {
+        if jsonunescape::unescaped_is(s, from, count, b"tags") {
             return 5;
         }
         return 7;
     }
     if n == 6 {
-        if jsontext::unescaped_is(s, from, count, b"pubkey") {
+        if jsonunescape::unescaped_is(s, from, count, b"pubkey") {
             return 1;
         }
         return 7;
     }
     if n == 7 {
-        if jsontext::unescaped_is(s, from, count, b"content") {
+        if jsonunescape::unescaped_is(s, from, count, b"content") {
             return 6;
         }
         return 7;
     }
     if n == 10 {
-        if jsontext::unescaped_is(s, from, count, b"created_at") {
+        if jsonunescape::unescaped_is(s, from, count, b"created_at") {
             return 3;
         }
         return 7;
@@ -628,13 +498,14 @@ impl Cursor {
     fn name(self, s: &[u8]) -> LenRead
         ensures { λ r. ⌜ lenRead r ≡ under fieldOf (textAt (now (s .entry)) (self .at)) ⌝ }
     {
-        let found = self.spelled(&s[..]);
+        let at = self.at;
+        let found = jsonstring::Cursor { at }.read_text(&s[..]);
         match found {
             TextRead::Plain(p, next) => LenRead::Len(
                 field_spelled(scan::part(s, p.from, p.count)),
-                next,
+                Cursor { at: next.at },
             ),
-            TextRead::Other(p, next) => LenRead::Len(field_of(s, p), next),
+            TextRead::Other(p, next) => LenRead::Len(field_of(s, p), Cursor { at: next.at }),
             TextRead::Refused(r) => LenRead::Refused(r),
         }
     }
@@ -645,7 +516,7 @@ impl Cursor {
         ensures { λ r. ⌜ SpotGood (now (s .entry)) 7 r ⌝ }
     {
         let at = self.at;
-        let found = jsontext::Cursor { at }.skip_value(&s[..], event::MAX_DEPTH);
+        let found = jsonvalue::Cursor { at }.skip_value(&s[..], event::MAX_DEPTH);
         match found {
             Skip::Past(next) => SpotRead::Found(
                 Spot {
@@ -933,14 +804,14 @@ fn put_element(out: &mut [u8], at: usize, s: &[u8], p: Spelled) -> usize
 {
     let from = p.from;
     let count = p.count;
-    let n = jsontext::unescaped_len(s, from, count);
-    if jsontext::unescaped_goes_as_bytes(s, from, count) {
+    let n = jsonunescape::unescaped_len(s, from, count);
+    if jsonunescape::unescaped_goes_as_bytes(s, from, count) {
         let half = n / 2;
         let o = varint::put_varint(out, at, 2 * half as u64 + 1);
-        return jsontext::put_unescaped_unhex(out, o, s, from, count);
+        return jsonunescape::put_unescaped_unhex(out, o, s, from, count);
     }
     let o = varint::put_varint(out, at, 2 * n as u64);
-    jsontext::put_unescaped(out, o, s, from, count)
+    jsonunescape::put_unescaped(out, o, s, from, count)
 }
 
 // Behind the byte at a place and white space; the end stays.
@@ -957,7 +828,7 @@ fn behind(s: &[u8], at: usize) -> usize
 fn text_end(s: &[u8], at: usize) -> usize
     ensures { λ r. ⌜ r ≡ textEnd (now (s .entry)) at ⌝ }
 {
-    let found = Cursor { at }.spelled(&s[..]);
+    let found = jsonstring::Cursor { at }.read_text(&s[..]);
     match found {
         TextRead::Plain(_, next) => next.at,
         TextRead::Other(_, next) => next.at,
@@ -995,7 +866,7 @@ fn put_texts(out: &mut [u8], at: usize, s: &[u8], from: usize, count: u64) -> Co
     let mut i = from;
     let mut left = count;
     while 0 < left {
-        let found = Cursor { at: i }.spelled(&s[..]);
+        let found = jsonstring::Cursor { at: i }.read_text(&s[..]);
         match found {
             TextRead::Plain(p, next) => {
                 o = strict::put_packed_text(out, o, scan::part(s, p.from, p.count));
@@ -1036,7 +907,7 @@ fn put_tags(out: &mut [u8], at: usize, s: &[u8], from: usize, count: u64) -> usi
 fn put_bytes(out: &mut [u8], at: usize, s: &[u8], p: Spot) -> usize
     ensures { λ r. ⌜ Wrote (now (out .entry)) at (unhex (textOf (now (s .entry)) (partOf p))) (now (out .exit)) r ⌝ }
 {
-    jsontext::put_unescaped_unhex(out, at, s, p.from, p.count)
+    jsonunescape::put_unescaped_unhex(out, at, s, p.from, p.count)
 }
 
 // The text of a spelled string. As long as it is spelled, it is its own text.
@@ -1046,7 +917,7 @@ fn put_content(out: &mut [u8], at: usize, s: &[u8], p: Spot) -> usize
     if p.number == p.count as u64 {
         return buffer::put_part(out, at, s, p.from, p.count);
     }
-    jsontext::put_unescaped(out, at, s, p.from, p.count)
+    jsonunescape::put_unescaped(out, at, s, p.from, p.count)
 }
 
 // The strict form of the event that the fields say.

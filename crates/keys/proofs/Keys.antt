@@ -10,6 +10,7 @@ use borrow.Author.Tests.{lt-ltb}
 use Rattle.scan.specs.Ascii.{ascii}
 use Rattle.scan.specs.Choice.{pick, shown}
 use Rattle.scan.specs.Compare.{sameBytes}
+use Rattle.scan.proofs.Step.{not-so}
 use Rattle.scan.proofs.CompareLaws.{bytes-same}
 use Rattle.hex.specs.Hex.{hexes}
 use Rattle.hex.proofs.Texts.{length-hexes}
@@ -27,10 +28,6 @@ use Rattle.keys.specs.declared.KeyRead.the-variants.{Keyed, Keyless}
 use Rattle.keys.specs.Key as key
 use Rattle.keys.specs.Key.{isReplaceable, isLabelled, Label, none, label, isDTag, secondText, labelOf, labelKey, keyFor, keyOf}
 use Rattle.keys.specs.Place.{isD, secondAt, labelAt, keyAt, keyThere}
-
-not-so : (x : Bool) → (x ≡ true → ⊥) → x ≡ false
-not-so true f = absurd (f refl)
-not-so false f = refl
 
 module _ (s : List ℕ) where
   -- `d` by its part is `d` by its text

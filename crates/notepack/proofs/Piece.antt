@@ -13,7 +13,7 @@ use lib.Dec.{eqb}
 use borrow.Author.Tests.{eq-eqb, ne-eqb, eqb-true}
 use Rattle.scan.specs.Choice.{pick, either}
 use Rattle.scan.specs.Span.{IsBytes, none, also}
-use Rattle.scan.proofs.Step.{pick-by, false-true}
+use Rattle.scan.proofs.Step.{not-so, pick-by, false-true}
 use Rattle.varint.specs.Uleb.{Spells, uleb}
 use Rattle.varint.proofs.UlebLaws.{uleb-spells, uleb-shortest, uleb-last, length-last, length-more, length-one, spells-one, spells-unique, spells-value}
 use Rattle.hex.specs.Hex.{hexes, unhex, goesAsBytes}
@@ -114,10 +114,6 @@ bytes-none {w} d =
 pub bytes-piece : (p : List ℕ) {w : List ℕ} → IsBytes p → Spells (2 * length p + 1) w → Piece (packElement (hexes p)) (w ++ p) (eqb (length p) 0)
 bytes-piece [] b d = bytes-none d
 bytes-piece (x ∷ p) b d = rw (ne-eqb (suc (length p)) 0 (λ e. omega arith)) (bytes-some (x ∷ p) (omega arith) b d)
-
-not-so : (x : Bool) → (x ≡ true → ⊥) → x ≡ false
-not-so true f = absurd (f refl)
-not-so false f = refl
 
 -- whether the bytes are the strict ones
 pub piece-decides : {a l : List ℕ} {h : Bool} → Piece a l h → sameBytes l a ≡ pick (eqb (length a) (length l)) (not h) false

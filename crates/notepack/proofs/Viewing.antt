@@ -11,7 +11,7 @@ use lib.ListN.{length, take, drop}
 use lib.Dec.{ltb, leb, eqb}
 use borrow.Author.Tests.{lt-ltb, le-ltb}
 use Rattle.scan.specs.Choice.{pick, Answer, shown, refused, Read, read, andThen, many}
-use Rattle.scan.proofs.Many.{then-shown, many-at, many-count}
+use Rattle.scan.proofs.Many.{pick-shown, then-shown, many-at, many-count}
 use Rattle.event.specs.Event.{Event}
 use Rattle.notepack.specs.declared.Part.{Part}
 use Rattle.notepack.specs.declared.Head.{Head}
@@ -45,17 +45,13 @@ walk-nth item i n at v e h =
     let k = many-count item i at (m .0) (m .3) in
     (m .0 .next, m .1 .next, m .1 .value, m .0 .value, m .3, m .4, ap (nth i) (m .5) ∙ nth-behind i (m .0 .value) (m .1 .value) (m .2) k)
 
-pick-shown : {A : Type 0} (t : Bool) (x : Answer A) (n q : ℕ) (a : A) → pick t x (refused n q) ≡ shown a → x ≡ shown a
-pick-shown true x n q a e = e
-pick-shown false x n q a e = let z : _≡_ {A = ℕ} 0 1 = cc in absurd (omega arith)
-
 -- what stands in front of a packed event's tags
 pub packed-head : (s : List ℕ) (p : Packed) → packedAt s ≡ shown p → headAt s ≡ shown (p .head)
 unfolding packedAt
 packed-head s p e =
-    let h = then-shown (headAt s) _ p (pick-shown (leb (length s) 65_536) _ 1 0 p e) in
+    let h = then-shown (headAt s) _ p (pick-shown (leb (length s) 65_536) _ 1 0 p e .1) in
     let t = then-shown (tagsAt (h .0 .«tag_count») s (h .0 .«tags_at»)) _ p (h .2) in
-    let q = pick-shown (eqb (t .0 .next) (length s)) (shown (record { head = h .0; tags = t .0 .value })) 10 (t .0 .next) p (t .2) in
+    let q = pick-shown (eqb (t .0 .next) (length s)) (shown (record { head = h .0; tags = t .0 .value })) 10 (t .0 .next) p (t .2) .1 in
     let f : _≡_ {A = Packed} (record { head = h .0; tags = t .0 .value }) p = cc in
     h .1 ∙ ap (λ (q : Packed). shown (q .head)) f
 
@@ -63,9 +59,9 @@ packed-head s p e =
 pub packed-apart : (s : List ℕ) (p : Packed) → packedAt s ≡ shown p → (e : ℕ) × (tagsAt (p .head .«tag_count») s (p .head .«tags_at») ≡ read (p .tags) e)
 unfolding packedAt
 packed-apart s p e =
-    let h = then-shown (headAt s) _ p (pick-shown (leb (length s) 65_536) _ 1 0 p e) in
+    let h = then-shown (headAt s) _ p (pick-shown (leb (length s) 65_536) _ 1 0 p e .1) in
     let t = then-shown (tagsAt (h .0 .«tag_count») s (h .0 .«tags_at»)) _ p (h .2) in
-    let q = pick-shown (eqb (t .0 .next) (length s)) (shown (record { head = h .0; tags = t .0 .value })) 10 (t .0 .next) p (t .2) in
+    let q = pick-shown (eqb (t .0 .next) (length s)) (shown (record { head = h .0; tags = t .0 .value })) 10 (t .0 .next) p (t .2) .1 in
     let f : _≡_ {A = Packed} (record { head = h .0; tags = t .0 .value }) p = cc in
     go (t .0 .next) f (t .1)
   where

@@ -6,13 +6,14 @@ use mathlib.Core.Bool.{Bool, true, false}
 use mathlib.Core.List.{List, [], _∷_, _++_, append-nil, map}
 use Rattle.scan.specs.Choice.{Answer, shown, Read, read}
 use Rattle.scan.specs.Span.{Span, here, All, none, also}
-use Rattle.scan.proofs.SpanLaws.{join, cut, none-span}
+use Rattle.scan.proofs.SpanLaws.{join, cut, none-span, respell}
+use Rattle.scan.proofs.Many.{after, shown-same}
 use Rattle.escape.specs.Escape.{nsonByte}
 use Rattle.event.specs.Event.{Tag}
 use Rattle.jsontags.specs.TagText.{quoted, commaed, array, tagText, tagsText}
 use Rattle.nson.specs.Nson.{bytesIn}
 use Rattle.nson.specs.Read.{pieceAt, commaAt, itemsAt, arrayAt, itemAt, tagAt, tagsAt}
-use Rattle.nson.proofs.Pieces.{after, shown-same, respell, piece-shown, piece-accepts}
+use Rattle.nson.proofs.Pieces.{piece-shown, piece-accepts}
 use Rattle.nson.proofs.Texts.{Spelled, Good, item-shown, item-accepts}
 
 -- ---- commas: in front of each item but the first

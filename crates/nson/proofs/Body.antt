@@ -7,7 +7,8 @@ use lib.ListN.{length}
 use borrow.Author.Tests.{leb-true, le-leb}
 use Rattle.scan.specs.Choice.{shown, Read, read}
 use Rattle.scan.specs.Span.{Span, All}
-use Rattle.scan.proofs.SpanLaws.{join, cut}
+use Rattle.scan.proofs.SpanLaws.{join, cut, respell}
+use Rattle.scan.proofs.Many.{after, pick-shown, shown-same}
 use Rattle.decimal.specs.Decimal.{decimal}
 use Rattle.escape.specs.Escape.{nsonByte, escaped}
 use Rattle.event.specs.Event.{Text, Tag}
@@ -15,7 +16,7 @@ use Rattle.jsontext.specs.Escape.{unescape}
 use Rattle.jsontags.specs.TagText.{tagsText}
 use Rattle.nson.specs.Nson.{kindLabel, contentLabel, tagsLabel, endLabel, Counts, bytesIn}
 use Rattle.nson.specs.Read.{pieceAt, partAt, decimalAt, textAt, kindAt, tagsAt, kindPartAt, contentPartAt, tagsPartAt, Body, bodyAt}
-use Rattle.nson.proofs.Pieces.{after, pick-shown, shown-same, respell, piece-shown, piece-accepts, decimal-shown, decimal-accepts}
+use Rattle.nson.proofs.Pieces.{piece-shown, piece-accepts, decimal-shown, decimal-accepts}
 use Rattle.nson.proofs.Texts.{Spelled, Good, text-shown, text-accepts}
 use Rattle.nson.proofs.Arrays.{tags-shown, tags-accept}
 

@@ -9,7 +9,8 @@ use lib.ListN.{length}
 use borrow.Author.Tests.{le-leb, eq-eqb}
 use Rattle.scan.specs.Choice.{shown, read}
 use Rattle.scan.specs.Span.{Span}
-use Rattle.scan.proofs.SpanLaws.{cut, cut-at, span-length, input-span}
+use Rattle.scan.proofs.SpanLaws.{cut, cut-at, span-length, input-span, respell, part-of-span}
+use Rattle.scan.proofs.Many.{shown-same}
 use Rattle.hex.specs.Hex.{hexes, unhex}
 use Rattle.hex.proofs.Texts.{length-hexes, hexes-digits, unhex-hexes}
 use Rattle.decimal.specs.Decimal.{decimal}
@@ -18,7 +19,7 @@ use Rattle.event.specs.Event.{Event, Bytes, Valid}
 use Rattle.nson.specs.Nson.{idLabel, pubkeyLabel, sigLabel, timeLabel, nsonLabel, counts, field, headText, bodyText, nson}
 use Rattle.nson.specs.Carries.{Carries}
 use Rattle.nson.specs.Read.{hexAt, labelledAt, keysAt, timeAt, headAt, Body, eventOf, eventAt, readNson}
-use Rattle.nson.proofs.Pieces.{shown-same, respell, part-of-span, piece-accepts, hex-accepts, decimal-accepts}
+use Rattle.nson.proofs.Pieces.{piece-accepts, hex-accepts, decimal-accepts}
 use Rattle.nson.proofs.Field.{counts-accept}
 use Rattle.nson.proofs.Body.{GoodBody, body-accepts}
 use Rattle.nson.proofs.Head.{keyAt}

@@ -9,12 +9,13 @@ use lib.Dec.{leb}
 use borrow.Author.Tests.{le-leb}
 use Rattle.scan.specs.Choice.{shown, Read, read}
 use Rattle.scan.specs.Span.{Span, here, step, All, none, also, IsBytes}
-use Rattle.scan.proofs.SpanLaws.{cut-at, span-length}
+use Rattle.scan.proofs.SpanLaws.{cut-at, span-length, respell}
+use Rattle.scan.proofs.Many.{after, pick-shown, shown-same}
 use Rattle.hex.specs.Hex.{Digit, hexes, unhex}
 use Rattle.hex.proofs.Texts.{hexes-digits, hexes-unhex, unhex-hexes}
 use Rattle.nson.specs.Nson.{word}
 use Rattle.nson.specs.Read.{hexAt, byteHere, wordHere, descriptorAt, byteCountAt, wordCountAt}
-use Rattle.nson.proofs.Pieces.{after, pick-shown, shown-same, respell, HexHere, hex-shown, hex-accepts}
+use Rattle.nson.proofs.Pieces.{HexHere, hex-shown, hex-accepts}
 
 -- ---- the byte and the number at a place
 

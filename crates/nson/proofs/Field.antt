@@ -9,12 +9,12 @@ use borrow.Author.Tests.{eqb-true, eq-eqb}
 use Rattle.scan.specs.Choice.{shown, Read, read, many}
 use Rattle.scan.specs.Span.{Span}
 use Rattle.scan.proofs.SpanLaws.{join, cut-at, span-length}
+use Rattle.scan.proofs.Many.{after, pick-shown, shown-same, many-shown, many-accepts}
 use Rattle.hex.specs.Hex.{hexes}
 use Rattle.hex.proofs.Texts.{length-hexes, hexes-digits}
 use Rattle.nson.specs.Nson.{Counts, word, tagCounts, descriptors, field}
 use Rattle.nson.specs.Read.{hexAt, byteHere, byteCountAt, wordCountAt, kindCountAt, tagCountsAt, countsTo, countsAt}
-use Rattle.nson.proofs.Pieces.{after, pick-shown, shown-same, hex-shown, hex-accepts}
-use Rattle.nson.proofs.Repeats.{many-shown, many-accepts}
+use Rattle.nson.proofs.Pieces.{hex-shown, hex-accepts}
 use Rattle.nson.proofs.Descriptors.{byte-most, byte-bytes, byte-digits, digits-byte, byte-count-shown, byte-count-accepts, word-count-shown, word-count-accepts}
 use Rattle.nson.proofs.Counts.{TagCounts, Holds, kind-count-shown, kind-count-accepts, tagHexes, tags-more, tag-counts-shown, tag-counts-accept}
 

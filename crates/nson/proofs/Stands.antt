@@ -7,12 +7,12 @@ use lib.ListN.{length}
 use borrow.Author.Tests.{leb-true, eqb-true}
 use Rattle.scan.specs.Choice.{shown, Read, read}
 use Rattle.scan.specs.Span.{Span, All}
-use Rattle.scan.proofs.SpanLaws.{join}
+use Rattle.scan.proofs.SpanLaws.{join, respell}
+use Rattle.scan.proofs.Many.{after, pick-shown, shown-same}
 use Rattle.decimal.specs.Decimal.{decimal}
 use Rattle.event.specs.Event.{Event, Bytes}
 use Rattle.nson.specs.Nson.{Counts, counts, descriptors, field, headText, bodyText, nson}
 use Rattle.nson.specs.Read.{headAt, countsAt, bodyAt, eventOf, eventAt, readNson}
-use Rattle.nson.proofs.Pieces.{after, pick-shown, shown-same, respell}
 use Rattle.nson.proofs.Texts.{Good}
 use Rattle.nson.proofs.Counts.{Holds}
 use Rattle.nson.proofs.Field.{counts-shown}

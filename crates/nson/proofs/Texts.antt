@@ -7,7 +7,8 @@ use lib.ListN.{length}
 use borrow.Author.Tests.{eqb-true, eq-eqb, ne-eqb}
 use Rattle.scan.specs.Choice.{shown, Read, read}
 use Rattle.scan.specs.Span.{Span, All}
-use Rattle.scan.proofs.SpanLaws.{join, cut, span-length}
+use Rattle.scan.proofs.SpanLaws.{join, cut, span-length, part-of-span, span-of-part}
+use Rattle.scan.proofs.Many.{after, pick-shown, shown-same}
 use Rattle.utf8.specs.Utf8.{Utf8}
 use Rattle.escape.specs.Escape.{Carried, nsonByte, escaped, meaning, plainFrom, plain}
 use Rattle.escape.specs.Quoted.{Quoted, none, bare, escape, NsonBare, nson-bare, NsonLetter, letter-n, letter-quote, letter-backslash}
@@ -24,7 +25,7 @@ use Rattle.nsonstring.proofs.Faults.{no-fault, faultless}
 use Rattle.jsontags.specs.TagText.{quoted}
 use Rattle.nson.specs.Nson.{bytesIn}
 use Rattle.nson.specs.Read.{pieceAt, partAt, textAt, itemAt}
-use Rattle.nson.proofs.Pieces.{after, pick-shown, shown-same, part-of-span, span-of-part, piece-shown, piece-accepts}
+use Rattle.nson.proofs.Pieces.{piece-shown, piece-accepts}
 
 -- ---- what a read says of its value
 

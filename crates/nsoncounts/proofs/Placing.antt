@@ -11,10 +11,9 @@ use borrow.Author.Tests.{eqb-false}
 use Rattle.scan.specs.Choice.{pick, Answer, shown, refused, Read, read, many}
 use Rattle.scan.specs.Place.{within}
 use Rattle.scan.proofs.Reading.{read-same}
-use Rattle.scan.proofs.Many.{many-apart, many-count}
+use Rattle.scan.proofs.Many.{many-apart, many-count, pick-shown, after, shown-same}
 use Rattle.nson.specs.Nson.{Counts}
 use Rattle.nson.specs.Read.{hexAt, byteHere, wordHere, descriptorAt, byteCountAt, wordCountAt, kindCountAt, itemCountAt, tagCountsAt, countsTo, countsAt}
-use Rattle.nson.proofs.Pieces.{pick-shown, after, shown-same}
 use Rattle.nsoncounts.specs.Counted.{nextOf, itemSizes, tagSizes, sizesOf, countsOf}
 use Rattle.nsoncounts.proofs.Laws.{next-shown}
 use Rattle.nsoncounts.proofs.Counting.{hex-next}

@@ -7,13 +7,13 @@ use mathlib.Core.List.{List, [], _∷_, _++_, append-assoc}
 use native.Mathlib.Omega.{arith}
 use Rattle.scan.specs.Choice.{shown, Read, read}
 use Rattle.scan.proofs.Reading.{read-same}
+use Rattle.scan.proofs.Many.{after}
 use Rattle.varint.specs.Uleb.{uleb}
 use Rattle.event.specs.Event.{Text, Tag}
 use Rattle.jsontext.specs.Escape.{unescape}
 use Rattle.notepack.specs.Strict.{packElement, packElements, packTag, packTags}
 use Rattle.notepack.proofs.Lengths.{tag-form}
 use Rattle.nson.specs.Read.{pieceAt, partAt, textAt, commaAt, itemsAt, arrayAt, itemAt, tagAt, wordHere, byteHere}
-use Rattle.nson.proofs.Pieces.{after}
 use Rattle.nsoncounts.specs.Counted.{itemSizes, tagSizes}
 use Rattle.nsonread.specs.Copy.{itemsText, itemsEnd, nsonTagsText}
 use Rattle.nsonwalk.proofs.Standing.{piece-next, text-next}

@@ -8,6 +8,7 @@ use native.Mathlib.Omega.{arith}
 use lib.ListN.{length}
 use lib.Dec.{leb, eqb}
 use Rattle.scan.specs.Choice.{pick, Answer, shown, refused, Read, read, andThen}
+use Rattle.scan.proofs.Many.{pick-shown, after, shown-same}
 use Rattle.buffer.specs.Store.{Wrote}
 use Rattle.buffer.specs.Entry.{writes, leaves}
 use Rattle.buffer.proofs.EntryLaws.{short, fitted}
@@ -15,7 +16,6 @@ use Rattle.event.specs.Event.{Event}
 use Rattle.notepack.specs.Strict.{packTags, pack}
 use Rattle.nson.specs.Nson.{tagCountsPlace, aroundKind, beforeTags, Counts}
 use Rattle.nson.specs.Read as nson
-use Rattle.nson.proofs.Pieces.{pick-shown, after, shown-same}
 use Rattle.nson.proofs.Head.{Head, head-shown}
 use Rattle.nsoncounts.specs.Counted.{tagSizes}
 use Rattle.nsoncounts.proofs.Placing.{Placed, counts-placed}

@@ -33,7 +33,7 @@ fn put_items(out: &mut [u8], at: usize, s: &[u8], n: usize, d: usize, from: usiz
     let mut place = from;
     while 0 < left {
         let size = nsoncounts::word_here(s, count_at);
-        o = stringelement::put_element(out, o, s, place + 1, size);
+        o = stringelement::put_spelled_element(out, o, s, place + 1, size);
         place += size + 3;
         count_at += 4;
         left -= 1;
@@ -80,7 +80,7 @@ fn put_nson_front(out: &mut [u8], at: usize, s: &[u8], w: NsonWalked) -> usize
     let d = varint::put_varint(out, c, w.created_at as u64);
     let e = varint::put_varint(out, d, w.kind as u64);
     let f = varint::put_varint(out, e, w.content_len as u64);
-    let g = jsontext::put_unescaped(out, f, s, content_at, z.content);
+    let g = jsonunescape::put_unescaped(out, f, s, content_at, z.content);
     varint::put_varint(out, g, z.tags as u64)
 }
 

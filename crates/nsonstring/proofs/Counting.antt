@@ -1,24 +1,20 @@
 -- The sums of a text block by block. `Counting t i n h`: no clash before i, and n and h with what is left make the sums of the whole.
 -- It begins behind the first byte, a block is one turn, and at the end it is `Simple`. A block is lent with the byte before it as its first.
-use Prim.Native.Nat.{ℕ, suc, _+_, _-_, _/_, _<_, _≤_}
-use mathlib.Core.Path.{_≡_, refl, sym, ap, _∙_}
-use mathlib.Core.List.{List, [], _∷_}
+use Prim.Native.Nat.{ℕ, _+_, _-_, _/_, _<_, _≤_}
+use mathlib.Core.Path.{_≡_, sym}
+use mathlib.Core.List.{List}
 use native.Mathlib.Omega.{arith}
 use lib.ListN.{length, getD, take, drop, length-drop}
 use lib.Seq.{length-take-le}
-use Rattle.scan.proofs.Step.{rest-more}
-use Rattle.jsontext.specs.Block.{neighbours}
-use Rattle.jsontext.proofs.Neighbours.{neighbours-none, neighbours-more, neighbours-split}
-use Rattle.nsonstring.specs.Simple.{clashOf, slashOf, highOf, Simple}
+use Rattle.scan.specs.Blocks.{neighbours}
+use Rattle.scan.proofs.BlockLaws.{neighbours-none, neighbours-more, lentSum, neighbours-block}
+use Rattle.jsonstring.specs.Loose.{clashOf}
+use Rattle.nsonstring.specs.Simple.{slashOf, highOf, Simple}
 use Rattle.nsonstring.proofs.Simple.{slash-space}
 
 -- the sum over what is left from i on
 abbrev left : (ℕ → ℕ → ℕ) → List ℕ → ℕ → ℕ
 left f t i = neighbours f (getD t (i - 1) 0) (drop i t)
-
--- the sum over a block that is lent with the byte before it
-abbrev over : (ℕ → ℕ → ℕ) → List ℕ → ℕ
-over f block = neighbours f (getD block 0 0) (drop 1 block)
 
 pub record Counting (t : List ℕ) (i n h : ℕ) : Type 0 where
   pub some : 1 ≤ i
@@ -46,29 +42,13 @@ counting-first t o q z b =
       above = sym a;
     }
 
-module _ (t : List ℕ) (i e : ℕ) (o : 1 ≤ i) (h : i ≤ e) (k : e ≤ length t) where
-  -- the block from i to e, with the byte before it
-  lent : take (e - (i - 1)) (drop (i - 1) t) ≡ getD t (i - 1) 0 ∷ take (e - i) (drop i t)
-  lent =
-      let a : i - 1 + 1 ≡ i = omega arith in
-      let b : e - (i - 1) ≡ suc (e - i) = omega arith in
-      let d : drop (i - 1) t ≡ getD t (i - 1) 0 ∷ drop i t = rest-more t (i - 1) (omega arith) ∙ ap (λ (j : ℕ). getD t (i - 1) 0 ∷ drop j t) a in
-      rw (b, d) refl
-
-  lent-length : length (take (e - (i - 1)) (drop (i - 1) t)) ≡ e - (i - 1)
-  lent-length = length-take-le (e - (i - 1)) (drop (i - 1) t) (omega (arith, length-drop (i - 1) t))
-
-  -- what is left is the block and what is left behind it
-  left-block : (f : ℕ → ℕ → ℕ) → left f t i ≡ over f (take (e - (i - 1)) (drop (i - 1) t)) + left f t e
-  left-block f =
-      let j : i + (e - i) ≡ e = omega arith in
-      let s = neighbours-split f t i (e - i) o (omega arith) in
-      let u : neighbours f (getD t (i - 1) 0) (drop i t) ≡ neighbours f (getD t (i - 1) 0) (take (e - i) (drop i t)) + neighbours f (getD t (e - 1) 0) (drop e t) = rw j at s in
-      u ∙ rw lent refl
+-- the length of a block that is lent with the byte before it
+lent-length : (t : List ℕ) (i e : ℕ) → 1 ≤ i → i ≤ e → e ≤ length t → length (take (e - (i - 1)) (drop (i - 1) t)) ≡ e - (i - 1)
+lent-length t i e o h k = length-take-le (e - (i - 1)) (drop (i - 1) t) (omega (arith, length-drop (i - 1) t))
 
 -- a block more
 pub counting-block : {t : List ℕ} {i n h : ℕ} (e : ℕ) {m x y : ℕ} → Counting t i n h → i ≤ e → e ≤ length t
-    → m ≡ over clashOf (take (e - (i - 1)) (drop (i - 1) t)) → x ≡ over slashOf (take (e - (i - 1)) (drop (i - 1) t)) → y ≡ over highOf (take (e - (i - 1)) (drop (i - 1) t))
+    → m ≡ lentSum clashOf (take (e - (i - 1)) (drop (i - 1) t)) → x ≡ lentSum slashOf (take (e - (i - 1)) (drop (i - 1) t)) → y ≡ lentSum highOf (take (e - (i - 1)) (drop (i - 1) t))
     → x < length (take (e - (i - 1)) (drop (i - 1) t)) → y < length (take (e - (i - 1)) (drop (i - 1) t)) → m ≡ 0 → Counting t e (n + x) (h + y)
 counting-block {t} {i} {n} {h} e {m} {x} {y} g o k q r v a b z =
     let w = lent-length t i e (g .some) o k in
@@ -77,9 +57,9 @@ counting-block {t} {i} {n} {h} e {m} {x} {y} g o k q r v a b z =
       inside = k;
       few = omega (arith, g .some, g .few, w, a);
       fewer = omega (arith, g .some, g .fewer, w, b);
-      clashes = omega (arith, g .clashes, left-block t i e (g .some) o k clashOf, q, z);
-      escapes = omega (arith, g .escapes, left-block t i e (g .some) o k slashOf, r);
-      above = omega (arith, g .above, left-block t i e (g .some) o k highOf, v);
+      clashes = omega (arith, g .clashes, neighbours-block clashOf t i e (g .some) o k q, z);
+      escapes = omega (arith, g .escapes, neighbours-block slashOf t i e (g .some) o k r);
+      above = omega (arith, g .above, neighbours-block highOf t i e (g .some) o k v);
     }
 
 -- nothing is left

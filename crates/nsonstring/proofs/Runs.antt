@@ -1,17 +1,17 @@
 -- The fast look from backslash to backslash: bare bytes and an escape before a quoted text are quoted.
 -- `Before t i`: if the text from i on is quoted, the whole is. A turn of the loop is one law.
 use Prim.Native.Nat.{ℕ, _+_, _-_, _<_, _≤_}
-use mathlib.Core.Path.{_≡_, refl, sym, ap, _∙_}
+use mathlib.Core.Path.{_≡_, sym, ap, _∙_}
 use mathlib.Core.Bool.{Bool, true}
-use mathlib.Core.List.{List, [], _∷_, _++_, append-nil}
+use mathlib.Core.List.{List, _∷_, _++_}
 use native.Mathlib.Omega.{arith}
 use lib.ListN.{length, getD, take, drop}
 use Rattle.scan.specs.Span.{All, also}
 use Rattle.scan.proofs.Step.{rest-none, rest-more}
 use Rattle.escape.specs.Quoted.{Quoted, none, bare, escape, NsonBare, NsonLetter}
 use Rattle.escape.proofs.BlockLaws.{rest-block}
-use Rattle.jsontext.specs.Escape.{plainAt}
-use Rattle.jsontext.proofs.Unescape.{run-onward, run-inside, run-slash}
+use Rattle.jsonunescape.specs.Run.{backslashAt}
+use Rattle.jsonunescape.proofs.Unescape.{run-onward, run-slash}
 use Rattle.nsonstring.specs.Counted.{isLetter}
 use Rattle.nsonstring.proofs.Faults.{test-letter, letter-place}
 
@@ -26,7 +26,7 @@ all-bare All.none q = q
 all-bare (also h r) q = bare h (all-bare r q)
 
 -- bare bytes are passed
-after-run : {t : List ℕ} {i : ℕ} (e : ℕ) → e ≡ plainAt t i → All NsonBare (take (e - i) (drop i t)) → Before t i → Before t e
+after-run : {t : List ℕ} {i : ℕ} (e : ℕ) → e ≡ backslashAt t i → All NsonBare (take (e - i) (drop i t)) → Before t i → Before t e
 after-run {t} {i} e q b p = record { back = λ r. p .back (rw (rest-block t i e (run-onward t i q)) (all-bare b r)) }
 
 -- an escape is passed
@@ -39,7 +39,7 @@ after-escape {t} {e} h s g p =
     record { back = λ r. p .back (rw q (escape (test-letter c g) r)) }
 
 -- a turn: a run and the escape behind it
-pub turn : {t : List ℕ} {i : ℕ} {part : List ℕ} {b : ℕ} {l : Bool} (e : ℕ) → e ≡ plainAt t i → part ≡ take (e - i) (drop i t) → All NsonBare part → e < length t
+pub turn : {t : List ℕ} {i : ℕ} {part : List ℕ} {b : ℕ} {l : Bool} (e : ℕ) → e ≡ backslashAt t i → part ≡ take (e - i) (drop i t) → All NsonBare part → e < length t
     → b ≡ getD t (e + 1) 0 → l ≡ isLetter b → l ≡ true → Before t i → (i ≤ e) × (e + 2 ≤ length t) × Before t (e + 2)
 turn {t} {i} e q r a h b l g p =
     let k : isLetter (getD t (e + 1) 0) ≡ true = ap isLetter (sym b) ∙ sym l ∙ g in
@@ -51,5 +51,5 @@ pub at-end : {t : List ℕ} {i : ℕ} → length t ≤ i → Before t i → Quot
 at-end {t} {i} h p = p .back (rw (rest-none t i h) none)
 
 -- a run up to the end
-pub run-end : {t : List ℕ} {i : ℕ} (e : ℕ) → e ≡ plainAt t i → All NsonBare (take (e - i) (drop i t)) → length t ≤ e → Before t i → Quoted NsonBare NsonLetter t
+pub run-end : {t : List ℕ} {i : ℕ} (e : ℕ) → e ≡ backslashAt t i → All NsonBare (take (e - i) (drop i t)) → length t ≤ e → Before t i → Quoted NsonBare NsonLetter t
 run-end e q b h p = at-end h (after-run e q b p)

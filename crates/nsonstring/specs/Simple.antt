@@ -1,22 +1,10 @@
 -- Texts whose escapes are \n and \" alone: what a byte and the one before it add to the sums that tell. Assumes nothing.
-use Prim.Native.Nat.{ℕ, _+_, _-_, _/_}
+use Prim.Native.Nat.{ℕ, _-_, _/_}
 use mathlib.Core.Path.{_≡_}
 use mathlib.Core.List.{List}
 use lib.ListN.{length, getD}
-use lib.Dec.{ltb, eqb}
-use Rattle.scan.specs.Choice.{pick}
-use Rattle.jsontext.specs.Block.{neighbours}
-
--- 1 where b is x, and else 0
-unfoldable pub isOne : ℕ → ℕ → ℕ
-isOne b x = pick (eqb b x) 1 0
-
-unfoldable pub isLow : ℕ → ℕ
-isLow b = pick (ltb b 0x20) 1 0
-
--- 0 where b may stand behind p: n or the quote behind a backslash, else no quote and no byte below 20
-unfoldable pub clashOf : ℕ → ℕ → ℕ
-clashOf p b = pick (eqb p 0x5C) (1 - isOne b 0x6E - isOne b 0x22) (isOne b 0x22 + isLow b)
+use Rattle.scan.specs.Blocks.{isOne, neighbours}
+use Rattle.jsonstring.specs.Loose.{clashOf}
 
 -- a backslash before, and a byte above ASCII
 unfoldable pub slashOf : ℕ → ℕ → ℕ

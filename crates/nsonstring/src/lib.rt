@@ -3,13 +3,13 @@ ghost use Prim.Native.Nat.{_<_, _≤_};
 ghost use mathlib.Core.Path.{_≡_};
 ghost use mathlib.Core.Bool.{true, false};
 ghost use lib.ListN.{length, getD, drop};
-ghost use Rattle.scan.specs.Choice.{pick};
-ghost use Rattle.jsontext.specs.Block.{neighbours};
+ghost use Rattle.scan.specs.Blocks.{neighbours};
 ghost use Rattle.jsontext.specs.Escape.{unescape};
 ghost use Rattle.scan.specs.Span.{All};
 ghost use Rattle.escape.specs.Quoted.{Quoted, NsonBare, NsonLetter};
 ghost use Rattle.nsonstring.specs.Counted.{isLetter, faultIn};
-ghost use Rattle.nsonstring.specs.Simple.{isOne, isLow, clashOf, slashOf, highOf, Simple};
+ghost use Rattle.jsonstring.specs.Loose.{clashOf};
+ghost use Rattle.nsonstring.specs.Simple.{slashOf, highOf, Simple};
 
 // Whether a byte behind a backslash makes an escape.
 fn is_letter(b: u8) -> bool
@@ -41,7 +41,7 @@ fn is_spelled(t: &[u8]) -> bool
 {
     let mut i = 0;
     while i < t.len() {
-        let e = jsontext::next_backslash(t, i);
+        let e = jsonunescape::next_backslash(t, i);
         if is_bare(scan::part(t, i, e - i)) {
             if t.len() <= e {
                 return true;
@@ -99,38 +99,6 @@ fn fault_in(t: &[u8]) -> u8
 
 // ---- the fault and the length in one look: most texts have no escape but \n and \"
 
-fn is_one(b: u8, x: u8) -> u8
-    ensures { λ r. ⌜ r ≡ isOne b x ⌝ }
-    ensures { λ r. ⌜ r ≤ 1 ⌝ }
-{
-    if b == x { 1 } else { 0 }
-}
-
-fn is_low(b: u8) -> u8
-    ensures { λ r. ⌜ r ≡ isLow b ⌝ }
-    ensures { λ r. ⌜ r ≤ 1 ⌝ }
-{
-    if b < 0x20 { 1 } else { 0 }
-}
-
-fn choose(t: bool, a: u8, b: u8) -> u8
-    ensures { λ r. ⌜ r ≡ pick t a b ⌝ }
-{
-    if t { a } else { b }
-}
-
-// 0 where b may stand behind a byte, in a text whose escapes are \n and \" alone. Both ways are reckoned and one is chosen, for vectors.
-fn clash(before: u8, b: u8) -> u8
-    ensures { λ r. ⌜ r ≡ clashOf before b ⌝ }
-    ensures { λ r. ⌜ r ≤ 1 ⌝ }
-{
-    choose(
-        before == b'\\',
-        1 - is_one(b, b'n') - is_one(b, b'"'),
-        is_one(b, b'"') + is_low(b),
-    )
-}
-
 // What the bytes of a block add up to: clashes with the byte before, backslashes before, bytes above ASCII.
 struct Sums {
     clashes: u8,
@@ -151,8 +119,8 @@ fn look_at(block: &[u8]) -> Sums
     let mut n: u8 = 0;
     let mut h: u8 = 0;
     while i < block.len() {
-        m += clash(block[i - 1], block[i]);
-        n += is_one(block[i - 1], b'\\');
+        m += jsonstring::clash(block[i - 1], block[i]);
+        n += scan::is_one(block[i - 1], b'\\');
         h += block[i] / 128;
         i += 1;
     }
@@ -185,7 +153,7 @@ fn count_simple(t: &[u8]) -> Count
     requires { ⌜ 1 ≤ length (now t) ⌝ }
     ensures { λ r. ⌜ (r .simple ≡ true → Simple (now (t .entry)) (r .slashes) (r .high)) ⌝ }
 {
-    if clash(0x20, t[0]) != 0 {
+    if jsonstring::clash(0x20, t[0]) != 0 {
         return no_count();
     }
     if t[t.len() - 1] == b'\\' {
@@ -245,6 +213,6 @@ pub fn look(t: &[u8]) -> Seen
         }
     }
     let fault = fault_in(&t[..]);
-    let len = jsontext::unescaped_len(&t[..], 0, t.len());
+    let len = jsonunescape::unescaped_len(&t[..], 0, t.len());
     Seen { fault, len }
 }

@@ -10,6 +10,7 @@ use lib.Dec.{leb, eqb}
 use Rattle.scan.specs.Choice.{pick, shown, refused, Read, read}
 use Rattle.scan.proofs.SpanLaws.{span-length}
 use Rattle.scan.proofs.Reading.{read-same}
+use Rattle.scan.proofs.Many.{pick-shown, after, shown-same}
 use Rattle.varint.specs.Uleb.{uleb}
 use Rattle.event.specs.Event.{Text, Tag, Event}
 use Rattle.jsontext.specs.Escape.{unescape}
@@ -17,7 +18,7 @@ use Rattle.notepack.specs.Strict.{packTags, pack}
 use Rattle.nsonstring.specs.Counted.{faultIn}
 use Rattle.nson.specs.Nson.{kindLabel, contentLabel, tagsLabel, endLabel, aroundKind, beforeTags, Counts}
 use Rattle.nson.specs.Read as nson
-use Rattle.nson.proofs.Pieces.{pick-shown, after, shown-same, piece-shown}
+use Rattle.nson.proofs.Pieces.{piece-shown}
 use Rattle.nson.proofs.Head.{Head}
 use Rattle.nsoncounts.specs.Counted.{sizesOf}
 use Rattle.nsonwalk.specs.declared.NsonWalked.{NsonWalked}

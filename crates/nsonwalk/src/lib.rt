@@ -74,7 +74,7 @@ fn counted_element_len(s: &[u8], from: usize, n: usize, len: usize) -> usize
     if len == n {
         return notepack::packed_text_len(scan::part(s, from, n));
     }
-    stringelement::element_len(s, from, n)
+    stringelement::spelled_element_len(s, from, n)
 }
 
 // The comma in front of an item that is not the first.

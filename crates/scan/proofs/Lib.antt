@@ -5,3 +5,5 @@ pub mod Reading
 pub mod AllLaws
 pub mod Many
 pub mod CompareLaws
+pub mod Fits
+pub mod BlockLaws

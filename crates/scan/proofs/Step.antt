@@ -36,6 +36,10 @@ false-true e = let n = ap kind e in omega arith
     kind true = 0
     kind false = 1
 
+pub not-so : (x : Bool) → (x ≡ true → ⊥) → x ≡ false
+not-so true f = absurd (f refl)
+not-so false f = refl
+
 -- two tests in a row, both passed
 pub pick-true : (t x : Bool) → pick t x false ≡ true → (t ≡ true) × (x ≡ true)
 pick-true true x h = (refl, h)

@@ -3,3 +3,4 @@ pub mod Place
 pub mod Span
 pub mod Ascii
 pub mod Compare
+pub mod Blocks

@@ -1,18 +1,19 @@
 -- A text is no longer than its spelling; what has no backslash is its own text.
 -- By induction over what is left: a byte that is no backslash, or an escape, which stands for no more than it takes.
-use Prim.Native.Nat.{ℕ, zero, suc, _+_, _*_, _-_, _/_, _<_, _≤_}
+use Prim.Native.Nat.{ℕ, zero, suc, _+_, _*_, _-_, _/_, _≤_}
 use mathlib.Core.Path.{_≡_, refl, sym, ap, _∙_}
 use mathlib.Core.Bool.{Bool, true, false}
-use mathlib.Core.List.{List, _∷_, _++_}
+use mathlib.Core.List.{List, _++_}
 use mathlib.Core.Logic.{dite}
 use native.Mathlib.Omega.{arith}
 use native.Mathlib.Decide.{decLt, ℕ-discrete}
 use lib.ListN.{length, getD, take, drop, length-take, length-drop}
 use Rattle.scan.proofs.Step.{rest-more}
 use Rattle.scan.proofs.AllLaws.{all-map}
-use Rattle.jsontext.specs.Escape.{escapeAt, orItself, plainAt, unescape}
+use Rattle.jsontext.specs.Escape.{escapeAt, orItself, unescape}
+use Rattle.jsonunescape.specs.Run.{backslashAt}
 use Rattle.jsontext.proofs.Meaning.{unescape-byte, unescape-itself}
-use Rattle.jsontext.proofs.Unescape.{unescape-end, taken, length-escape, unescape-whole}
+use Rattle.jsonunescape.proofs.Unescape.{unescape-end, taken, length-escape, unescape-whole}
 use Rattle.varint.specs.Uleb.{uleb}
 use Rattle.hex.specs.Hex.{Digit, number, letter, unhex, goesAsBytes}
 use Rattle.hex.proofs.Texts.{go-digits}
@@ -62,7 +63,7 @@ module _ {t l : List ℕ} {g : Bool} (p : t ≡ l) (a : g ≡ goesAsBytes t) whe
     digits-length = ap length own-digits ∙ length-as-bytes t g a h
 
   -- it doesn't, and has no backslash
-  module _ (h : g ≡ false) {e : ℕ} (q : e ≡ plainAt t 0) (k : length t ≤ e) where
+  module _ (h : g ≡ false) {e : ℕ} (q : e ≡ backslashAt t 0) (k : length t ≤ e) where
     own-plain : packElement (unescape l) ≡ packElement t
     own-plain = ap packElement (ap unescape (sym p) ∙ unescape-whole t q k)
 

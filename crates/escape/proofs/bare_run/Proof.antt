@@ -1,12 +1,12 @@
 -- `bare_run` keeps the least place of a byte that becomes two. The invariant: the run is that place, or ends further on.
--- Each turn is `run-more`; at the end the run is the least place, or the whole block.
+-- Each turn is `stop-more`; at the end the run is the least place, or the whole block.
 use Prim.Native.Nat.{_+_, _-_, _≤_, min}
 use mathlib.Core.Path.{_≡_}
 use native.Mathlib.Omega.{arith}
 use borrow.Author.Needs.{needs}
 use lib.ListN.{length, drop}
-use Rattle.escape.specs.Block.{runOf}
-use Rattle.escape.proofs.BlockLaws.{run-within, run-more, run-done}
+use Rattle.scan.proofs.BlockLaws.{stop-within, stop-more, stop-done}
+use Rattle.escape.specs.Block.{isEscaped, runOf}
 use Rattle.escape.proofs.bare_run.Statement.{statement}
 use Rattle.escape.proofs.bare_run.Tie as tie
 
@@ -21,7 +21,7 @@ again c =
     let turn = c .before .before .before .before in
     let q = turn .before .loop in
     let n = length (turn .before .before .before .args .block .now) in
-    (omega arith, omega arith, run-more _ _ (q .i) n (q .m) (q .inv .2) (turn .loop-test .taken) (q .inv .1) (c .before .before .is-escaped .ensures) (c .before .place-if .ensures) (c .lesser .ensures))
+    (omega arith, omega arith, stop-more (isEscaped _) _ (q .i) n (q .m) (q .inv .2) (turn .loop-test .taken) (q .inv .1) (c .before .before .is-escaped .ensures) (c .before .place-if .ensures) (c .lesser .ensures))
 
 pub bare-run-spec : {M : Type 1} → statement M
 bare-run-spec =
@@ -30,7 +30,7 @@ bare-run-spec =
     Inv-loop
     μ-loop
     (λ c. omega arith)
-    (λ c. let a = c .before .args in (omega arith, omega arith, omega (arith, run-within (a .all) (a .block .now))))
+    (λ c. let a = c .before .args in (omega arith, omega arith, omega (arith, stop-within (isEscaped (a .all)) (a .block .now))))
     (λ c. omega arith)
     (λ c κs. search needs)
     (λ c. omega arith)
@@ -39,4 +39,4 @@ bare-run-spec =
     (λ c. omega arith)
     (λ c. omega arith)
     again
-    (λ c. (search run-done, omega arith)))
+    (λ c. (search stop-done, omega arith)))

@@ -2,12 +2,10 @@ use borrow.Author.Needs.{needs}
 -- `is_spelled` goes from backslash to backslash. The invariant is `Before`: if the text from here on is quoted, the whole is.
 -- Each turn is one law of `Runs`; every way out with no says nothing.
 use Prim.Native.Nat.{_-_, _≤_}
-use mathlib.Core.Path.{sym, _∙_}
 use native.Mathlib.Omega.{arith}
 use lib.ListN.{length}
 use Rattle.scan.proofs.Step.{false-true}
-use Rattle.jsontext.proofs.Unescape.{run-onward, run-inside}
-use Rattle.nsonstring.proofs.Faults.{letter-place}
+use Rattle.jsonunescape.proofs.Unescape.{run-onward}
 use Rattle.nsonstring.proofs.Runs.{Before, at-start, turn, run-end, at-end}
 use Rattle.nsonstring.proofs.is_spelled.Statement.{statement}
 use Rattle.nsonstring.proofs.is_spelled.Tie as tie

@@ -19,4 +19,4 @@ returns c =
     (c .packed-text-len .ensures .0 ∙ ap (λ (l : List ℕ). length (packElement l)) (part ∙ sym (entry .pre (at-if1 .if1 .taken))), omega (arith, c .packed-text-len .ensures .1, part-most (entry .args .n) (entry .args .s .now) (entry .args .from) part))
 
 pub counted-element-len-spec : {M : Type 1} → statement M
-counted-element-len-spec = tie.close (tie.spec (λ c κs. search needs) (λ c κs. search needs) returns (λ c κs. search needs) (λ c. c .element-len .ensures))
+counted-element-len-spec = tie.close (tie.spec (λ c κs. search needs) (λ c κs. search needs) returns (λ c κs. search needs) (λ c. c .spelled-element-len .ensures))

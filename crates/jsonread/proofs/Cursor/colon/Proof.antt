@@ -1,7 +1,7 @@
 -- `colon` reads a colon and the value of field number k, and tells the fields with it found.
 -- By the laws of the colon for each outcome.
 use borrow.Author.Needs.{needs}
-use Rattle.jsontext.proofs.Fits.{next-fits}
+use Rattle.scan.proofs.Fits.{next-fits}
 use Rattle.jsonread.specs.Found.{fieldsOf, good, refused}
 use Rattle.jsonread.proofs.Members.{colon-not, colon-refused, colon-taken, colon-good}
 use Rattle.jsonread.proofs.Cursor.colon.Statement.{statement}

@@ -4,7 +4,7 @@ use Prim.Native.Nat.{_-_}
 use mathlib.Core.Path.{refl}
 use native.Mathlib.Omega.{arith}
 use borrow.Author.Needs.{needs}
-use Rattle.jsontext.proofs.Fits.{next-fits}
+use Rattle.scan.proofs.Fits.{next-fits}
 use Rattle.json.specs.Field.{tagAt}
 use Rattle.jsonread.specs.Size.{tagSize}
 use Rattle.jsonread.proofs.Items.{InItems, items-none, items-start, items-refused, items-closed, items-other, items-full, items-room, items-again}

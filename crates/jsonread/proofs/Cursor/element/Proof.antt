@@ -3,16 +3,17 @@
 use mathlib.Core.Path.{sym, ap, _∙_}
 use borrow.Author.Needs.{needs}
 use Rattle.jsonread.specs.Size.{elementSize}
-use Rattle.jsonread.specs.Answers.{textRead}
-use Rattle.jsonread.proofs.Plain.{plain-own, text-of, no-text, same-size}
+use Rattle.jsonstring.specs.Answers.{textRead}
+use Rattle.jsonstring.proofs.PlainLaws.{told-own}
+use Rattle.jsonread.proofs.Plain.{text-of, no-text, same-size}
 use Rattle.jsonread.proofs.Cursor.element.Statement.{statement}
 use Rattle.jsonread.proofs.Cursor.element.Tie as tie
 
 own-text : tie.Need-returns
 own-text c =
     let a = c .before .before .before .before .before .before .before .args in
-    let own = plain-own (c .before .before .before .before .before .spelled .ensures .1) (c .before .before .before .found .given .1) in
-    rw (same-size (c .packed-text-len .ensures .0) (c .before .part .ensures) own) (text-of (a .s .now) (a .self .at) elementSize (sym (c .before .before .before .before .before .spelled .ensures .0) ∙ ap textRead (c .before .before .before .found .given .1)))
+    let own = told-own (c .before .before .before .before .before .read-text .ensures .1) (c .before .before .before .found .given .1) in
+    rw (same-size (c .packed-text-len .ensures .0) (c .before .part .ensures) own) (text-of (a .s .now) (a .self .at) elementSize (sym (c .before .before .before .before .before .read-text .ensures .0) ∙ ap textRead (c .before .before .before .found .given .1)))
 
 pub element-spec : {M : Type 1} → statement M
 element-spec =
@@ -28,5 +29,5 @@ element-spec =
     own-text
     (λ c.
     let a = c .before .before .before .before .before .before .args in
-    rw (c .element-len .ensures) (text-of (a .s .now) (a .self .at) elementSize (sym (c .before .before .before .before .spelled .ensures .0) ∙ ap textRead (c .before .before .found2 .given .1))))
-    (λ c. let a = c .before .before .before .before .before .args in no-text (a .s .now) (a .self .at) elementSize (sym (c .before .before .before .spelled .ensures .0) ∙ ap textRead (c .before .found3 .given .1))))
+    rw (c .element-len .ensures) (text-of (a .s .now) (a .self .at) elementSize (sym (c .before .before .before .before .read-text .ensures .0) ∙ ap textRead (c .before .before .found2 .given .1))))
+    (λ c. let a = c .before .before .before .before .before .args in no-text (a .s .now) (a .self .at) elementSize (sym (c .before .before .before .read-text .ensures .0) ∙ ap textRead (c .before .found3 .given .1))))

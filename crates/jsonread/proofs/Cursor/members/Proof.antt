@@ -5,7 +5,7 @@ use lib.ListN.{length}
 use borrow.Author.Needs.{needs}
 use mathlib.Core.Path.{sym, _∙_}
 use native.Mathlib.Omega.{arith}
-use Rattle.jsontext.proofs.Fits.{byte-positive}
+use Rattle.scan.proofs.Fits.{byte-positive}
 use Rattle.jsonread.specs.Found.{packs, refused}
 use Rattle.jsonread.proofs.Members.{InMembers, members-start, members-refused, members-closed, members-missing, members-other, members-pack, members-again, members-less}
 use Rattle.jsonread.proofs.Cursor.members.Statement.{statement}

@@ -3,16 +3,17 @@
 use mathlib.Core.Path.{sym, ap, _∙_}
 use borrow.Author.Needs.{needs}
 use Rattle.json.specs.Field.{fieldOf}
-use Rattle.jsonread.specs.Answers.{textRead}
-use Rattle.jsonread.proofs.Plain.{plain-own, text-of, no-text}
+use Rattle.jsonstring.specs.Answers.{textRead}
+use Rattle.jsonstring.proofs.PlainLaws.{told-own}
+use Rattle.jsonread.proofs.Plain.{text-of, no-text}
 use Rattle.jsonread.proofs.Cursor.name.Statement.{statement}
 use Rattle.jsonread.proofs.Cursor.name.Tie as tie
 
 own-text : tie.Need-returns
 own-text c =
     let a = c .before .before .before .before .before .before .before .args in
-    let own = plain-own (c .before .before .before .before .before .spelled .ensures .1) (c .before .before .before .found .given .1) in
-    rw (c .field-spelled .ensures ∙ ap fieldOf (c .before .part .ensures ∙ sym own)) (text-of (a .s .now) (a .self .at) fieldOf (sym (c .before .before .before .before .before .spelled .ensures .0) ∙ ap textRead (c .before .before .before .found .given .1)))
+    let own = told-own (c .before .before .before .before .before .read-text .ensures .1) (c .before .before .before .found .given .1) in
+    rw (c .field-spelled .ensures ∙ ap fieldOf (c .before .part .ensures ∙ sym own)) (text-of (a .s .now) (a .self .at) fieldOf (sym (c .before .before .before .before .before .read-text .ensures .0) ∙ ap textRead (c .before .before .before .found .given .1)))
 
 pub name-spec : {M : Type 1} → statement M
 name-spec =
@@ -28,5 +29,5 @@ name-spec =
     own-text
     (λ c.
     let a = c .before .before .before .before .before .before .args in
-    rw (c .field-of .ensures) (text-of (a .s .now) (a .self .at) fieldOf (sym (c .before .before .before .before .spelled .ensures .0) ∙ ap textRead (c .before .before .found2 .given .1))))
-    (λ c. let a = c .before .before .before .before .before .args in no-text (a .s .now) (a .self .at) fieldOf (sym (c .before .before .before .spelled .ensures .0) ∙ ap textRead (c .before .found3 .given .1))))
+    rw (c .field-of .ensures) (text-of (a .s .now) (a .self .at) fieldOf (sym (c .before .before .before .before .read-text .ensures .0) ∙ ap textRead (c .before .before .found2 .given .1))))
+    (λ c. let a = c .before .before .before .before .before .args in no-text (a .s .now) (a .self .at) fieldOf (sym (c .before .before .before .read-text .ensures .0) ∙ ap textRead (c .before .found3 .given .1))))

@@ -2,7 +2,7 @@
 -- By the laws of the object for each outcome.
 use mathlib.Core.Path.{_∙_}
 use borrow.Author.Needs.{needs}
-use Rattle.jsontext.proofs.Fits.{next-fits}
+use Rattle.scan.proofs.Fits.{next-fits}
 use Rattle.jsonread.specs.Found.{refused}
 use Rattle.jsonread.proofs.Members.{object-not, object-empty, object-members, object-first}
 use Rattle.jsonread.proofs.Cursor.object.Statement.{statement}

@@ -2,7 +2,7 @@
 -- By the laws of a tag for each outcome.
 use native.Mathlib.Omega.{arith}
 use borrow.Author.Needs.{needs}
-use Rattle.jsontext.proofs.Fits.{next-fits}
+use Rattle.scan.proofs.Fits.{next-fits}
 use Rattle.jsonread.proofs.Weights.{tag-not, tag-refused, tag-room, tag-empty, tag-taken}
 use Rattle.jsonread.proofs.Cursor.tag.Statement.{statement}
 use Rattle.jsonread.proofs.Cursor.tag.Tie as tie

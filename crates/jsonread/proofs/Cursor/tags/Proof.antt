@@ -2,7 +2,7 @@
 -- By the laws of the tags for each outcome.
 use native.Mathlib.Omega.{arith}
 use borrow.Author.Needs.{needs}
-use Rattle.jsontext.proofs.Fits.{next-fits}
+use Rattle.scan.proofs.Fits.{next-fits}
 use Rattle.jsonread.specs.Found.{saysAs, found, refused}
 use Rattle.jsonread.proofs.Weights.{tags-not, tags-refused, tags-weighed, tags-taken, tags-found}
 use Rattle.jsonread.proofs.Cursor.tags.Statement.{statement}
