@@ -17,13 +17,13 @@ use Rattle.scan.proofs.Many.{then-shown, many-apart}
 use Rattle.varint.specs.Varint.{varintAt}
 use Rattle.event.specs.Event.{Event}
 use Rattle.notepack.specs.declared.Part.{Part}
-use Rattle.notepack.specs.Unpack.{bytesOf, textOf, payloadAt, textAt, elementAt, elementsAt, tagCountAt, tagAt, tagsAt, Packed, packedAt, eventOf, unpack}
+use Rattle.notepack.specs.Unpack.{bytesOf, textOf, payloadAt, textAt, numberAt, elementAt, elementsAt, tagCountAt, tagAt, tagsAt, Packed, packedAt, eventOf, unpack}
 use Rattle.notepack.specs.Again.{elementPartAt, partAgain, countAgain, textsAgain, textsEnd, tagsAgain, eventAgain}
 use Rattle.notepack.specs.Strict.{pack}
 use Rattle.notepack.specs.Tally.{hollowTags, tallyOf}
 use Rattle.notepack.specs.Answers.{Walked, walkAt}
 use Rattle.notepack.proofs.Piece.{Piece}
-use Rattle.notepack.proofs.Sound.{Number, text-reads, sized-text, count-reads, head-gives, packed-gives, Shows, sound}
+use Rattle.notepack.proofs.Sound.{Number, text-reads, sized-text, number-reads, head-gives, packed-gives, Shows, sound}
 use Rattle.notepack.proofs.Walking.{walked-packed}
 use Rattle.notepack.proofs.Viewing.{packed-head, packed-apart, tag-apart}
 
@@ -97,6 +97,15 @@ module _ (s : List ℕ) where
       let q = part-again at (a .0) (a .2) in
       (rw (q, b .0) (ap (map (textOf s)) (sym (a .4))), rw q (b .1 ∙ sym (a .5)))
 
+  -- a tag's number of texts is a number that is not 0
+  count-number : (at : ℕ) (n : Read ℕ) → tagCountAt s at ≡ shown n → numberAt 255 8 s at ≡ shown n
+  unfolding tagCountAt
+  count-number at n e = let a = then-shown (numberAt 255 8 s at) _ n e in a .1 ∙ go (eqb (a .0 .value) 0) (a .2)
+    where
+      go : (t : Bool) {x : Read ℕ} → pick t (refused 9 at) (shown x) ≡ shown n → shown x ≡ shown n
+      go true k = let z : _≡_ {A = ℕ} 0 1 = cc in absurd (omega arith)
+      go false k = k
+
   pub tags-again : (n at : ℕ) (v : Read (List (List Part))) → tagsAt n s at ≡ shown v → tagsAgain n s at ≡ map (map (textOf s)) (v .value)
   unfolding tagsAgain countAgain many
   tags-again zero at v e = ap (map (map (textOf s))) (read-same e .0)
@@ -104,15 +113,15 @@ module _ (s : List ℕ) where
       let a = many-apart (tagAt s) n at v e in
       let t = tag-apart s at (a .0 .next) (a .0 .value) (a .2) in
       let w = texts-again (length (a .0 .value)) (t .0) _ (t .2) in
-      rw (t .1, w .0, w .1, tags-again n (a .0 .next) (a .1) (a .3)) (ap (map (map (textOf s))) (sym (a .4)))
+      rw (count-number at _ (t .1), w .0, w .1, tags-again n (a .0 .next) (a .1) (a .3)) (ap (map (map (textOf s))) (sym (a .4)))
 
   -- a tag has at most 255 texts
   pub count-few : IsBytes s → (at : ℕ) → countAgain s at .value ≤ 255
   unfolding countAgain
-  count-few bytes at = go (tagCountAt s at) (count-reads s bytes at)
+  count-few bytes at = go (numberAt 255 8 s at) (number-reads s bytes 255 8 at)
     where
-      go : (r : Answer (Read ℕ)) → Reads (λ (n : ℕ) (l : List ℕ). Number 255 n l × (1 ≤ n)) s at r → orElse (record { value = 0; next = at }) r (λ (n : Read ℕ). n) .value ≤ 255
-      go (shown v) g = shown-reads g .1 .0 .within
+      go : (r : Answer (Read ℕ)) → Reads (Number 255) s at r → orElse (record { value = 0; next = at }) r (λ (n : Read ℕ). n) .value ≤ 255
+      go (shown v) g = shown-reads g .1 .within
       go (refused n q) g = omega arith
 
   -- ---- the whole

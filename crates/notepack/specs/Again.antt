@@ -10,7 +10,7 @@ use Rattle.varint.specs.Varint.{varintAt}
 use Rattle.event.specs.Event.{Text, Tag, Event}
 use Rattle.notepack.specs.declared.Part.{Part}
 use Rattle.notepack.specs.declared.Head.{Head}
-use Rattle.notepack.specs.Unpack.{partOf, textOf, payloadAt, tagCountAt}
+use Rattle.notepack.specs.Unpack.{partOf, textOf, payloadAt, numberAt}
 
 -- an element's part. Its text was tested by the reader and is not tested again.
 unfoldable pub elementPartAt : List ℕ → ℕ → Answer (Read Part)
@@ -22,9 +22,9 @@ elementPartAt s at =
 unfoldable pub partAgain : List ℕ → ℕ → Read Part
 partAgain s at = orElse (record { value = partOf at 0 false; next = at }) (elementPartAt s at) λ p. p
 
--- a tag's number of texts; 0, and the place stays, where none is read
+-- a tag's number of texts, which the reader tested; 0, and the place stays, where none is read
 unfoldable pub countAgain : List ℕ → ℕ → Read ℕ
-countAgain s at = orElse (record { value = 0; next = at }) (tagCountAt s at) λ n. n
+countAgain s at = orElse (record { value = 0; next = at }) (numberAt 255 8 s at) λ n. n
 
 -- n texts, and where they end
 unfoldable pub textsAgain : ℕ → List ℕ → ℕ → List Text

@@ -620,7 +620,7 @@ pub fn count_again(s: &[u8], at: usize) -> CountAgain
     ensures { λ r. ⌜ r .count ≡ countAgain (now (s .entry)) at .value ⌝ }
     ensures { λ r. ⌜ r .next ≡ countAgain (now (s .entry)) at .next ⌝ }
 {
-    let found = Cursor { at }.tag_count(s);
+    let found = Cursor { at }.number(s, event::MAX_TEXTS, event::TOO_MANY);
     match found {
         NumberRead::Number(count, behind) => CountAgain {
             count,

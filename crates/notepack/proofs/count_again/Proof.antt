@@ -8,11 +8,11 @@ use Rattle.notepack.proofs.count_again.Tie as tie
 
 found : tie.Need-returns
 unfolding countAgain
-found c = rw (← c .before .before .before .tag-count .ensures, c .before .found .given .1) (refl, refl)
+found c = rw (← c .before .before .before .number .ensures, c .before .found .given .1) (refl, refl)
 
 refused : tie.Need-returns-2
 unfolding countAgain
-refused c = rw (← c .before .before .tag-count .ensures, c .enum-told .given .1) (refl, refl)
+refused c = rw (← c .before .before .number .ensures, c .enum-told .given .1) (refl, refl)
 
 pub count-again-spec : {M : Type 1} → statement M
 count-again-spec = tie.close (tie.spec (λ c κs. search needs) (λ c. search needs) (λ c. search needs) found refused)
