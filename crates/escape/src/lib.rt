@@ -1,5 +1,5 @@
 // The escapings of texts, in the canonical text and in NSON: how long an escaped text is, and the text.
-ghost use Prim.Native.Nat.{_+_, _*_, _≤_, min};
+ghost use Prim.Native.Nat.{_+_, _*_, _≤_};
 ghost use mathlib.Core.Path.{_≡_};
 ghost use lib.ListN.{length};
 ghost use Rattle.scan.specs.Choice.{pick};
@@ -137,18 +137,6 @@ fn put_each(all: bool, out: &mut [u8], at: usize, s: &[u8]) -> usize
     o
 }
 
-fn place_if(t: bool, i: u8, n: u8) -> u8
-    ensures { λ r. ⌜ r ≡ pick t i n ⌝ }
-{
-    if t { i } else { n }
-}
-
-fn lesser(a: u8, b: u8) -> u8
-    ensures { λ r. ⌜ r ≡ min a b ⌝ }
-{
-    if a < b { a } else { b }
-}
-
 // How many bytes of a block stand before the first that becomes two. No exit on the way, and a minimum of bytes: a loop for vectors.
 fn bare_run(all: bool, block: &[u8]) -> u8
     requires { ⌜ length (now block) ≤ 64 ⌝ }
@@ -159,7 +147,7 @@ fn bare_run(all: bool, block: &[u8]) -> u8
     let mut i = 0;
     let mut m = n;
     while i < block.len() {
-        m = lesser(place_if(is_escaped(all, block[i]), i as u8, n), m);
+        m = scan::lesser(scan::pick_byte(is_escaped(all, block[i]), i as u8, n), m);
         i += 1;
     }
     m
