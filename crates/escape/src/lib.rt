@@ -137,12 +137,6 @@ fn put_each(all: bool, out: &mut [u8], at: usize, s: &[u8]) -> usize
     o
 }
 
-fn place_if(t: bool, i: u8, n: u8) -> u8
-    ensures { λ r. ⌜ r ≡ pick t i n ⌝ }
-{
-    if t { i } else { n }
-}
-
 // How many bytes of a block stand before the first that becomes two. No exit on the way, and a minimum of bytes: a loop for vectors.
 fn bare_run(all: bool, block: &[u8]) -> u8
     requires { ⌜ length (now block) ≤ 64 ⌝ }
@@ -153,7 +147,7 @@ fn bare_run(all: bool, block: &[u8]) -> u8
     let mut i = 0;
     let mut m = n;
     while i < block.len() {
-        m = scan::lesser(place_if(is_escaped(all, block[i]), i as u8, n), m);
+        m = scan::lesser(scan::pick_byte(is_escaped(all, block[i]), i as u8, n), m);
         i += 1;
     }
     m

@@ -21,7 +21,7 @@ again c =
     let turn = c .before .before .before .before in
     let q = turn .before .loop in
     let n = length (turn .before .before .before .args .block .now) in
-    (omega arith, omega arith, stop-more (isEscaped _) _ (q .i) n (q .m) (q .inv .2) (turn .loop-test .taken) (q .inv .1) (c .before .before .is-escaped .ensures) (c .before .place-if .ensures) (c .lesser .ensures))
+    (omega arith, omega arith, stop-more (isEscaped _) _ (q .i) n (q .m) (q .inv .2) (turn .loop-test .taken) (q .inv .1) (c .before .before .is-escaped .ensures) (c .before .pick-byte .ensures) (c .lesser .ensures))
 
 pub bare-run-spec : {M : Type 1} → statement M
 bare-run-spec =
