@@ -27,7 +27,8 @@ quoted-ends s t x y e =
     let r = canonical-ends (canonical-quoted s) (canonical-quoted t) x y g in
     (canonical-injective s t (r .0), r .1)
 
--- the canonical text is twelve fixed bytes, the pubkey's digits, two numbers, the tags, and the content with its escapes
+-- the canonical text is twelve fixed bytes, the pubkey's digits, two numbers, the tags, and the content with its
+-- escapes
 pub length-canonical : (e : Event) → IsBytes (e .pubkey)
     → length (canonical e)
     ≡ 12 + 2 * length (e .pubkey) + length (decimal (e .createdAt)) + length (decimal (e .kind)) + length (tagsText canonicalByte (e .tags)) + length (escaped canonicalByte (e .content))

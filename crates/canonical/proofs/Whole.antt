@@ -1,4 +1,5 @@
--- The text that the writer puts together is the canonical text of the event that is gone over again; how long it can be;
+-- The text that the writer puts together is the canonical text of the event that is gone over again; how long it can
+-- be;
 -- and what the entry answers and leaves. Rearranging and counting.
 use Prim.Native.Nat.{ℕ, _+_, _*_, _≤_, _<_}
 use mathlib.Core.Path.{_≡_, refl, sym, ap, _∙_, subst}

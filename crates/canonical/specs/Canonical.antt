@@ -1,4 +1,5 @@
--- The canonical text of NIP-01 (document 01, "Canonical text"), over which an event's id is taken: JSON without white space. Assumes nothing.
+-- The canonical text of NIP-01 (document 01, "Canonical text"), over which an event's id is taken: JSON without white
+-- space. Assumes nothing.
 use Prim.Native.Nat.{ℕ}
 use mathlib.Core.List.{List, [], _∷_}
 use Rattle.hex.specs.Hex.{hexes}

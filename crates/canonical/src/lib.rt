@@ -114,7 +114,8 @@ fn put_canonical(out: &mut [u8], at: usize, s: &[u8], h: Head) -> usize
     buffer::put_bytes(out, d, b"]")
 }
 
-// The canonical text of a packed event: the reader's refusals, then 11 with the length needed; else written from the start.
+// The canonical text of a packed event: the reader's refusals, then 11 with the length needed; else written from the
+// start.
 pub fn write_canonical(s: &[u8], out: &mut [u8]) -> Writing
     ensures { λ r. ⌜ writing r ≡ writes canonical (unpack (now (s .entry))) (now (out .entry)) ⌝ }
     ensures { λ _. ⌜ now (out .exit) ≡ leaves canonical (unpack (now (s .entry))) (now (out .entry)) ⌝ }

@@ -1,5 +1,7 @@
--- What each of the two byte functions makes of a byte: the byte itself, or a backslash and a letter that means the byte.
--- By the tests of the definitions, one after the other. `ReadBack f` is all that the laws of texts ask of a byte function.
+-- What each of the two byte functions makes of a byte: the byte itself, or a backslash and a letter that means the
+-- byte.
+-- By the tests of the definitions, one after the other. `ReadBack f` is all that the laws of texts ask of a byte
+-- function.
 use Prim.Native.Nat.{ℕ, _+_, _<_, _≤_}
 use mathlib.Core.Path.{_≡_, refl, sym, _∙_}
 use mathlib.Core.Bool.{Bool, true, false}

@@ -1,4 +1,5 @@
--- general: what is written over does not matter. A writer may store more than it moves on by, if what is left to write is at least as long.
+-- general: what is written over does not matter. A writer may store more than it moves on by, if what is left to write
+-- is at least as long.
 -- By induction on what was stored too much: a store before it does not touch it.
 use Prim.Native.Nat.{ℕ, _+_, _<_, _≤_}
 use mathlib.Core.Path.{_≡_, refl, sym, ap, _∙_}

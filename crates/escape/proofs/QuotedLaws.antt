@@ -1,4 +1,5 @@
--- An escaped text may stand between quotes, and the first bare quote ends it. What NSON can carry is a property of each byte.
+-- An escaped text may stand between quotes, and the first bare quote ends it. What NSON can carry is a property of each
+-- byte.
 -- By the tests of the byte functions, and induction on the text.
 use Prim.Native.Nat.{ℕ, _+_, _≤_}
 use mathlib.Core.Path.{_≡_, refl, sym}

@@ -1,4 +1,5 @@
--- The laws of escaped texts, said once for every byte function with `ReadBack`: parts, lengths, the text read back, bytes and UTF-8.
+-- The laws of escaped texts, said once for every byte function with `ReadBack`: parts, lengths, the text read back,
+-- bytes and UTF-8.
 -- By induction on the text; each step is the form of one byte.
 use Prim.Native.Nat.{ℕ, _+_, _*_, _<_, _≤_}
 use mathlib.Core.Path.{_≡_, refl, sym, ap, _∙_}

@@ -1,4 +1,5 @@
--- Inner definitions: the two escapings by one flag, `all`, true for the canonical text's and false for NSON's, as the private functions have it. Assumes nothing.
+-- Inner definitions: the two escapings by one flag, `all`, true for the canonical text's and false for NSON's, as the
+-- private functions have it. Assumes nothing.
 use Prim.Native.Nat.{ℕ}
 use mathlib.Core.Bool.{Bool, true, false}
 use mathlib.Core.List.{List}

@@ -137,7 +137,8 @@ fn put_each(all: bool, out: &mut [u8], at: usize, s: &[u8]) -> usize
     o
 }
 
-// How many bytes of a block stand before the first that becomes two. No exit on the way, and a minimum of bytes: a loop for vectors.
+// How many bytes of a block stand before the first that becomes two. No exit on the way, and a minimum of bytes: a loop
+// for vectors.
 fn bare_run(all: bool, block: &[u8]) -> u8
     requires { ⌜ length (now block) ≤ 64 ⌝ }
     ensures { λ r. ⌜ r ≡ runOf all (now (block .entry)) ⌝ }

@@ -1,5 +1,6 @@
 -- How long the strings and arrays of tags get: at most three times the strict form.
--- A text takes a byte and itself there, and its string at most two bytes for each, two quotes and a comma; hex digits need no escape.
+-- A text takes a byte and itself there, and its string at most two bytes for each, two quotes and a comma; hex digits
+-- need no escape.
 use Prim.Native.Nat.{ℕ, _+_, _*_, _≤_}
 use mathlib.Core.Path.{ap}
 use mathlib.Core.Bool.{Bool}

@@ -1,4 +1,5 @@
--- Strings and arrays of JSON without white space, as the canonical text and NSON have the tags; f is the escaping. Assumes nothing.
+-- Strings and arrays of JSON without white space, as the canonical text and NSON have the tags; f is the escaping.
+-- Assumes nothing.
 use Prim.Native.Nat.{ℕ}
 use mathlib.Core.List.{List, [], _∷_, _++_, map}
 use lib.Dec.{ltb}

@@ -1,4 +1,5 @@
--- What was read once is read again from its place: the turns of the loops that go over texts and tags again, and what they go over.
+-- What was read once is read again from its place: the turns of the loops that go over texts and tags again, and what
+-- they go over.
 -- By induction on how many are left, along the reads.
 use Prim.Native.Nat.{ℕ, zero, suc, _+_, _-_, _/_, _%_, _≤_, _<_}
 use mathlib.Core.Path.{_≡_, refl, sym, ap, _∙_, subst}

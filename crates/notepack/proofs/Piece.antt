@@ -1,4 +1,5 @@
--- A spelling beside the strict one: it is never shorter, and it is the strict one exactly if it is as long and no element of it is hollow.
+-- A spelling beside the strict one: it is never shorter, and it is the strict one exactly if it is as long and no
+-- element of it is hollow.
 -- Pieces compose, so the whole follows from varints, texts and elements.
 use Prim.Native.Nat.{ℕ, zero, suc, _+_, _*_, _/_, _%_, _≤_, _<_, _^_}
 use mathlib.Core.Path.{_≡_, refl, sym, ap, _∙_}

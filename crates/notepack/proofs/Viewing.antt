@@ -1,4 +1,5 @@
--- An element that was read among others is read again from its place: walking to tag i and element j finds number j of number i.
+-- An element that was read among others is read again from its place: walking to tag i and element j finds number j of
+-- number i.
 -- By induction on the place in the list, along the reads.
 use Prim.Native.Nat.{ℕ, zero, suc, _+_, _≤_, _<_}
 use mathlib.Core.Path.{_≡_, refl, sym, ap, _∙_, subst}

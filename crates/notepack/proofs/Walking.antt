@@ -1,4 +1,5 @@
--- The walk over a whole input: what stands in front of the tags takes no less room than its strict form, and the tally is the strict form's.
+-- The walk over a whole input: what stands in front of the tags takes no less room than its strict form, and the tally
+-- is the strict form's.
 -- From the pieces of the head and the pass over the tags.
 use Prim.Native.Nat.{ℕ, _+_, _≤_, _<_}
 use mathlib.Core.Path.{_≡_, refl, sym, ap, _∙_}

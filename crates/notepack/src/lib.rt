@@ -35,7 +35,8 @@ pub struct Head {
 }
 
 // The strict length of what was read so far, and whether an element was raw and empty.
-// Where one comes from a call it is taken field by field: a copy of the whole, padding and all, waits for the stores before it.
+// Where one comes from a call it is taken field by field: a copy of the whole, padding and all, waits for the stores
+// before it.
 pub struct Tally {
     pub len: usize,
     pub hollow: bool,

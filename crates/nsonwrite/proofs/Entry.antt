@@ -1,4 +1,5 @@
--- What was measured decides whether NSON can carry the event and how long its text is; and what the entry answers and leaves.
+-- What was measured decides whether NSON can carry the event and how long its text is; and what the entry answers and
+-- leaves.
 -- Descriptors that end before the 128 bytes lent do are all there; else they are too many.
 use Prim.Native.Nat.{ℕ, _+_, _≤_, _<_}
 use mathlib.Core.Path.{_≡_, sym, ap, _∙_, subst}

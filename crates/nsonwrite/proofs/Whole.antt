@@ -1,4 +1,5 @@
--- The text with the stored descriptors is the event's NSON, as long as was measured; and what the measure asks is whether NSON can carry the event.
+-- The text with the stored descriptors is the event's NSON, as long as was measured; and what the measure asks is
+-- whether NSON can carry the event.
 -- Rearranging and counting; the descriptors are whole where NSON can carry the event.
 use Prim.Native.Nat.{ℕ, _+_, _*_, _%_, _≤_}
 use mathlib.Core.Path.{_≡_, refl, ap, _∙_, subst}

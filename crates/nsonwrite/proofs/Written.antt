@@ -1,4 +1,5 @@
--- What the writer's answer says: an event that NSON can carry is written where there is room, and what is written is the NSON of such an event.
+-- What the writer's answer says: an event that NSON can carry is written where there is room, and what is written is
+-- the NSON of such an event.
 -- By the definitions of the answer and of the buffer, outcome by outcome.
 use Prim.Native.Nat.{ℕ, _≤_}
 use mathlib.Core.Path.{_≡_, refl, sym, ap, _∙_}

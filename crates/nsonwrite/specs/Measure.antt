@@ -1,4 +1,5 @@
--- What the measure stores and asks, and the text with the descriptors that it stored. Inner definitions: the writer's private functions go by them. Assumes nothing.
+-- What the measure stores and asks, and the text with the descriptors that it stored. Inner definitions: the writer's
+-- private functions go by them. Assumes nothing.
 use Prim.Native.Nat.{ℕ, _+_, _*_, _/_, _%_}
 use mathlib.Core.Bool.{Bool, false}
 use mathlib.Core.List.{List, [], _∷_, _++_, map}

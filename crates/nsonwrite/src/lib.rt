@@ -32,7 +32,8 @@ const MAX_TEXT: usize = 65_535;
 
 const MAX_DESCRIPTORS: usize = 127;
 
-// Whether NSON can carry each text, the text's length, the place behind the descriptors, and the place behind what was measured.
+// Whether NSON can carry each text, the text's length, the place behind the descriptors, and the place behind what was
+// measured.
 struct Measured {
     fits: bool,
     len: usize,
@@ -249,7 +250,8 @@ fn put_nson(out: &mut [u8], at: usize, s: &[u8], h: Head, d: &[u8]) -> usize
     put_nson_body(out, b, s, h)
 }
 
-// The NSON of a packed event: the reader's refusals, 17 where NSON can't carry it, then 11 with the length needed; else written from the start.
+// The NSON of a packed event: the reader's refusals, 17 where NSON can't carry it, then 11 with the length needed; else
+// written from the start.
 pub fn write_nson(s: &[u8], out: &mut [u8]) -> Writing
     ensures { λ r. ⌜ writing r ≡ nsonWrites (now (s .entry)) (now (out .entry)) ⌝ }
     ensures { λ _. ⌜ now (out .exit) ≡ writerLeaves (now (s .entry)) (now (out .entry)) ⌝ }

@@ -143,7 +143,8 @@ fn copy_packed(out: &mut [u8], s: &[u8], h: Head, t: Tally) -> usize
     copy_tags(out, o, s, h.tags_at, h.tag_count)
 }
 
-// The strict form of a packed event: the reader's refusals, then 11 with the length needed; else written from the start.
+// The strict form of a packed event: the reader's refusals, then 11 with the length needed; else written from the
+// start.
 pub fn write_strict(s: &[u8], out: &mut [u8]) -> Writing
     ensures { λ r. ⌜ writing r ≡ writes pack (unpack (now (s .entry))) (now (out .entry)) ⌝ }
     ensures { λ _. ⌜ now (out .exit) ≡ leaves pack (unpack (now (s .entry))) (now (out .entry)) ⌝ }

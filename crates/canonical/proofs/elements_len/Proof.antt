@@ -1,4 +1,5 @@
--- `elements_len` measures the elements as it goes over them again. The invariant: what is counted and the length of those left are the length of all,
+-- `elements_len` measures the elements as it goes over them again. The invariant: what is counted and the length of
+-- those left are the length of all,
 -- and they end where all end; what is counted is at most 131,075 for each. Each turn is one law.
 use Prim.Native.Nat.{_+_, _*_, _≤_}
 use mathlib.Core.Path.{_≡_, refl, sym, ap, _∙_}

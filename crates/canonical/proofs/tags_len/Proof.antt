@@ -1,4 +1,5 @@
--- `tags_len` measures the tags as it goes over them again. The invariant: what is counted and the length of those left are the length of all;
+-- `tags_len` measures the tags as it goes over them again. The invariant: what is counted and the length of those left
+-- are the length of all;
 -- what is counted is at most 33,424,128 for each. Each turn is one law.
 use Prim.Native.Nat.{_+_, _*_, _≤_}
 use mathlib.Core.Path.{_≡_, refl, ap}

@@ -1,5 +1,7 @@
--- `write_canonical` answers as document 01 says: the reader's refusal, 11 with the length needed, or the length written; and leaves the buffer so.
--- By the laws of the entry for each outcome of the walk; where there is room for three times the input, nothing is measured.
+-- `write_canonical` answers as document 01 says: the reader's refusal, 11 with the length needed, or the length
+-- written; and leaves the buffer so.
+-- By the laws of the entry for each outcome of the walk; where there is room for three times the input, nothing is
+-- measured.
 use mathlib.Core.Path.{ap}
 use native.Mathlib.Omega.{arith}
 use borrow.Author.Needs.{needs}

@@ -1,4 +1,5 @@
--- `bare_run` keeps the least place of a byte that becomes two. The invariant: the run is that place, or ends further on.
+-- `bare_run` keeps the least place of a byte that becomes two. The invariant: the run is that place, or ends further
+-- on.
 -- Each turn is `stop-more`; at the end the run is the least place, or the whole block.
 use Prim.Native.Nat.{_+_, _-_, _≤_, min}
 use mathlib.Core.Path.{_≡_}

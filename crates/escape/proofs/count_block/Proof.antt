@@ -1,4 +1,5 @@
--- `count_block` counts the bytes of a block that become two in NSON, and those that it can't carry. The invariant: each count and what is left make the whole.
+-- `count_block` counts the bytes of a block that become two in NSON, and those that it can't carry. The invariant: each
+-- count and what is left make the whole.
 -- A byte adds 0 or 1 to each, so a sum is at most i and fits a byte.
 use Prim.Native.Nat.{_+_, _-_, _≤_}
 use mathlib.Core.Path.{_≡_}

@@ -1,4 +1,5 @@
--- `escapes` counts the bytes of a block that become two. The invariant: the count, the bytes passed and what is left escaped make the whole.
+-- `escapes` counts the bytes of a block that become two. The invariant: the count, the bytes passed and what is left
+-- escaped make the whole.
 -- A byte adds 0 or 1, so the sum is at most i and fits a byte.
 use Prim.Native.Nat.{_+_, _-_, _≤_}
 use mathlib.Core.Path.{_≡_}

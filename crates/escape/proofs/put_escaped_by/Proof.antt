@@ -1,5 +1,6 @@
 -- `put_escaped_by` goes block by block. The invariant: what is left to write is s from i on, escaped.
--- A block is stored whole, and what is left goes over what stands behind its run: `run-written`; an escape is two bytes more: `run-letter`.
+-- A block is stored whole, and what is left goes over what stands behind its run: `run-written`; an escape is two bytes
+-- more: `run-letter`.
 use Prim.Native.Nat.{_+_, _-_, _≤_}
 use mathlib.Core.Path.{_≡_, refl, _∙_}
 use native.Mathlib.Omega.{arith}

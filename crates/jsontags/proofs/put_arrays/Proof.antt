@@ -1,4 +1,5 @@
--- `put_arrays` writes the tags as it goes over them again. The invariant: what is left to write is the text of the tags left.
+-- `put_arrays` writes the tags as it goes over them again. The invariant: what is left to write is the text of the tags
+-- left.
 -- Each turn is one law: a bracket, the strings, a bracket, a comma, and the tags behind where they end.
 use mathlib.Core.List.{map}
 use borrow.Author.Needs.{needs}

@@ -1,4 +1,5 @@
--- `put_strings` writes the elements as it goes over them again. The invariant: what is left to write is the text of the elements left,
+-- `put_strings` writes the elements as it goes over them again. The invariant: what is left to write is the text of the
+-- elements left,
 -- and they end where all end. Each turn is one law.
 use mathlib.Core.Path.{_≡_, refl, sym, _∙_}
 use mathlib.Core.List.{map}

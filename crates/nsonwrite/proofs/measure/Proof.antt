@@ -1,4 +1,5 @@
--- `measure` is the length of the whole text: 343 fixed bytes, two digits for each byte of descriptors, and each piece's own.
+-- `measure` is the length of the whole text: 343 fixed bytes, two digits for each byte of descriptors, and each piece's
+-- own.
 -- By what its callees told; every piece is bounded, so the sums fit.
 use native.Mathlib.Omega.{arith}
 use borrow.Author.Needs.{needs}

@@ -1,5 +1,7 @@
--- `measure_elements` measures the elements as it goes over them again. The invariant: what was gathered and what the texts left give is what all give,
--- for whether they fit, the descriptors, the length and the end; the length is at most 131,075 for each. Each turn is one law for each.
+-- `measure_elements` measures the elements as it goes over them again. The invariant: what was gathered and what the
+-- texts left give is what all give,
+-- for whether they fit, the descriptors, the length and the end; the length is at most 131,075 for each. Each turn is
+-- one law for each.
 use Prim.Native.Nat.{_+_, _*_, _≤_}
 use mathlib.Core.Path.{_≡_, refl, sym, ap, _∙_}
 use mathlib.Core.Bool.{_&&_}

@@ -1,5 +1,7 @@
--- `measure_tags` measures the tags as it goes over them again. The invariant: what was gathered and what the tags left give is what all give,
--- for whether they fit, the descriptors and the length; the length is at most 33,424,128 for each. Each turn is one law for each.
+-- `measure_tags` measures the tags as it goes over them again. The invariant: what was gathered and what the tags left
+-- give is what all give,
+-- for whether they fit, the descriptors and the length; the length is at most 33,424,128 for each. Each turn is one law
+-- for each.
 use Prim.Native.Nat.{_+_, _*_, _≤_}
 use mathlib.Core.Path.{_≡_, refl, sym, ap, _∙_}
 use mathlib.Core.Bool.{_&&_}

@@ -1,4 +1,5 @@
--- `put_nson_field` writes the nson field: the size, which counts two digits for each descriptor, and the descriptors in hex.
+-- `put_nson_field` writes the nson field: the size, which counts two digits for each descriptor, and the descriptors in
+-- hex.
 -- Two writers in a row are one.
 use borrow.Author.Needs.{needs}
 use Rattle.buffer.proofs.Laws.{then}

@@ -1,4 +1,5 @@
--- `write_nson` answers as document 01 says: the reader's refusal, 17, 11 with the length needed, or the length written; and leaves the buffer so.
+-- `write_nson` answers as document 01 says: the reader's refusal, 17, 11 with the length needed, or the length written;
+-- and leaves the buffer so.
 -- By the laws of the entry for each outcome of the walk and of the measure.
 use mathlib.Core.Path.{refl, ap}
 use native.Mathlib.Omega.{arith}

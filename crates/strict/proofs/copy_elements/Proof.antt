@@ -1,4 +1,5 @@
--- `copy_elements` writes the strict elements as it goes over them again. The invariant: what is left to write is that of the texts left,
+-- `copy_elements` writes the strict elements as it goes over them again. The invariant: what is left to write is that
+-- of the texts left,
 -- and they end where all end. Each turn is one law.
 use mathlib.Core.Path.{_≡_, refl, sym, ap, _∙_}
 use borrow.Author.Needs.{needs}

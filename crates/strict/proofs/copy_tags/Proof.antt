@@ -1,4 +1,5 @@
--- `copy_tags` writes the strict tags as it goes over them again. The invariant: what is left to write is that of the tags left.
+-- `copy_tags` writes the strict tags as it goes over them again. The invariant: what is left to write is that of the
+-- tags left.
 -- Each turn is one law: the count, the elements, and the tags behind where they end.
 use mathlib.Core.Path.{ap}
 use Prim.Native.Nat.{_-_}

@@ -1,4 +1,5 @@
--- `is_strict` says yes where the input is as long as its strict form and has no hollow element, no where not, or the reader's refusal.
+-- `is_strict` says yes where the input is as long as its strict form and has no hollow element, no where not, or the
+-- reader's refusal.
 -- By the laws of the strict question for each outcome of the walk.
 use mathlib.Core.Path.{ap}
 use native.Mathlib.Omega.{arith}

@@ -1,4 +1,5 @@
--- `write_strict` answers as document 01 says: the reader's refusal, 11 with the length needed, or the length written; and leaves the buffer so.
+-- `write_strict` answers as document 01 says: the reader's refusal, 11 with the length needed, or the length written;
+-- and leaves the buffer so.
 -- By the laws of the entry for each outcome of the walk.
 use mathlib.Core.Path.{sym, ap, _∙_}
 use native.Mathlib.Omega.{arith}
