@@ -1,5 +1,5 @@
 -- Plain ASCII in a string: blocks of it are passed whole, and a short string of it is read at once and is its own text.
--- What holds of each byte from place to place goes on byte by byte; the end of the plain bytes is the first special one.
+-- What holds of each byte goes on byte by byte; the plain bytes end at the first special one.
 use Prim.Native.Nat.{ℕ, zero, suc, _+_, _-_, _<_, _≤_, min}
 use mathlib.Core.Path.{_≡_, refl, sym, ap, _∙_}
 use mathlib.Core.Bool.{Bool, true, false}
@@ -28,7 +28,7 @@ use Rattle.jsontext.proofs.Meaning.{unescape-itself}
 use Rattle.jsonstring.specs.declared.Cursor.{Cursor}
 use Rattle.jsonstring.specs.declared.TextRead.{TextRead}
 use Rattle.jsonstring.specs.declared.TextRead.the-variants as text-by
-use Rattle.jsonstring.specs.Plain.{isSpecial, specialOf, PlainTo, plainEnd, isShortText, PlainText, plain}
+use Rattle.jsonstring.specs.Plain.{isSpecial, specialOf, PlainTo, plainEnd, isShortPlain, PlainText, plain}
 use Rattle.jsonstring.proofs.Turn.{InText, text-start, text-quote, text-ascii}
 
 -- ---- a byte
@@ -179,30 +179,30 @@ digits-own d = unescape-itself (all-slash d)
 
 -- what `short_quote` tells
 module _ (s : List ℕ) (at : ℕ) {b : ℕ} (e : b ≡ getD s at 0) where
-  pub short-found : {n c : ℕ} → b ≡ 0x22 → n ≡ plainEnd s (at + 1) → c ≡ getD s n 0 → c ≡ 0x22 → n ≡ pick (isShortText s at) (plainEnd s (at + 1)) 0
-  unfolding isShortText
+  pub short-found : {n c : ℕ} → b ≡ 0x22 → n ≡ plainEnd s (at + 1) → c ≡ getD s n 0 → c ≡ 0x22 → n ≡ pick (isShortPlain s at) (plainEnd s (at + 1)) 0
+  unfolding isShortPlain
   short-found {n} {c} f g h k = g ∙ sym (rw (← e, eq-eqb b 0x22 f, ← g, ← h, eq-eqb c 0x22 k))
 
-  pub short-open : {n c : ℕ} → b ≡ 0x22 → n ≡ plainEnd s (at + 1) → c ≡ getD s n 0 → (c ≡ 0x22 → ⊥) → 0 ≡ pick (isShortText s at) (plainEnd s (at + 1)) 0
-  unfolding isShortText
+  pub short-open : {n c : ℕ} → b ≡ 0x22 → n ≡ plainEnd s (at + 1) → c ≡ getD s n 0 → (c ≡ 0x22 → ⊥) → 0 ≡ pick (isShortPlain s at) (plainEnd s (at + 1)) 0
+  unfolding isShortPlain
   short-open {n} {c} f g h k = sym (rw (← e, eq-eqb b 0x22 f, ← g, ← h, ne-eqb c 0x22 k))
 
-  pub short-none : (b ≡ 0x22 → ⊥) → 0 ≡ pick (isShortText s at) (plainEnd s (at + 1)) 0
-  unfolding isShortText
+  pub short-none : (b ≡ 0x22 → ⊥) → 0 ≡ pick (isShortPlain s at) (plainEnd s (at + 1)) 0
+  unfolding isShortPlain
   short-none f = sym (rw (← e, ne-eqb b 0x22 f))
 
 -- the quote is found: the string, whole
 pub record Short (s : List ℕ) (at e : ℕ) : Type 0 where
-  pub is : isShortText s at ≡ true
+  pub is : isShortPlain s at ≡ true
   pub opened : getD s at 0 ≡ 0x22
   pub closed : getD s e 0 ≡ 0x22
   pub plain : PlainTo s (at + 1) e
 
-pub short-is : (s : List ℕ) (at : ℕ) {e : ℕ} → e ≡ pick (isShortText s at) (plainEnd s (at + 1)) 0 → (e ≡ 0 → ⊥) → Short s at e
-unfolding isShortText
-short-is s at {e} q n = go (isShortText s at) refl q
+pub short-is : (s : List ℕ) (at : ℕ) {e : ℕ} → e ≡ pick (isShortPlain s at) (plainEnd s (at + 1)) 0 → (e ≡ 0 → ⊥) → Short s at e
+unfolding isShortPlain
+short-is s at {e} q n = go (isShortPlain s at) refl q
   where
-    go : (t : Bool) → isShortText s at ≡ t → e ≡ pick t (plainEnd s (at + 1)) 0 → Short s at e
+    go : (t : Bool) → isShortPlain s at ≡ t → e ≡ pick t (plainEnd s (at + 1)) 0 → Short s at e
     go false i q = absurd (n q)
     go true i q =
         let x = pick-true (eqb (getD s at 0) 0x22) (eqb (getD s (plainEnd s (at + 1)) 0) 0x22) i in
@@ -210,11 +210,11 @@ short-is s at {e} q n = go (isShortText s at) refl q
         let h = byte-positive s at (getD s at 0) 0x22 refl o (omega arith) in
         record { is = i; opened = o; closed = rw q (eqb-true _ 0x22 (x .1)); plain = rw q (plain-end-to s (at + 1) (omega arith)) }
 
-pub short-not : (s : List ℕ) (at : ℕ) {e : ℕ} → e ≡ pick (isShortText s at) (plainEnd s (at + 1)) 0 → e ≡ 0 → isShortText s at ≡ false
+pub short-not : (s : List ℕ) (at : ℕ) {e : ℕ} → e ≡ pick (isShortPlain s at) (plainEnd s (at + 1)) 0 → e ≡ 0 → isShortPlain s at ≡ false
 unfolding plainEnd
-short-not s at q z = go (isShortText s at) refl (sym z ∙ q)
+short-not s at q z = go (isShortPlain s at) refl (sym z ∙ q)
   where
-    go : (t : Bool) → isShortText s at ≡ t → 0 ≡ pick t (plainEnd s (at + 1)) 0 → isShortText s at ≡ false
+    go : (t : Bool) → isShortPlain s at ≡ t → 0 ≡ pick t (plainEnd s (at + 1)) 0 → isShortPlain s at ≡ false
     go true i q = absurd (omega arith)
     go false i q = i
 

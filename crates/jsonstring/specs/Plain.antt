@@ -1,4 +1,4 @@
--- Plain ASCII in a string: what a block of it counts, how far it goes, and which strings are short and plain. Assumes nothing.
+-- Plain ASCII in a string: what a block counts, how far it goes, which strings are short and plain. Assumes nothing.
 use Prim.Native.Nat.{ℕ, _+_, _/_, _≤_, _<_, min}
 use mathlib.Core.Path.{_≡_}
 use mathlib.Core.Bool.{Bool, true, false}
@@ -32,12 +32,12 @@ unfoldable pub plainEnd : List ℕ → ℕ → ℕ
 plainEnd s at = at + min 80 (beforeStop isSpecial (drop at s))
 
 -- whether a string at a place is at most 80 plain bytes
-unfoldable pub isShortText : List ℕ → ℕ → Bool
-isShortText s at = pick (eqb (byteAt s at) 0x22) (eqb (byteAt s (plainEnd s (at + 1))) 0x22) false
+unfoldable pub isShortPlain : List ℕ → ℕ → Bool
+isShortPlain s at = pick (eqb (byteAt s at) 0x22) (eqb (byteAt s (plainEnd s (at + 1))) 0x22) false
 
 -- exactly those strings are told to be plain, and each is its own text
 pub data PlainText (s : List ℕ) (at : ℕ) : TextRead → Type 0 where
-  plain : {p : Spelled} {c : _} → isShortText s at ≡ true → unescape (take (p .count) (drop (p .from) s)) ≡ take (p .count) (drop (p .from) s)
+  plain : {p : Spelled} {c : _} → isShortPlain s at ≡ true → unescape (take (p .count) (drop (p .from) s)) ≡ take (p .count) (drop (p .from) s)
       → PlainText s at (text-by.Plain p c)
-  other : {p : Spelled} {c : _} → isShortText s at ≡ false → PlainText s at (text-by.Other p c)
-  refused : {r : _} → isShortText s at ≡ false → PlainText s at (text-by.Refused r)
+  other : {p : Spelled} {c : _} → isShortPlain s at ≡ false → PlainText s at (text-by.Other p c)
+  refused : {r : _} → isShortPlain s at ≡ false → PlainText s at (text-by.Refused r)

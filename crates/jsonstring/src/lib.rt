@@ -8,7 +8,7 @@ ghost use Rattle.scan.specs.Choice.{pick, refused};
 ghost use Rattle.scan.specs.Place.{byteAt};
 ghost use Rattle.scan.specs.Blocks.{sumOf, neighbours, beforeStop};
 ghost use Rattle.jsontext.specs.Text.{stringAt};
-ghost use Rattle.jsonstring.specs.Plain.{specialOf, PlainTo, isSpecial, plainEnd, isShortText, PlainText};
+ghost use Rattle.jsonstring.specs.Plain.{specialOf, PlainTo, isSpecial, plainEnd, isShortPlain, PlainText};
 ghost use Rattle.jsonstring.specs.Loose.{LooseTo, clashOf};
 ghost use Rattle.jsonstring.specs.Answers.{stringRead, textRead};
 
@@ -36,7 +36,7 @@ fn bad_string(number: u8, place: usize) -> StringRead
     StringRead::Refused(Refusal { number, place })
 }
 
-// 0 for a byte that goes on a run of plain ASCII in a string: no control byte, no quote, no backslash, none above ASCII.
+// 0 for a byte that is not special.
 fn special(b: u8) -> u8
     ensures { λ r. ⌜ r ≡ specialOf b ⌝ }
     ensures { λ r. ⌜ r ≤ 4 ⌝ }
@@ -82,7 +82,8 @@ fn block_end(at: usize, n: usize) -> usize
     if n - at <= 32 { n } else { at + 32 }
 }
 
-// 0 where b may stand behind the byte before it in a string: behind a backslash n or a quote, else no quote and no control byte.
+// 0 where b may stand behind the byte before it in a string: behind a backslash n or a quote,
+// behind any other byte neither a quote nor a control byte.
 pub fn clash(before: u8, b: u8) -> u8
     ensures { λ r. ⌜ r ≡ clashOf before b ⌝ }
     ensures { λ r. ⌜ r ≤ 1 ⌝ }
@@ -109,8 +110,8 @@ fn clashes(block: &[u8]) -> u8
     n
 }
 
-// Passes blocks of 32 bytes without a clash. A backslash that ends the last of them is left to be read with what it escapes;
-// none is begun behind a backslash, which may be the second of two.
+// Passes blocks of 32 bytes without a clash. A backslash that ends the last of them is left to be read with what it
+// escapes; none is begun behind a backslash, which may be the second of two.
 fn pass_quoted(s: &[u8], at: usize) -> usize
     requires { ⌜ 1 ≤ at ⌝ }
     requires { ⌜ at ≤ length (now s) ⌝ }
@@ -133,7 +134,7 @@ fn pass_quoted(s: &[u8], at: usize) -> usize
     i
 }
 
-// Passes bare bytes and escapes from a place on, with no look at UTF-8: to the closing quote, to a fault, or to the end.
+// Passes bare bytes and escapes from a place on, with no look at UTF-8: to the closing quote, a fault, or the end.
 fn loose_end(s: &[u8], from: usize) -> usize
     requires { ⌜ 1 ≤ from ⌝ }
     requires { ⌜ from ≤ length (now s) ⌝ }
@@ -167,8 +168,8 @@ fn loose_end(s: &[u8], from: usize) -> usize
 }
 
 impl Cursor {
-    // The string whose opening quote stands at the cursor. Where its end is found at once and the bytes up to it are UTF-8 it is read;
-    // in any other case character after character decides.
+    // The string whose opening quote stands at the cursor. Where its end is found at once and the bytes up to it are
+    // UTF-8 it is read; in any other case character after character decides.
     pub fn string(self, s: &[u8]) -> StringRead
         ensures { λ r. ⌜ stringRead r ≡ stringAt (now (s .entry)) (self .at) ⌝ }
     {
@@ -281,8 +282,9 @@ fn pass_plain(s: &[u8], at: usize) -> usize
     i
 }
 
-// How many bytes of a block stand before the first that is special. No exit on the way, and a minimum of bytes: a loop for vectors.
-fn plain_run(block: &[u8]) -> u8
+// How many bytes of a block stand before the first that is special. No exit on the way, and a minimum of bytes:
+// a loop for vectors.
+fn plain_prefix(block: &[u8]) -> u8
     requires { ⌜ length (now block) ≤ 32 ⌝ }
     ensures { λ r. ⌜ r ≡ beforeStop isSpecial (now (block .entry)) ⌝ }
 {
@@ -296,7 +298,8 @@ fn plain_run(block: &[u8]) -> u8
     m
 }
 
-// The same of the bytes from a place on. 64 hex digits in front of a quote, an id or a key, are passed at once, and so is what ends within 32 bytes.
+// The end of the plain bytes from a place on, of 80 at most. 64 hex digits in front of a quote, an id or a key, are
+// passed at once, and so is what ends within 32 bytes.
 fn plain_end(s: &[u8], at: usize) -> usize
     requires { ⌜ at ≤ length (now s) ⌝ }
     ensures { λ r. ⌜ r ≡ plainEnd (now (s .entry)) at ⌝ }
@@ -309,7 +312,7 @@ fn plain_end(s: &[u8], at: usize) -> usize
     }
     if s.len() - at >= 32 {
         let k = at + 32;
-        let m = plain_run(&s[at..k]) as usize;
+        let m = plain_prefix(&s[at..k]) as usize;
         if m < 32 {
             return at + m;
         }
@@ -319,7 +322,7 @@ fn plain_end(s: &[u8], at: usize) -> usize
 
 // The place of the quote that closes a short plain string at a place; 0 where none stands there.
 fn short_quote(s: &[u8], at: usize) -> usize
-    ensures { λ r. ⌜ r ≡ pick (isShortText (now (s .entry)) at) (plainEnd (now (s .entry)) (at + 1)) 0 ⌝ }
+    ensures { λ r. ⌜ r ≡ pick (isShortPlain (now (s .entry)) at) (plainEnd (now (s .entry)) (at + 1)) 0 ⌝ }
 {
     if scan::byte_at(s, at) == 0x22 {
         let end = plain_end(s, at + 1);

@@ -1,4 +1,4 @@
--- Texts without white space, piece by piece, are spelled as the grammar has it: strings, objects, arrays; digits, names and numbers.
+-- Texts without white space, piece by piece, are spelled as the grammar has it: objects, arrays, strings, numbers.
 -- Each production with empty white space; a byte of ASCII is a character that stands for itself.
 use Prim.Native.Nat.{ℕ, _<_}
 use mathlib.Core.Path.{_≡_, subst}

@@ -1,4 +1,5 @@
-// JSON by RFC 8259 alone: its grammar, its reading at a place, and that the two agree. The code stands in jsonstring, jsonunescape and jsonvalue.
+// JSON by RFC 8259 alone: its grammar, its reading at a place, and that the two agree.
+// The code stands in jsonescape, jsonstring, jsonunescape and jsonvalue.
 
 // The bytes of a string between its quotes, as spelled.
 pub struct Spelled {

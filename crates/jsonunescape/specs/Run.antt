@@ -25,7 +25,7 @@ isSlash b = isOne b 0x5C
 unfoldable pub stopOf : ℕ → ℕ
 stopOf b = controlCount b + isOne b 0x22 + isSlash b
 
--- the bytes of t from place a to place b are of one run, and writing them to d at `at` made d′ and the place o behind them
+-- the bytes of t from place a to place b are of one run; writing them to d at `at` made d′, and o is the place behind
 pub record Ran (t : List ℕ) (a b : ℕ) (d : List ℕ) (at : ℕ) (d′ : List ℕ) (o : ℕ) : Type 0 where
   pub onward : a ≤ b
   pub inside : b ≤ length t

@@ -1,4 +1,5 @@
-// The text of a spelled string: its length, written, as digits, unhexed, compared. The functions that end in a public one take the spelled bytes as t.
+// The text of a spelled string: its length, written, as digits, unhexed, compared with a name.
+// A private function takes the spelled bytes as t.
 use jsontext::Escape;
 ghost use Prim.Native.Nat.{_+_, _-_, _≤_, _<_};
 ghost use mathlib.Core.Path.{_≡_};
@@ -15,8 +16,8 @@ ghost use Rattle.jsonunescape.specs.Run.{backslashAt, isSlash, stopOf, R
 ghost use Rattle.jsonunescape.specs.Short.{oddOf, evenPairs};
 ghost use Rattle.jsonunescape.specs.Half.{held, halfBehind};
 
-// 0 for a byte that is neither a control byte nor a quote nor a backslash. The backslash alone would do, but a loop over 32 bytes with one
-// comparison is unrolled, and not made of vectors.
+// 0 for a byte that is neither a control byte nor a quote nor a backslash. The backslash alone would do, but a loop
+// over 32 bytes with one comparison is unrolled, and not made of vectors.
 fn stop_of(b: u8) -> u8
     ensures { λ r. ⌜ r ≡ stopOf b ⌝ }
     ensures { λ r. ⌜ r ≤ 3 ⌝ }
@@ -223,7 +224,8 @@ fn spelled_len_by_runs(t: &[u8]) -> usize
     n
 }
 
-// The length of the text. Where every backslash begins \n or \", the text is shorter than its spelling by one byte for each of them.
+// The length of the text. Where every backslash begins \n or \", the text is shorter than its spelling by one byte
+// for each of them.
 fn spelled_len(t: &[u8]) -> usize
     ensures { λ r. ⌜ r ≡ length (unescape (now (t .entry))) ⌝ }
     ensures { λ r. ⌜ r ≤ length (now (t .entry)) ⌝ }

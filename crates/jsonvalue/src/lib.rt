@@ -185,10 +185,10 @@ impl Cursor {
             };
         }
         if b == 0x7B {
-            return self.walk(s, depth, 0x7D);
+            return self.skip_walk(s, depth, 0x7D);
         }
         if b == 0x5B {
-            return self.walk(s, depth, 0x5D);
+            return self.skip_walk(s, depth, 0x5D);
         }
         if b == 0x74 {
             return self.word(b"true", s);
@@ -203,7 +203,7 @@ impl Cursor {
     }
 
     // Behind the array or the object whose opening bracket stands at the cursor, and which `close` closes.
-    fn walk(self, s: &[u8], depth: usize, close: u8) -> Skip
+    fn skip_walk(self, s: &[u8], depth: usize, close: u8) -> Skip
         requires { ⌜ self .at < length (now s) ⌝ }
         requires { ⌜ 0 < close ⌝ }
         ensures { λ r. ⌜ skipRead r ≡ skipWalk depth close (now (s .entry)) (self .at) ⌝ }
@@ -221,7 +221,7 @@ impl Cursor {
             return Skip::Past(Cursor { at: i + 1 });
         }
         loop {
-            let read = Cursor { at: i }.item(s, depth - 1, close);
+            let read = Cursor { at: i }.skip_item(s, depth - 1, close);
             let Skip::Past(next) = read else {
                 return read;
             };
@@ -240,17 +240,17 @@ impl Cursor {
     }
 
     // Behind a member of an object or a value of an array.
-    fn item(self, s: &[u8], depth: usize, close: u8) -> Skip
+    fn skip_item(self, s: &[u8], depth: usize, close: u8) -> Skip
         ensures { λ r. ⌜ skipRead r ≡ skipItem close (valueAt depth (now (s .entry))) (now (s .entry)) (self .at) ⌝ }
     {
         if close == 0x7D {
-            return self.member(s, depth);
+            return self.skip_member(s, depth);
         }
         self.skip_value(s, depth)
     }
 
     // Behind a name, a colon and a value.
-    fn member(self, s: &[u8], depth: usize) -> Skip
+    fn skip_member(self, s: &[u8], depth: usize) -> Skip
         ensures { λ r. ⌜ skipRead r ≡ skipMember (valueAt depth (now (s .entry))) (now (s .entry)) (self .at) ⌝ }
     {
         let at = self.at;

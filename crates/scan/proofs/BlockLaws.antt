@@ -1,5 +1,5 @@
--- What loops over a block count, block by block and turn by turn: sums over bytes and over neighbours, and the bytes before the first that stops.
--- The premises of a turn are what the loop knows. The block from i to e is `take (e - i) (drop i s)`; of neighbours it is lent with the byte before it.
+-- What loops over a block count, turn by turn and block by block: bytes, neighbours, bytes before the first that stops.
+-- The block from i to e is `take (e - i) (drop i s)`; where neighbours count, it is lent with the byte before it.
 use Prim.Native.Nat.{ℕ, zero, suc, _+_, _-_, _<_, _≤_, min}
 use mathlib.Core.Path.{_≡_, refl, sym, ap, _∙_}
 use mathlib.Core.Bool.{Bool, true, false}

@@ -1,4 +1,4 @@
--- What a loop over a block counts: bytes by a number for each, neighbours, and the bytes before the first that stops. Assumes nothing.
+-- What a loop over a block counts: bytes, neighbours, and the bytes before the first that stops. Assumes nothing.
 use Prim.Native.Nat.{ℕ, suc, _+_}
 use mathlib.Core.Bool.{Bool}
 use mathlib.Core.List.{List, [], _∷_}

@@ -27,6 +27,6 @@ plain-end-spec =
     (λ c κs. simp (length-take, length-drop) (omega arith))
     (λ c. omega arith)
     (λ c. omega arith)
-    (λ c. end-block _ _ _ _ refl (omega arith) (c .before .plain-run .ensures) (c .if4 .taken))
+    (λ c. end-block _ _ _ _ refl (omega arith) (c .before .plain-prefix .ensures) (c .if4 .taken))
     (λ c κs. search needs)
     (λ c. c .pass-plain .ensures))

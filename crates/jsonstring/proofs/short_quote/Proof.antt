@@ -1,4 +1,4 @@
--- `short_quote` makes the tests of `isShort`.
+-- `short_quote` makes the tests of `isShortPlain`.
 -- Each way out is one law.
 use native.Mathlib.Omega.{arith}
 use borrow.Author.Needs.{needs}

@@ -1,4 +1,4 @@
--- `put_spelled_unhex` writes a byte for each two digits of the text. The invariant: what is left are the bytes of the half that is read and of the text from here on.
+-- `put_spelled_unhex` writes a byte for each two digits of the text: what is left is behind the half that is read.
 -- A turn writes a run, by `unhex-run`, and an escape, by `unhex-escape`; the half that is left over goes on.
 use Prim.Native.Nat.{_-_}
 use mathlib.Core.Path.{sym, ap}

@@ -1,4 +1,4 @@
--- `spelled_digits` asks run by run and escape by escape. The invariant: the text is digits exactly if the text from here on is.
+-- `spelled_digits` asks run by run and escape by escape: the text is digits exactly if the text from here on is.
 -- A turn is `digits-run` and `digits-escape`.
 use Prim.Native.Nat.{_-_}
 use borrow.Author.Needs.{needs}

@@ -1,4 +1,4 @@
--- `spelled_is` compares run by run and escape by escape. The invariant, `InName`: the text is the name exactly if the text from here on is the name from there on.
+-- `spelled_is` compares run by run and escape by escape. The invariant is `InName`.
 -- A turn is `name-run` and `name-escape`.
 use Prim.Native.Nat.{_-_}
 use native.Mathlib.Omega.{arith}

@@ -1,4 +1,4 @@
--- `spelled_len_by_runs` counts the text. The invariant, `Measured`: what was counted and the text from here on are the text, and no more was counted than was passed.
+-- `spelled_len_by_runs` counts the text. The invariant is `Measured`: no more is counted than was passed.
 -- A turn is a run and an escape: `measured-run` and `measured-escape`.
 use Prim.Native.Nat.{_-_}
 use native.Mathlib.Omega.{arith}

@@ -1,4 +1,4 @@
--- `plain_run` keeps the least place of a special byte. The invariant: the first of them stands there, or further on.
+-- `plain_prefix` keeps the least place of a special byte. The invariant: the first of them stands there, or further on.
 -- Each turn is `stop-more`; at the end it is the least place, or the whole block.
 use Prim.Native.Nat.{_+_, _-_, _≤_, min}
 use mathlib.Core.Path.{_≡_}
@@ -8,8 +8,8 @@ use lib.ListN.{length, drop}
 use Rattle.scan.specs.Blocks.{beforeStop}
 use Rattle.scan.proofs.BlockLaws.{stop-within, stop-more, stop-done}
 use Rattle.jsonstring.specs.Plain.{isSpecial}
-use Rattle.jsonstring.proofs.plain_run.Statement.{statement}
-use Rattle.jsonstring.proofs.plain_run.Tie as tie
+use Rattle.jsonstring.proofs.plain_prefix.Statement.{statement}
+use Rattle.jsonstring.proofs.plain_prefix.Tie as tie
 
 abbrev Inv-loop : tie.InvT-loop
 Inv-loop block n i₀ m₀ i m = (i ≤ length block) × (m ≤ length block) × (beforeStop isSpecial block ≡ min m (i + beforeStop isSpecial (drop i block)))
@@ -24,8 +24,8 @@ again c =
     let n = length (turn .before .before .before .args .block .now) in
     (omega arith, omega arith, stop-more isSpecial _ (q .i) n (q .m) (q .inv .2) (turn .loop-test .taken) (q .inv .1) (c .before .before .is-special .ensures) (c .before .pick-byte .ensures) (c .lesser .ensures))
 
-pub plain-run-spec : {M : Type 1} → statement M
-plain-run-spec =
+pub plain-prefix-spec : {M : Type 1} → statement M
+plain-prefix-spec =
     tie.close
     (tie.spec
     Inv-loop

@@ -12,26 +12,26 @@ use Rattle.scan.proofs.Fits.{byte-positive, byte-place, next-fits, close-fits}
 use Rattle.jsonvalue.proofs.Walk.{InWalk, walk-again, walk-less, walks}
 use borrow.Fn.Kinds.{In}
 use borrow.Fn.PlainCycle.{Measures, is, falls, and}
-use Rattle.jsonvalue.proofs.Cursor.item.Reads as item
-use Rattle.jsonvalue.proofs.Cursor.item.Kinds as item-kinds
-use Rattle.jsonvalue.proofs.Cursor.+item+member+skip_value+walk.Lts-item as item-lts
-use Rattle.jsonvalue.proofs.Cursor.member.Reads as member
-use Rattle.jsonvalue.proofs.Cursor.member.Kinds as member-kinds
-use Rattle.jsonvalue.proofs.Cursor.+item+member+skip_value+walk.Lts-member as member-lts
+use Rattle.jsonvalue.proofs.Cursor.skip_item.Reads as item
+use Rattle.jsonvalue.proofs.Cursor.skip_item.Kinds as item-kinds
+use Rattle.jsonvalue.proofs.Cursor.+skip_item+skip_member+skip_value+skip_walk.Lts-skip_item as item-lts
+use Rattle.jsonvalue.proofs.Cursor.skip_member.Reads as member
+use Rattle.jsonvalue.proofs.Cursor.skip_member.Kinds as member-kinds
+use Rattle.jsonvalue.proofs.Cursor.+skip_item+skip_member+skip_value+skip_walk.Lts-skip_member as member-lts
 use Rattle.jsonvalue.proofs.Cursor.skip_value.Reads as skip-value
 use Rattle.jsonvalue.proofs.Cursor.skip_value.Kinds as skip-value-kinds
-use Rattle.jsonvalue.proofs.Cursor.+item+member+skip_value+walk.Lts-skip_value as skip-value-lts
-use Rattle.jsonvalue.proofs.Cursor.walk.Reads as walk
-use Rattle.jsonvalue.proofs.Cursor.walk.Kinds as walk-kinds
-use Rattle.jsonvalue.proofs.Cursor.+item+member+skip_value+walk.Lts-walk as walk-lts
+use Rattle.jsonvalue.proofs.Cursor.+skip_item+skip_member+skip_value+skip_walk.Lts-skip_value as skip-value-lts
+use Rattle.jsonvalue.proofs.Cursor.skip_walk.Reads as walk
+use Rattle.jsonvalue.proofs.Cursor.skip_walk.Kinds as walk-kinds
+use Rattle.jsonvalue.proofs.Cursor.+skip_item+skip_member+skip_value+skip_walk.Lts-skip_walk as walk-lts
 use Rattle.jsonvalue.proofs.Cursor.number.Reads as number-reads
 use Rattle.jsonvalue.proofs.Cursor.skip_space.Reads as skip-space-reads
 use Rattle.jsonstring.proofs.Cursor.string.Reads as string-reads
 use Rattle.jsonvalue.proofs.Cursor.word.Reads as word-reads
 use Rattle.jsonvalue.proofs.not_allowed.Reads as not-allowed-reads
 use Rattle.scan.proofs.byte_at.Reads as byte-at-reads
-use Rattle.jsonvalue.proofs.Cursor.+item+member+skip_value+walk.{statement}
-use Rattle.jsonvalue.proofs.Cursor.+item+member+skip_value+walk.Tie.{close}
+use Rattle.jsonvalue.proofs.Cursor.+skip_item+skip_member+skip_value+skip_walk.{statement}
+use Rattle.jsonvalue.proofs.Cursor.+skip_item+skip_member+skip_value+skip_walk.Tie.{close}
 
 abbrev μ-item : Measures 1 item-kinds.ps ℕ
 μ-item κs a = 4 * a .1 .1 .0 + 3
@@ -77,9 +77,9 @@ walk-Inv-loop s depth close at i₀ i = InWalk s depth close at i × (1 ≤ dept
 abbrev walk-μ-loop : walk-lts.MeasureT-loop
 walk-μ-loop s depth close at i₀ i = length s - i
 
-pub +item+member+skip-value+walk-spec : {M : Type 1} → statement M
+pub +skip-item+skip-member+skip-value+skip-walk-spec : {M : Type 1} → statement M
 unfolding skipItem skipMember skipColon skipValueBy
-+item+member+skip-value+walk-spec = close μ-item μ-member μ-skip-value μ-walk (λ t. item-lts.spec (
++skip-item+skip-member+skip-value+skip-walk-spec = close μ-item μ-member μ-skip-value μ-walk (λ t. item-lts.spec (
   member-below t,
   member.Post,
   skip-value-below t,
@@ -88,7 +88,7 @@ unfolding skipItem skipMember skipColon skipValueBy
     (item-at t)
     item.Post
     (λ c κs. search needs)
-    (λ c. simp (eq-eqb _ _ (c .before .if1 .taken), ← c .member .ensures))
+    (λ c. simp (eq-eqb _ _ (c .before .if1 .taken), ← c .skip-member .ensures))
     (λ c κs. search needs)
     (λ c. simp (ne-eqb _ _ (c .before .if1 .left), ← c .skip-value .ensures)))
     (λ t. member-lts.spec (
@@ -180,7 +180,7 @@ unfolding skipItem skipMember skipColon skipValueBy
       ← c .before .before .before .byte-at .ensures,
       ne-eqb _ _ (c .before .before .if1 .left),
       eq-eqb _ _ (c .before .if2 .taken),
-      ← c .walk .ensures,
+      ← c .skip-walk .ensures,
     ))
     (λ c κs. (search needs, (search byte-place, search needs)))
     (λ c.
@@ -190,7 +190,7 @@ unfolding skipItem skipMember skipColon skipValueBy
       ne-eqb _ _ (c .before .before .before .if1 .left),
       ne-eqb _ _ (c .before .before .if2 .left),
       eq-eqb _ _ (c .before .if3 .taken),
-      ← c .walk2 .ensures,
+      ← c .skip-walk2 .ensures,
     ))
     (λ c. search needs)
     (λ c κs. search needs)
@@ -295,7 +295,7 @@ unfolding skipItem skipMember skipColon skipValueBy
     let u = r .before .before .before .before in
     let p = r .before in
     let a = u .before .before .before .args in
-    walk-less (a .s .now) (a .depth) (a .close) (a .self .at) (p .loop .i) _ (p .loop .inv .0) (r .item .ensures) _ _ (q .before .before .read .given .1)
+    walk-less (a .s .now) (a .depth) (a .close) (a .self .at) (p .loop .i) _ (p .loop .inv .0) (r .skip-item .ensures) _ _ (q .before .before .read .given .1)
     (q .skip-space2 .ensures) _ (c .before .before .before .byte-at2 .ensures) _ (c .before .if4 .left) (c .skip-space3 .ensures))
     (λ c.
     let q = c .before .before .before .before in
@@ -303,6 +303,6 @@ unfolding skipItem skipMember skipColon skipValueBy
     let u = r .before .before .before .before in
     let p = r .before in
     let a = u .before .before .before .args in
-    let turn = walk-again (a .s .now) (a .depth) (a .close) (a .self .at) (p .loop .i) _ (p .loop .inv .0) (r .item .ensures) _ _ (q .before .before .read .given .1)
+    let turn = walk-again (a .s .now) (a .depth) (a .close) (a .self .at) (p .loop .i) _ (p .loop .inv .0) (r .skip-item .ensures) _ _ (q .before .before .read .given .1)
     (q .skip-space2 .ensures) _ (c .before .before .before .byte-at2 .ensures) _ (c .before .before .if3 .left) (c .before .if4 .left) (c .skip-space3 .ensures) in
     (turn, omega arith))
