@@ -14,8 +14,6 @@ use Rattle.scan.proofs.Step.{false-true}
 use Rattle.event.specs.Tells.{among, Tells, value, refusal}
 use Rattle.buffer.specs.Entry.{written, filled, writes, leaves}
 
--- ---- general: all of these belong to crate store
-
 -- a value was read, and its text fitted
 pub record Fitted {A : Type 0} (text : A → List ℕ) (a : Answer A) (d : List ℕ) (n : ℕ) : Type 0 where
   pub value : A

@@ -9,26 +9,15 @@ use lib.ListN.{length, getD, take, drop, length-append, length-take, length-drop
 use lib.Seq.{drop-drop, drop-append-le, take-all, length-take-le, getD-take, getD-drop}
 use Rattle.scan.specs.Choice.{pick}
 use Rattle.scan.specs.Blocks.{beforeStop}
-use Rattle.scan.proofs.Step.{rest-none, rest-more}
+use Rattle.scan.proofs.Step.{rest-none, rest-more, rest-block}
 use Rattle.scan.proofs.BlockLaws.{stop-within, stop-here}
 use Rattle.buffer.specs.Store.{Wrote}
 use Rattle.buffer.proofs.Laws.{Left, also}
+use Rattle.buffer.proofs.OverLaws.{wide}
 use Rattle.escape.specs.Escape.{backslashed, escaped, isUncarried, controls}
 use Rattle.escape.specs.Block.{byteBy, isEscaped, escapeLetter, runOf}
 use Rattle.escape.proofs.ByteLaws.{escaping-by, byte-tests}
 use Rattle.escape.proofs.TextLaws.{escaped-append, length-least}
-use Rattle.escape.proofs.OverLaws.{wide}
-
--- general: the text from i on is the block from i to e and the text from e on
-pub rest-block : (t : List ℕ) (i e : ℕ) → i ≤ e → drop i t ≡ take (e - i) (drop i t) ++ drop e t
-rest-block t i e h =
-    let j : i + (e - i) ≡ e = omega arith in
-    let d = drop-drop (e - i) i t ∙ ap (λ (k : ℕ). drop k t) j in
-    sym (take-append-drop (e - i) (drop i t)) ∙ ap (λ (r : List ℕ). take (e - i) (drop i t) ++ r) d
-
--- general: a part that goes to the end
-pub rest-whole : (t : List ℕ) (i : ℕ) → take (length t - i) (drop i t) ≡ drop i t
-rest-whole t i = take-all (length t - i) (drop i t) (omega (arith, length-drop i t))
 
 -- ---- the length
 

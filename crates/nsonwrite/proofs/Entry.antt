@@ -25,7 +25,7 @@ use Rattle.nson.specs.Nson.{counts, nson}
 use Rattle.nson.specs.Carries.{tagBytes, carries}
 use Rattle.nson.specs.Entries.{carried}
 use Rattle.nsonwrite.specs.Measure.{cutDescriptors, textsFit, lengthWith, measuredFit, nsonWith}
-use Rattle.nsonwrite.proofs.Places.{ends}
+use Rattle.buffer.proofs.Places.{ends}
 use Rattle.nsonwrite.proofs.Counts.{cut-length, cut-whole}
 use Rattle.nsonwrite.proofs.Whole.{nson-with, nson-length, fit}
 

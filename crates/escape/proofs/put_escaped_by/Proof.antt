@@ -9,8 +9,9 @@ use lib.ListN.{length, drop, length-set, length-take, length-drop}
 use Rattle.buffer.proofs.Laws.{Left, start, also, full, finish, kept}
 use Rattle.escape.specs.Escape.{escaped}
 use Rattle.escape.specs.Block.{byteBy}
-use Rattle.escape.proofs.OverLaws.{two-bytes}
-use Rattle.escape.proofs.BlockLaws.{rest-whole, run-written, run-letter}
+use Rattle.buffer.proofs.OverLaws.{two-bytes}
+use Rattle.scan.proofs.Step.{rest-whole}
+use Rattle.escape.proofs.BlockLaws.{run-written, run-letter}
 use Rattle.escape.proofs.put_escaped_by.Statement.{statement}
 use Rattle.escape.proofs.put_escaped_by.Tie as tie
 

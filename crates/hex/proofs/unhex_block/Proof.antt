@@ -7,7 +7,8 @@ use lib.ListN.{length}
 use Rattle.buffer.specs.Store.{Wrote}
 use Rattle.hex.specs.Hex.{unhex}
 use Rattle.hex.specs.Block.{valuesOf, pairsOf}
-use Rattle.hex.proofs.Pairs.{all-over, length-values, pairs-values}
+use Rattle.buffer.proofs.Places.{all-over}
+use Rattle.hex.proofs.Pairs.{length-values, pairs-values}
 use Rattle.hex.proofs.unhex_block.Statement.{statement}
 use Rattle.hex.proofs.unhex_block.Tie as tie
 

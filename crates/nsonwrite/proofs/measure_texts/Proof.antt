@@ -3,7 +3,7 @@
 use native.Mathlib.Omega.{arith}
 use borrow.Author.Needs.{needs}
 use Rattle.buffer.proofs.Laws.{then}
-use Rattle.nsonwrite.proofs.Places.{ends}
+use Rattle.buffer.proofs.Places.{ends}
 use Rattle.nsonwrite.proofs.Turns.{text-fit, texts-fit, texts-length, counts-wrote}
 use Rattle.nsonwrite.proofs.measure_texts.Statement.{statement}
 use Rattle.nsonwrite.proofs.measure_texts.Tie as tie

@@ -1,16 +1,17 @@
 -- Where a writer that began at the start of a buffer ends, and what then stands in front of that place.
 -- By whether the text fits: else the buffer is full.
--- general: belongs to crate store
-use Prim.Native.Nat.{ℕ, _+_, _≤_, _<_}
+use Prim.Native.Nat.{ℕ, _+_, _-_, _≤_, _<_}
 use mathlib.Core.Path.{_≡_, refl, sym, ap, _∙_}
-use mathlib.Core.List.{List, [], _∷_, _++_}
+use mathlib.Core.List.{List, [], _∷_, _++_, append-nil}
 use mathlib.Core.Logic.{dite}
 use native.Mathlib.Nat.{zero-add}
 use native.Mathlib.Omega.{arith}
 use native.Mathlib.Decide.{decLt}
+use lib.Seq.{take-append-le}
 use lib.ListN.{length, take, drop, take-append-drop, length-take, length-drop, length-append}
 use Rattle.buffer.specs.Store.{Buffer, puts, Wrote}
-use Rattle.buffer.proofs.Laws.{puts-append, puts-eq, puts-full}
+use Rattle.scan.proofs.Step.{rest-none}
+use Rattle.buffer.proofs.Laws.{puts-append, puts-eq, puts-full, cut}
 
 take-front : (x y : List ℕ) → take (length x) (x ++ y) ≡ x
 take-front [] y = refl
@@ -50,3 +51,22 @@ ends {d} {vs} {d′} {r} w =
     let e : r ≡ length vs = ap (λ (c : Buffer). c .1) (w .is ∙ puts-fit d vs fit) in
     let f : d′ ≡ vs ++ drop (length vs) d = ap (λ (c : Buffer). c .0) (w .is ∙ puts-fit d vs fit) in
     record { most = omega (arith, e); full = λ h. omega (arith, e); place = λ h. e; stands = λ h. rw (f, e) (take-front vs (drop (length vs) d)) })
+
+-- a writer with room ends behind its text
+pub ends-behind : {d : List ℕ} {at : ℕ} {vs d′ : List ℕ} {r : ℕ} → at + length vs ≤ length d → Wrote d at vs d′ r → r ≡ at + length vs
+ends-behind {d} {at} {vs} h w = ap (λ (b : Buffer). b .1) (w .is ∙ puts-eq d at vs h)
+
+-- a text as long as the buffer is all that is in it
+pub all-over : {d vs d′ : List ℕ} {r : ℕ} → length vs ≡ length d → Wrote d 0 vs d′ r → d′ ≡ vs
+all-over {d} {vs} h w =
+    let e = ap (λ (b : Buffer). b .0) (w .is ∙ puts-eq d 0 vs (omega arith)) in
+    let n : drop (0 + length vs) d ≡ [] = rest-none d (0 + length vs) (omega arith) in
+    e ∙ ap (λ (l : List ℕ). vs ++ l) n ∙ append-nil vs
+
+-- a full buffer leaves out what comes behind
+pub past : {d : List ℕ} {at : ℕ} {x d′ : List ℕ} {r : ℕ} (y : List ℕ) → length d ≤ at + length x → Wrote d at x d′ r → Wrote d at (x ++ y) d′ r
+past {d} {at} {x} y h w =
+    let n = length d - at in
+    let e = take-append-le n x y (omega arith) in
+    let u : puts (d, at) (take n x) ≡ puts (d, at) x = cut {d = d} {at = at} {vs = x} (record { is = refl }) .is in
+    cut (record { is = w .is ∙ sym u ∙ ap (λ (vs : List ℕ). puts (d, at) vs) (sym e) })

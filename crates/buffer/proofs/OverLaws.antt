@@ -1,4 +1,4 @@
--- general: what is written over does not matter. A writer may store more than it moves on by, if what is left to write
+-- What is written over does not matter. A writer may store more than it moves on by, if what is left to write
 -- is at least as long.
 -- By induction on what was stored too much: a store before it does not touch it.
 use Prim.Native.Nat.{ℕ, _+_, _<_, _≤_}
