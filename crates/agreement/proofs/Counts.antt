@@ -11,10 +11,10 @@ use Rattle.hex.specs.Hex.{hexes}
 use Rattle.hex.proofs.Texts.{length-hexes}
 use Rattle.scan.specs.Compare.{sameBytes}
 use Rattle.event.specs.Event.{Text, Tag, Event, Valid}
+use Rattle.jsontext.proofs.OneValue.{chars-one, one-value}
 use Rattle.jsontext.specs.Grammar as json
 use Rattle.json.specs.Meaning.{kindName, contentName, tagsName, Values, IsHex, is-hex, Each, IsArray, is-array, once}
-use Rattle.json.proofs.Tracks.{chars-one}
-use Rattle.json.proofs.OneEvent.{values-one, one-value}
+use Rattle.json.proofs.OneEvent.{values-one}
 use Rattle.nson.specs.Nson.{Counts, escapedSize, counts, descriptors, nsonField}
 use Rattle.nson.specs.Carries.{Carries}
 use Rattle.nson.specs.Read.{readNson}

@@ -17,8 +17,9 @@ use Rattle.notepack.proofs.Complete.{complete, one-event}
 use Rattle.notepack.proofs.StrictLaws.{reads-again, equal-exactly}
 use Rattle.notepack.proofs.Seen.{seen}
 use Rattle.strict.proofs.Laws.{strict-exactly}
+use Rattle.jsontext.proofs.OneValue.{one-value}
 use Rattle.json.proofs.Whole as whole
-use Rattle.json.proofs.OneEvent.{one-value, event-one}
+use Rattle.json.proofs.OneEvent.{event-one}
 use Rattle.agreement.specs.Demand2.{ReadsLayout, WritesStrict, CanonicalText, WritesCanonical, ReadsJson, Demand2}
 use Rattle.agreement.proofs.Entries.{fits}
 

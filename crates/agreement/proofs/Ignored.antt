@@ -7,11 +7,10 @@ use Rattle.scan.proofs.Step.{false-true}
 use Rattle.scan.specs.Compare.{sameBytes}
 use Rattle.event.specs.Event.{Text, Event}
 use Rattle.scan.proofs.CompareLaws.{same-same}
+use Rattle.jsontext.proofs.OneValue.{chars-one, one-value}
 use Rattle.jsontext.specs.Grammar as json
 use Rattle.json.specs.Meaning.{Values, no-value, named, other, Once, once, Says, Shallow, no-member, known, ignored, IsEvent, is-event}
-use Rattle.json.proofs.Tracks.{chars-one}
 use Rattle.json.proofs.Whole.{sound, complete}
-use Rattle.json.proofs.OneEvent.{one-value}
 use Rattle.agreement.specs.Counted.{nsonName, OtherField, ended, kept, removed, added}
 use Rattle.agreement.specs.Demand3.{FieldIgnored}
 

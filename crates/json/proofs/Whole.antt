@@ -17,6 +17,7 @@ use Rattle.scan.proofs.Reading.{Gives, gives, lacks, shown-gives, pick-gives, r
 use Rattle.event.specs.Event.{Event}
 use Rattle.jsontext.specs.Grammar as json
 use Rattle.jsontext.specs.Token.{isSpace, spaceAt}
+use Rattle.jsontext.proofs.OneValue.{end-solid}
 use Rattle.jsontext.proofs.TokenLaws.{bind, space-consumes, space-accepts}
 use Rattle.jsontext.proofs.FirstByte.{first-at, begins-value}
 use Rattle.json.specs.Meaning.{IsEvent}
@@ -62,11 +63,6 @@ pub sound : {s : List ℕ} {e : Event} → readJson s ≡ shown e → Shows s e
 sound {s} f = shown-gives (rw f at (read-shows s))
 
 -- ---- complete
-
--- general: belongs to crate jsontext. No white space stands behind the end.
-end-solid : (s : List ℕ) → isSpace (getD s (length s) 0) ≡ false
-unfolding isSpace
-end-solid s = rw (byte-none s (length s) (omega arith))
 
 -- THE completeness: a JSON text within 65,536 bytes whose tree is an event is shown as that event
 pub complete : {v : json.Json} {s : List ℕ} {e : Event} → json.JsonText v s → IsEvent v e → length s ≤ 65_536 → readJson s ≡ shown e

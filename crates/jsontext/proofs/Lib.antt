@@ -8,3 +8,4 @@ pub mod Unambiguous
 pub mod Meaning
 pub mod Telling
 pub mod Compact
+pub mod OneValue
