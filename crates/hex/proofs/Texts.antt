@@ -125,3 +125,13 @@ hexes-go {l} some all = let n = length-hexes l in digits-go (omega arith) (omega
 pub digits-ascii : {t : List ℕ} → All HexDigit t → All (λ (b : ℕ). b < 128) t
 digits-ascii none = none
 digits-ascii (also p r) = also (digit-ascii p) (digits-ascii r)
+
+-- digits in parts
+pub digits-append : (a b : List ℕ) → allDigits (a ++ b) ≡ pick (allDigits a) (allDigits b) false
+unfolding allDigits
+digits-append [] b = refl
+digits-append (x ∷ a) b = go (digits-append a b) (ltb (valueOf x) 16)
+  where
+    go : allDigits (a ++ b) ≡ pick (allDigits a) (allDigits b) false → (t : Bool) → pick t (allDigits (a ++ b)) false ≡ pick (pick t (allDigits a) false) (allDigits b) false
+    go e true = e
+    go e false = refl

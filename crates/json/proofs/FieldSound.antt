@@ -13,7 +13,7 @@ use Rattle.scan.specs.Choice.{pick, Answer, refused, Read, read}
 use Rattle.scan.specs.Span.{Span, here, All}
 use Rattle.scan.specs.Span as span
 use Rattle.scan.proofs.Step.{pick-true}
-use Rattle.scan.proofs.SpanLaws.{join, bite, span-length, from-span}
+use Rattle.scan.proofs.SpanLaws.{join, bite, span-length, part-of-span}
 use Rattle.scan.proofs.Reading.{Reads, reads, fails, pick-reads, then-reads, from-reads}
 use Rattle.utf8.specs.Utf8.{Utf8}
 use Rattle.hex.specs.Hex.{hexes, unhex, allDigits}
@@ -89,9 +89,9 @@ only-digits (b ∷ l) h =
     let r = in-range 48 57 b (t .0) in
     span.also (digit (r .0) (r .1)) (only-digits l (t .1))
 
--- general: belongs to crate scan. The bytes of a span, taken from the input.
+-- the bytes of a span, taken from the input by its two places
 pub span-part : {s l : List ℕ} {a e : ℕ} → Span s a l e → take (e - a) (drop a s) ≡ l
-span-part {s} {l} {a} {e} r = let n : length l ≡ e - a = omega (arith, span-length r) in rw (from-span r) (take-at l (drop e s) (e - a) n)
+span-part {l = l} {a = a} {e = e} r = part-of-span (e - a) (omega (arith, span-length r)) r
 
 pub whole-says : (max refusal : ℕ) (s : List ℕ) (a : ℕ) → Reads (Saying (Within IsNumber (λ (n : ℕ). n ≤ max))) s a (wholeAt max refusal s a)
 unfolding wholeAt wholeOf

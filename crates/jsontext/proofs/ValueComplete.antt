@@ -40,7 +40,7 @@ separator-accepts k z (json.separator {w = w} g h) r n =
 pub separator-stop : {s l : List ℕ} {a e : ℕ} → json.Separator 0x2C l → Span s a l e → Stop (getD s a 0)
 separator-stop (json.separator {w = w} g h) r = let u = cut w r in ws-stop g (u .1) (rw (open-span (u .2) .1) stop-comma)
 
-separator-some : {k : ℕ} {l : List ℕ} → json.Separator k l → 1 ≤ length l
+pub separator-some : {k : ℕ} {l : List ℕ} → json.Separator k l → 1 ≤ length l
 separator-some (json.separator {w = w} {x = x} g h) = simp length-append (omega arith)
 
 pub comma-solid : isSpace 0x2C ≡ false

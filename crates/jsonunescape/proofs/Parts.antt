@@ -14,6 +14,7 @@ use borrow.Author.Tests.{eq-eqb, ne-eqb, lt-ltb, le-ltb}
 use Rattle.scan.specs.Choice.{pick}
 use Rattle.scan.specs.Place.{begins, standsAt}
 use Rattle.scan.specs.Span.{All}
+use Rattle.scan.proofs.CompareLaws.{same-append}
 use Rattle.scan.proofs.Step.{pick-by, rest-none, rest-more}
 use Rattle.scan.proofs.SpanLaws.{span-fits}
 use Rattle.scan.proofs.PlaceLaws.{stands-span}
@@ -23,7 +24,7 @@ use Rattle.utf8.specs.Encode.{Scalar, below, above, encode}
 use Rattle.utf8.proofs.EncodeLaws.{encode-length, encode-none}
 use Rattle.hex.specs.Hex.{valueOf, digitOf, unhex, allDigits}
 use Rattle.hex.proofs.Digits.{value-of-digit}
-use Rattle.hex.proofs.Texts.{digits-pass}
+use Rattle.hex.proofs.Texts.{digits-pass, digits-append}
 use Rattle.hex.proofs.Turn.{unhex-two, unhex-ended}
 use Rattle.scan.specs.Compare.{sameBytes}
 use Rattle.jsonunescape.specs.Half.{held, halfBehind}
@@ -57,16 +58,7 @@ encoded {d} {d′} {k} n l w =
     let f : k ≡ length (encode n) = ap (λ (b : Buffer). b .1) e ∙ omega arith in
     ap (λ (b : Buffer). take k (drop 0 (b .0))) e ∙ take-at (encode n) (drop (0 + length (encode n)) d) k (sym f)
 
--- ---- digits in parts (general: of hex)
-
-digits-append : (a b : List ℕ) → allDigits (a ++ b) ≡ pick (allDigits a) (allDigits b) false
-unfolding allDigits
-digits-append [] b = refl
-digits-append (x ∷ a) b = go (digits-append a b) (ltb (valueOf x) 16)
-  where
-    go : allDigits (a ++ b) ≡ pick (allDigits a) (allDigits b) false → (t : Bool) → pick t (allDigits (a ++ b)) false ≡ pick (pick t (allDigits a) false) (allDigits b) false
-    go e true = e
-    go e false = refl
+-- ---- digits in parts
 
 pub digits-on : {x : Bool} (a b : List ℕ) → x ≡ allDigits (a ++ b) → allDigits a ≡ true → x ≡ allDigits b
 digits-on a b e t = e ∙ digits-append a b ∙ rw t
@@ -77,18 +69,7 @@ digits-off a b e f = sym (e ∙ digits-append a b ∙ rw f)
 pub digits-none : allDigits [] ≡ true
 digits-none = digits-pass All.none
 
--- ---- a name in parts (general: of event)
-
-same-append : (a b c : List ℕ) → sameBytes (a ++ b) c ≡ pick (begins a c) (sameBytes b (drop (length a) c)) false
-unfolding sameBytes begins
-same-append [] b c = refl
-same-append (x ∷ a) b [] = refl
-same-append (x ∷ a) b (y ∷ c) = go (same-append a b c) (eqb x y)
-  where
-    go : sameBytes (a ++ b) c ≡ pick (begins a c) (sameBytes b (drop (length a) c)) false → (t : Bool)
-        → pick t (sameBytes (a ++ b) c) false ≡ pick (pick t (begins a c) false) (sameBytes b (drop (length a) c)) false
-    go e true = e
-    go e false = refl
+-- ---- a name in parts
 
 module _ {x : Bool} (a b name : List ℕ) (j : ℕ) (e : x ≡ sameBytes (a ++ b) (drop j name)) where
   -- the part stands in the name: the rest decides

@@ -3,12 +3,13 @@
 use Prim.Native.Nat.{ℕ, _+_, _≤_, _<_}
 use mathlib.Core.Path.{_≡_, refl, sym, _∙_}
 use mathlib.Core.Bool.{Bool, true, false}
-use mathlib.Core.List.{List, [], _∷_}
+use mathlib.Core.List.{List, [], _∷_, _++_}
 use native.Mathlib.Omega.{arith}
 use lib.ListN.{length, getD, drop}
 use lib.Dec.{eqb}
 use borrow.Author.Tests.{lt-ltb, le-ltb, eq-eqb, ne-eqb, eqb-true}
 use Rattle.scan.specs.Choice.{pick}
+use Rattle.scan.specs.Place.{begins}
 use Rattle.scan.specs.Compare.{sameBytes, lower}
 use Rattle.scan.proofs.Step.{pick-true, false-true, rest-none, rest-more}
 
@@ -37,6 +38,18 @@ both-ways false false f g = refl
 
 pub same-sym : (a b : List ℕ) → sameBytes a b ≡ sameBytes b a
 same-sym a b = both-ways (sameBytes a b) (sameBytes b a) (λ h. rw (bytes-same a b h) (same-same b)) (λ h. rw (bytes-same b a h) (same-same a))
+
+-- in parts: the first begins the other string, and the rest is the same
+pub same-append : (a b c : List ℕ) → sameBytes (a ++ b) c ≡ pick (begins a c) (sameBytes b (drop (length a) c)) false
+unfolding sameBytes begins
+same-append [] b c = refl
+same-append (x ∷ a) b [] = refl
+same-append (x ∷ a) b (y ∷ c) = go (same-append a b c) (eqb x y)
+  where
+    go : sameBytes (a ++ b) c ≡ pick (begins a c) (sameBytes b (drop (length a) c)) false → (t : Bool)
+        → pick t (sameBytes (a ++ b) c) false ≡ pick (pick t (begins a c) false) (sameBytes b (drop (length a) c)) false
+    go e true = e
+    go e false = refl
 
 -- ---- the same bytes
 
