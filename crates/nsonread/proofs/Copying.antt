@@ -12,7 +12,7 @@ use Rattle.event.specs.Event.{Text, Tag}
 use Rattle.jsontext.specs.Escape.{unescape}
 use Rattle.notepack.specs.Strict.{packElement, packElements, packTag, packTags}
 use Rattle.notepack.proofs.Lengths.{tag-form}
-use Rattle.nson.specs.Read.{pieceAt, partAt, textAt, commaAt, itemsAt, arrayAt, itemAt, tagAt, wordHere, byteHere}
+use Rattle.nson.specs.Read.{pieceAt, partAt, textAt, itemsAt, arrayAt, itemAt, tagAt, wordHere, byteHere}
 use Rattle.nson.proofs.Pieces.{after}
 use Rattle.nsoncounts.specs.Counted.{itemSizes, tagSizes}
 use Rattle.nsonread.specs.Copy.{itemsText, itemsEnd, nsonTagsText}
