@@ -2,9 +2,8 @@
 -- A turn of a loop is one law; the number of tags is the number of their counts.
 use Prim.Native.Nat.{ℕ, zero, suc, _+_, _-_, _<_, _≤_}
 use mathlib.Core.Path.{_≡_, refl, sym, ap, _∙_}
-use mathlib.Core.List.{List, [], _∷_}
+use mathlib.Core.List.{List, _∷_}
 use native.Mathlib.Omega.{arith}
-use lib.ListN.{length}
 use borrow.Author.Tests.{eq-eqb, ne-eqb}
 use Rattle.scan.specs.Choice.{Answer, shown, refused, Read, read, andThen, many}
 use Rattle.scan.proofs.SpanLaws.{span-length}

@@ -3,12 +3,12 @@
 use Prim.Native.Nat.{ℕ, zero, suc, _+_, _*_, _≤_}
 use mathlib.Core.Path.{_≡_, refl, sym, ap, _∙_}
 use mathlib.Core.Bool.{Bool, true, false}
-use mathlib.Core.List.{List, [], _∷_}
+use mathlib.Core.List.{List}
 use native.Mathlib.Omega.{arith}
 use lib.ListN.{length}
 use lib.Dec.{leb, eqb}
 use borrow.Author.Tests.{eqb-false}
-use Rattle.scan.specs.Choice.{pick, Answer, shown, refused, Read, read, many}
+use Rattle.scan.specs.Choice.{pick, shown, refused, Read, read, many}
 use Rattle.scan.specs.Place.{within}
 use Rattle.scan.proofs.Reading.{read-same}
 use Rattle.scan.proofs.Many.{many-apart, many-count, pick-shown, after, shown-same}

@@ -3,11 +3,11 @@
 use Prim.Native.Nat.{ℕ, _+_, _<_, _≤_}
 use mathlib.Core.Path.{_≡_, refl, sym, ap, _∙_}
 use mathlib.Core.Bool.{Bool, true, false}
-use mathlib.Core.List.{List, _++_, append-assoc}
+use mathlib.Core.List.{List, append-assoc}
 use native.Mathlib.Omega.{arith}
 use lib.ListN.{length}
 use lib.Dec.{leb, eqb}
-use Rattle.scan.specs.Choice.{pick, Answer, shown, refused, Read, read, andThen}
+use Rattle.scan.specs.Choice.{pick, Answer, shown, refused, Read, andThen}
 use Rattle.scan.proofs.Many.{pick-shown, after, shown-same}
 use Rattle.buffer.specs.Store.{Wrote}
 use Rattle.buffer.specs.Entry.{writes, leaves}

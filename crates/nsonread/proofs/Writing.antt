@@ -1,7 +1,7 @@
 -- The turns of the two loops that write: one item or one tag is written, the others are left.
 -- By the definitions, one step each.
 use Prim.Native.Nat.{ℕ, zero, suc, _+_, _*_, _-_, _<_, _≤_}
-use mathlib.Core.Path.{_≡_, refl, sym, ap, _∙_}
+use mathlib.Core.Path.{_≡_, refl}
 use mathlib.Core.List.{List, [], _++_}
 use native.Mathlib.Omega.{arith}
 use Rattle.varint.specs.Uleb.{uleb}

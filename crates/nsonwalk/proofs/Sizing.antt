@@ -4,19 +4,16 @@ use Prim.Native.Nat.{ℕ, zero, suc, _+_, _*_, _-_, _<_, _≤_}
 use mathlib.Core.Path.{_≡_, refl, sym, ap, _∙_}
 use mathlib.Core.Bool.{Bool, true, false}
 use mathlib.Core.List.{List, [], _∷_, _++_}
-use native.Mathlib.Nat.{add-zero, add-assoc}
 use native.Mathlib.Omega.{arith}
 use lib.ListN.{length, length-append}
 use Rattle.scan.specs.Choice.{Answer, shown, refused, Read, read, andThen}
 use Rattle.scan.proofs.Many.{then-shown}
 use Rattle.scan.proofs.Reading.{read-same}
 use Rattle.varint.specs.Uleb.{uleb}
-use Rattle.event.specs.Event.{Text, Tag}
 use Rattle.jsontext.specs.Escape.{unescape}
-use Rattle.notepack.specs.Strict.{packElement, packElements, packTag, packTags}
+use Rattle.notepack.specs.Strict.{packElement, packElements, packTag}
 use Rattle.notepack.proofs.Lengths.{tag-form}
-use Rattle.nson.specs.Read.{partAt, pieceAt, commaAt, itemsAt, arrayAt, itemAt, tagAt, tagsAt, tagsPartAt, wordHere, byteHere}
-use Rattle.nson.specs.Nson.{tagsLabel, endLabel}
+use Rattle.nson.specs.Read.{partAt, pieceAt, commaAt, itemsAt, arrayAt, itemAt, tagAt, wordHere, byteHere}
 use Rattle.nsoncounts.specs.Counted.{textSizeAt, itemSizes, tagSizes}
 use Rattle.nsonwalk.specs.Walk.{gathered}
 use Rattle.nsoncounts.proofs.Laws.{text-shown, text-refused}

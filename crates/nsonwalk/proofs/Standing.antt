@@ -1,7 +1,7 @@
 -- Where the parts of an accepted body stand, and that what was measured of them is the length of the event's strict form.
 -- The counts stand at their places, and each part begins where the one before it ends.
 use Prim.Native.Nat.{ℕ, _+_}
-use mathlib.Core.Path.{_≡_, refl, sym, ap, _∙_}
+use mathlib.Core.Path.{_≡_, sym, ap, _∙_}
 use mathlib.Core.Bool.{false}
 use mathlib.Core.List.{List, [], _∷_}
 use native.Mathlib.Omega.{arith}

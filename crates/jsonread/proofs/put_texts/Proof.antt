@@ -7,8 +7,7 @@ use Rattle.buffer.proofs.Laws.{Left, start, part, done, also, same}
 use Rattle.jsonread.specs.Copy.{textsText, textsEnd}
 use Rattle.jsonstring.specs.Answers.{textRead}
 use Rattle.jsonstring.proofs.PlainLaws.{told-own}
-use Rattle.jsonread.proofs.Plain.{same-wrote}
-use Rattle.jsonread.proofs.Copying.{texts-turn, texts-stop, texts-left, next-place}
+use Rattle.jsonread.proofs.Copying.{texts-turn, texts-stop, texts-left, next-place, same-wrote}
 use Rattle.jsonread.proofs.put_texts.Statement.{statement}
 use Rattle.jsonread.proofs.put_texts.Tie as tie
 
@@ -35,7 +34,7 @@ again c =
     let k = c .before .before .before .before .before .before .before .found2 .given .1 in
     let t = texts-turn s (q .left) (q .i) (c .before .before .before .before .before .before .before .before .before .before .loop-test .taken) (sym (c .before .before .before .before .before .before .before .before .before .read-text .ensures .0) ∙ ap textRead k) in
     let n = next-place s _ (c .before .past-space2 .ensures) (c .behind2 .ensures) in
-    (also (ap (textsText (q .left - 1) s) n) (part (also (t .0) (q .inv .0)) (c .before .before .before .before .put-element .ensures)), q .inv .1 ∙ t .1 ∙ ap (textsEnd (q .left - 1) s) n)
+    (also (ap (textsText (q .left - 1) s) n) (part (also (t .0) (q .inv .0)) (c .before .before .before .before .put-spelled-element .ensures)), q .inv .1 ∙ t .1 ∙ ap (textsEnd (q .left - 1) s) n)
 
 stop : tie.Need-returns Inv-loop μ-loop
 stop c =
