@@ -56,7 +56,7 @@ hex-not n t e f = rw (ne-eqb (length t) (2 * n) (λ y. f (e ∙ y)))
 -- ---- digits
 
 -- digits pass the test, and a byte that is none fails it
-digits-only : {l : List ℕ} → All decimal.Digit l → digitsOnly l ≡ true
+digits-only : {l : List ℕ} → All decimal.DecimalDigit l → digitsOnly l ≡ true
 unfolding digitsOnly
 digits-only none = refl
 digits-only (also {b = b} h r) = rw (digit-passes b h) (digits-only r)
@@ -72,7 +72,7 @@ module _ (max refusal : ℕ) (l : List ℕ) (at next : ℕ) where
   unfolding wholeOf
   whole-number {n} {c} e f = go (consumes-number max l 0 (sym e))
     where
-      go : (d : List ℕ) × All decimal.Digit d × (0 < length d) × Span l 0 d c × (isDigit (getD l c 0) ≡ false) × (numberOf d ≡ n) × (n ≤ max)
+      go : (d : List ℕ) × All decimal.DecimalDigit d × (0 < length d) × Span l 0 d c × (isDigit (getD l c 0) ≡ false) × (numberOf d ≡ n) × (n ≤ max)
           → read n next ≡ pick (digitsOnly l) (pick (leb (numberOf l) max) (read (numberOf l) next) (refused refusal at)) (refused 14 at)
       go g =
           let same : l ≡ g .0 = whole-span (rw f at (g .3)) in
@@ -83,7 +83,7 @@ module _ (max refusal : ℕ) (l : List ℕ) (at next : ℕ) where
   unfolding wholeOf
   whole-over {c} e f = go (consumes-over max l 0 (sym e))
     where
-      go : (d : List ℕ) × All decimal.Digit d × (0 < length d) × Span l 0 d c × (isDigit (getD l c 0) ≡ false) × (max < numberOf d)
+      go : (d : List ℕ) × All decimal.DecimalDigit d × (0 < length d) × Span l 0 d c × (isDigit (getD l c 0) ≡ false) × (max < numberOf d)
           → refused refusal at ≡ pick (digitsOnly l) (pick (leb (numberOf l) max) (read (numberOf l) next) (refused refusal at)) (refused 14 at)
       go g =
           let same : l ≡ g .0 = whole-span (rw f at (g .3)) in
