@@ -19,7 +19,7 @@ use Rattle.jsontext.specs.Token.{spaceAt}
 use Rattle.jsontext.specs.Text.{stringAt}
 use Rattle.scan.proofs.Fits.{byte-positive}
 use Rattle.json.specs.Field.{textOf, textAt, tagAt}
-use Rattle.jsonread.specs.Copy.{behindAt, nextAt, textEnd, countTexts, textsText, textsEnd, jsonTagText, jsonTagsText}
+use Rattle.jsonread.specs.Copy.{behindAt, nextAt, textEnd, countTexts, textsText, jsonTextsEnd, jsonTagText, jsonTagsText}
 use Rattle.jsonfields.proofs.Strings.{string-ends, text-string}
 use Rattle.jsonfields.proofs.Values.{tag-took}
 use Rattle.jsonfields.proofs.Items.{Took, last, more}
@@ -28,29 +28,29 @@ use Rattle.jsonfields.proofs.Items.{Took, last, more}
 
 module _ (s : List ℕ) where
   pub texts-turn : (left at : ℕ) {p : Spelled} {e : ℕ} → 0 < left → stringAt s at ≡ read p e
-      → (textsText left s at ≡ packElement (textOf s p) ++ textsText (left - 1) s (nextAt s e)) × (textsEnd left s at ≡ textsEnd (left - 1) s (nextAt s e))
-  unfolding textsText textsEnd
+      → (textsText left s at ≡ packElement (textOf s p) ++ textsText (left - 1) s (nextAt s e)) × (jsonTextsEnd left s at ≡ jsonTextsEnd (left - 1) s (nextAt s e))
+  unfolding textsText jsonTextsEnd
   texts-turn zero at h r = absurd (omega arith)
   texts-turn (suc left) at h r = (rw (r, sub-one), rw (r, sub-one))
 
-  pub texts-stop : (left at : ℕ) {n q : ℕ} → 0 < left → stringAt s at ≡ refused n q → (textsText left s at ≡ []) × (textsEnd left s at ≡ at)
-  unfolding textsText textsEnd
+  pub texts-stop : (left at : ℕ) {n q : ℕ} → 0 < left → stringAt s at ≡ refused n q → (textsText left s at ≡ []) × (jsonTextsEnd left s at ≡ at)
+  unfolding textsText jsonTextsEnd
   texts-stop zero at h r = absurd (omega arith)
   texts-stop (suc left) at h r = (rw r, rw r)
 
-  pub texts-left : (left at : ℕ) → left ≤ 0 → (textsText left s at ≡ []) × (textsEnd left s at ≡ at)
-  unfolding textsText textsEnd
+  pub texts-left : (left at : ℕ) → left ≤ 0 → (textsText left s at ≡ []) × (jsonTextsEnd left s at ≡ at)
+  unfolding textsText jsonTextsEnd
   texts-left zero at h = (refl, refl)
   texts-left (suc left) at h = absurd (omega arith)
 
   pub tags-turn : (left at : ℕ) → 0 < left
-      → jsonTagsText left s at ≡ jsonTagText s (behindAt s at) ++ jsonTagsText (left - 1) s (behindAt s (textsEnd (countTexts 255 s (behindAt s at)) s (behindAt s at)))
+      → jsonTagsText left s at ≡ jsonTagText s (behindAt s at) ++ jsonTagsText (left - 1) s (behindAt s (jsonTextsEnd (countTexts 255 s (behindAt s at)) s (behindAt s at)))
   unfolding jsonTagsText
   tags-turn zero at h = absurd (omega arith)
   tags-turn (suc left) at h = rw sub-one
 
   -- a tag more: its count and its texts are written, and the others are left
-  pub tags-again : (left at : ℕ) → 0 < left → {first n end next : ℕ} → first ≡ behindAt s at → n ≡ countTexts 255 s first → end ≡ textsEnd n s first → next ≡ behindAt s end
+  pub tags-again : (left at : ℕ) → 0 < left → {first n end next : ℕ} → first ≡ behindAt s at → n ≡ countTexts 255 s first → end ≡ jsonTextsEnd n s first → next ≡ behindAt s end
       → jsonTagsText left s at ≡ uleb n ++ (textsText n s first ++ jsonTagsText (left - 1) s next)
   unfolding jsonTagText
   tags-again left at h {first} {n} {end} {next} e f g k =
@@ -132,10 +132,10 @@ module _ (s : List ℕ) where
   pub record TextsWritten (left at : ℕ) (l : Tag) (c : ℕ) : Type 0 where
     pub count : countTexts (suc left) s at ≡ length l
     pub text : textsText (length l) s at ≡ packElements l
-    pub end : textsEnd (length l) s at ≡ spaceAt s c
+    pub end : jsonTextsEnd (length l) s at ≡ spaceAt s c
 
   pub texts-written : {left at : ℕ} {l : Tag} {c : ℕ} → Took (textAt s) s left at l c → TextsWritten left at l c
-  unfolding countTexts textsText textsEnd nextAt
+  unfolding countTexts textsText jsonTextsEnd nextAt
   texts-written (last {i = i} {e = e} {x = x} f b) =
       let g = text-string s i f in
       let n = behind-there (spaceAt s e) 0x5D b (omega arith) in

@@ -39,9 +39,9 @@ unfoldable pub textsText : ℕ → List ℕ → ℕ → List ℕ
 textsText zero s at = []
 textsText (suc n) s at = orElse [] (stringAt s at) λ r. packElement (textOf s (r .value)) ++ textsText n s (nextAt s (r .next))
 
-unfoldable pub textsEnd : ℕ → List ℕ → ℕ → ℕ
-textsEnd zero s at = at
-textsEnd (suc n) s at = orElse at (stringAt s at) λ r. textsEnd n s (nextAt s (r .next))
+unfoldable pub jsonTextsEnd : ℕ → List ℕ → ℕ → ℕ
+jsonTextsEnd zero s at = at
+jsonTextsEnd (suc n) s at = orElse at (stringAt s at) λ r. jsonTextsEnd n s (nextAt s (r .next))
 
 -- n tags: the first text of each stands behind its bracket
 unfoldable pub jsonTagText : List ℕ → ℕ → List ℕ
@@ -50,7 +50,7 @@ jsonTagText s first = uleb (countTexts 255 s first) ++ textsText (countTexts 255
 unfoldable pub jsonTagsText : ℕ → List ℕ → ℕ → List ℕ
 jsonTagsText zero s at = []
 jsonTagsText (suc n) s at =
-    jsonTagText s (behindAt s at) ++ jsonTagsText n s (behindAt s (textsEnd (countTexts 255 s (behindAt s at)) s (behindAt s at)))
+    jsonTagText s (behindAt s at) ++ jsonTagsText n s (behindAt s (jsonTextsEnd (countTexts 255 s (behindAt s at)) s (behindAt s at)))
 
 -- the content: where it is as long as it is spelled, its bytes as they are
 unfoldable pub spotContent : List ℕ → Spot → List ℕ

@@ -12,7 +12,7 @@ ghost use Rattle.hex.specs.Hex.{unhex};
 ghost use Rattle.json.specs.Field.{textOf};
 ghost use Rattle.json.specs.Entries.{jsonReads, jsonLeaves, jsonNeeds};
 ghost use Rattle.jsonfields.specs.Spots.{spelledOf};
-ghost use Rattle.jsonread.specs.Copy.{behindAt, textEnd, countTexts, textsText, textsEnd, jsonTagsText, spotContent, fieldsText};
+ghost use Rattle.jsonread.specs.Copy.{behindAt, textEnd, countTexts, textsText, jsonTextsEnd, jsonTagsText, spotContent, fieldsText};
 ghost use Rattle.jsonread.specs.Whole.{wholeSpotsAt, wholeRead};
 
 // The place behind what was written, and the place behind what was read for it.
@@ -69,7 +69,7 @@ fn count_texts(s: &[u8], at: usize) -> u64
 // count texts from a place on, and the place behind what closes them.
 fn put_texts(out: &mut [u8], at: usize, s: &[u8], from: usize, count: u64) -> Copied
     ensures { λ r. ⌜ Wrote (now (out .entry)) at (textsText count (now (s .entry)) from) (now (out .exit)) (r .out) ⌝ }
-    ensures { λ r. ⌜ r .next ≡ textsEnd count (now (s .entry)) from ⌝ }
+    ensures { λ r. ⌜ r .next ≡ jsonTextsEnd count (now (s .entry)) from ⌝ }
 {
     let mut o = at;
     let mut i = from;
@@ -130,7 +130,7 @@ fn put_text_spot(out: &mut [u8], at: usize, s: &[u8], p: Spot) -> usize
 }
 
 // The strict form of the event that the fields say.
-pub fn put_event(out: &mut [u8], at: usize, s: &[u8], f: Fields) -> usize
+fn put_event(out: &mut [u8], at: usize, s: &[u8], f: Fields) -> usize
     ensures { λ r. ⌜ Wrote (now (out .entry)) at (fieldsText (now (s .entry)) f) (now (out .exit)) r ⌝ }
 {
     let content = f.content;

@@ -19,7 +19,7 @@ use Rattle.scan.proofs.Step.{rest-none, rest-more, pick-true, false-true}
 use Rattle.scan.proofs.AllLaws.{all-at}
 use Rattle.scan.proofs.Fits.{byte-positive}
 use Rattle.scan.proofs.BlockLaws.{not-one, not-control, block-none, stop-within, stop-byte, stop-at, stop-block}
-use Rattle.hex.specs.Hex.{HexDigit, number, letter, allDigits}
+use Rattle.hex.specs.Hex.{LowerHex, number, letter, allDigits}
 use Rattle.hex.proofs.Texts.{pass-digits}
 use Rattle.jsontext.specs.declared.Spelled.{Spelled}
 use Rattle.jsontext.specs.Escape.{unescape}
@@ -63,7 +63,7 @@ pub quote-special : isSpecial 0x22 ≡ true
 unfolding isSpecial
 quote-special = refl
 
-digit-plain : (b : ℕ) → HexDigit b → isSpecial b ≡ false
+digit-plain : (b : ℕ) → LowerHex b → isSpecial b ≡ false
 digit-plain b (number h l) = not-special b (omega arith) (λ z. omega arith) (λ z. omega arith) (omega arith)
 digit-plain b (letter h l) = not-special b (omega arith) (λ z. omega arith) (λ z. omega arith) (omega arith)
 
@@ -170,11 +170,11 @@ pub plain-own : (s : List ℕ) (a e : ℕ) → PlainTo s a e → unescape (take 
 plain-own s a e p = unescape-itself (run-all s (e - a) a (omega (arith, p .onward, p .inside)) (λ k l m. p .plain k l (omega (arith, p .onward))))
 
 -- digits are their own text
-all-slash : {t : List ℕ} → All HexDigit t → All (λ (b : ℕ). b ≡ 0x5C → ⊥) t
+all-slash : {t : List ℕ} → All LowerHex t → All (λ (b : ℕ). b ≡ 0x5C → ⊥) t
 all-slash none = none
 all-slash (also {b = b} h r) = also (bare-byte b (digit-plain b h) .no-slash) (all-slash r)
 
-pub digits-own : {t : List ℕ} → All HexDigit t → unescape t ≡ t
+pub digits-own : {t : List ℕ} → All LowerHex t → unescape t ≡ t
 digits-own d = unescape-itself (all-slash d)
 
 -- what `short_quote` tells

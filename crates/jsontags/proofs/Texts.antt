@@ -8,7 +8,7 @@ use native.Mathlib.Omega.{arith}
 use lib.ListN.{length, length-append}
 use borrow.Author.Tests.{ne-eqb, lt-ltb}
 use Rattle.scan.specs.Span.{All, none, also, IsBytes}
-use Rattle.hex.specs.Hex.{HexDigit, number, letter, hexes}
+use Rattle.hex.specs.Hex.{LowerHex, number, letter, hexes}
 use Rattle.hex.proofs.Texts.{length-hexes, hexes-digits}
 use Rattle.escape.specs.declared.Escaping.{Escaping}
 use Rattle.escape.specs.declared.Escaping.the-variants.{Canonical, Nson}
@@ -33,11 +33,11 @@ byte-stands Canonical b h n =
     )
 byte-stands Nson b h n = simp (ne-eqb b 0x0A (λ e. omega arith), ne-eqb b 0x22 (λ e. omega arith), ne-eqb b 0x5C n)
 
-digit-stands : (k : Escaping) {b : ℕ} → HexDigit b → byteOf k b ≡ b ∷ []
+digit-stands : (k : Escaping) {b : ℕ} → LowerHex b → byteOf k b ≡ b ∷ []
 digit-stands k {b} (number l h) = byte-stands k b (omega arith) (λ e. omega arith)
 digit-stands k {b} (letter l h) = byte-stands k b (omega arith) (λ e. omega arith)
 
-pub digits-stand : (k : Escaping) {t : List ℕ} → All HexDigit t → escaped (byteOf k) t ≡ t
+pub digits-stand : (k : Escaping) {t : List ℕ} → All LowerHex t → escaped (byteOf k) t ≡ t
 digits-stand k none = escaped-none (byteOf k)
 digits-stand k (also {b = b} {l = l} d a) = escaped-more (byteOf k) b l ∙ rw (digit-stands k d, digits-stand k a)
 

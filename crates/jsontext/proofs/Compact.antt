@@ -82,12 +82,12 @@ arrayOf l = json.array (items l)
 one-char : {b : ℕ} {l : List ℕ} → json.Unescaped (b ∷ []) → json.Chars l l → json.Chars (b ∷ l) (b ∷ l)
 one-char {b} g r = json.char {c = b ∷ []} {t = b ∷ []} (json.unescaped g) r
 
-hex-char : {b : ℕ} → hex.HexDigit b → json.Unescaped (b ∷ [])
+hex-char : {b : ℕ} → hex.LowerHex b → json.Unescaped (b ∷ [])
 hex-char {b} (hex.number l h) = json.to-5B (utf8.octet {b = b} (omega arith) (omega arith))
 hex-char {b} (hex.letter l h) = json.to-7F (utf8.octet {b = b} (omega arith) (omega arith))
 
 -- hex digits
-pub digits-chars : {l : List ℕ} → All hex.HexDigit l → json.Chars l l
+pub digits-chars : {l : List ℕ} → All hex.LowerHex l → json.Chars l l
 digits-chars none = json.no-char
 digits-chars (also p r) = one-char (hex-char p) (digits-chars r)
 

@@ -18,7 +18,7 @@ use Rattle.scan.proofs.SpanLaws.{join, cut-at, nth, seen, span-fits}
 use Rattle.utf8.specs.Utf8.{octet}
 use Rattle.utf8.specs.Encode.{Scalar, below, above, encode}
 use Rattle.utf8.proofs.EncodeLaws.{encode-one, encode-length}
-use Rattle.hex.specs.Hex.{HexDigit, number, letter, valueOf}
+use Rattle.hex.specs.Hex.{LowerHex, number, letter, valueOf}
 use Rattle.hex.proofs.Digits.{in-range, value-digit, value-of-digit}
 use Rattle.jsontext.specs.declared.Escape.{Escape}
 use Rattle.jsontext.specs.Grammar as json
@@ -50,7 +50,7 @@ value-hex b =
     pick-by (λ (v : ℕ). v < 16 → json.HexDigit b v) (within 0x41 0x46 b) (λ t h. let r = in-range 0x41 0x46 b t in json.HexDigit.capital (r .0) (r .1))
     (λ f h. lower (value-digit b h))
   where
-    lower : HexDigit b → json.HexDigit b (valueOf b)
+    lower : LowerHex b → json.HexDigit b (valueOf b)
     lower (number l h) = rw (value-number b l h) (json.HexDigit.number l h)
     lower (letter l h) = rw (value-letter b l h) (json.HexDigit.small l h)
 

@@ -1,4 +1,4 @@
--- Inner definitions: a private second pass goes over the texts and tags of a packed event by them, behind the reader.
+-- Going over the texts and tags of a packed event again, behind the reader: what a second pass finds from place to place. No entry promises by them.
 -- Total: n parts are n parts and n tags are n tags, whatever stands there. Assumes nothing.
 use Prim.Native.Nat.{ℕ, zero, suc, _/_, _%_}
 use mathlib.Core.Bool.{false}

@@ -116,7 +116,7 @@ impl Cursor {
     }
 
     // n bytes of well-formed text.
-    pub fn text(self, s: &[u8], place: usize, n: u64) -> PartRead
+    fn text(self, s: &[u8], place: usize, n: u64) -> PartRead
         ensures { λ r. ⌜ partRead r ≡ textAt place n (now (s .entry)) (self .at) ⌝ }
     {
         let at = self.at;

@@ -14,7 +14,7 @@ use Rattle.scan.proofs.SpanLaws.{span-length, part-of-span, span-of-part}
 use Rattle.scan.proofs.PlaceLaws.{stands-span, span-stands}
 use Rattle.scan.proofs.Reading.{read-same}
 use Rattle.scan.proofs.Many.{pick-shown, after, shown-same}
-use Rattle.hex.specs.Hex.{HexDigit}
+use Rattle.hex.specs.Hex.{LowerHex}
 use Rattle.hex.proofs.Texts.{digits-pass, pass-digits}
 use Rattle.decimal.specs.Decimal.{decimal, numberOf}
 use Rattle.decimal.proofs.Spelling.{number-decimal}
@@ -40,7 +40,7 @@ piece-accepts number r = rw (span-stands r) (ap shown (sym (span-length r)))
 pub record HexHere (n : ℕ) (s : List ℕ) (at p : ℕ) : Type 0 where
   pub span : Span s at (partAt n s at) p
   pub count : length (partAt n s at) ≡ n
-  pub digits : All HexDigit (partAt n s at)
+  pub digits : All LowerHex (partAt n s at)
 
 pub hex-shown : (n : ℕ) (s : List ℕ) (at p : ℕ) → hexAt n s at ≡ shown p → HexHere n s at p
 unfolding hexAt
@@ -52,7 +52,7 @@ hex-shown n s at p e =
     let f : at + n ≡ p = shown-same (v .1) in
     record { span = rw f at (span-of-part s at n c); count = c; digits = pass-digits l (v .0) }
 
-pub hex-accepts : {s l : List ℕ} {at p : ℕ} (n : ℕ) → Span s at l p → length l ≡ n → All HexDigit l → hexAt n s at ≡ shown p
+pub hex-accepts : {s l : List ℕ} {at p : ℕ} (n : ℕ) → Span s at l p → length l ≡ n → All LowerHex l → hexAt n s at ≡ shown p
 unfolding hexAt
 hex-accepts {s} {l} {at} {p} n r e d =
     let f : at + n ≡ p = ap (λ (k : ℕ). at + k) (sym e) ∙ sym (span-length r) in

@@ -13,7 +13,7 @@ use Rattle.scan.specs.Choice.{shown}
 use Rattle.scan.specs.Span.{All, none, also}
 use Rattle.scan.proofs.Step.{pick-true}
 use Rattle.scan.proofs.AllLaws.{all-take}
-use Rattle.hex.specs.Hex.{HexDigit, allDigits}
+use Rattle.hex.specs.Hex.{LowerHex, allDigits}
 use Rattle.hex.proofs.Texts.{digits-pass, pass-digits}
 use Rattle.nson.specs.Read.{hexAt}
 use Rattle.nsoncounts.specs.Counted.{fieldDigits}
@@ -36,8 +36,8 @@ field-hex n end s at d h k =
     let u = pick-true (eqb (length (take m l)) m) (allDigits (take m l)) d in
     let back : 320 + (at - 320) ≡ at = omega arith in
     let place : drop (at - 320) l ≡ drop at s = drop-drop (at - 320) 320 s ∙ ap (λ (i : ℕ). drop i s) back in
-    let a : All HexDigit (take n (drop (at - 320) l)) = part-all (at - 320) n m l (omega arith) (pass-digits (take m l) (u .1)) in
-    let b : All HexDigit (take n (drop at s)) = rw place at a in
+    let a : All LowerHex (take n (drop (at - 320) l)) = part-all (at - 320) n m l (omega arith) (pass-digits (take m l) (u .1)) in
+    let b : All LowerHex (take n (drop at s)) = rw place at a in
     let fits = inside n end at (length s) h k (part-fits m s 320 refl (eqb-true (length (take m l)) m (u .0))) in
     let c = length-take-le n (drop at s) (rw (length-drop at s) fits) in
     rw (eq-eqb _ n c, digits-pass b) refl

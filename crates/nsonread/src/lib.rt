@@ -12,6 +12,11 @@ ghost use Rattle.nson.specs.Nson.{tagCountsPlace};
 ghost use Rattle.nsonwalk.specs.Walk.{contentPlace, tagsPlace, countsMost, tagsPlaceMost};
 ghost use Rattle.nsonread.specs.Copy.{itemsText, itemsEnd, nsonTagsText, nsonFrontText, strictOf, itemsPlaceMost};
 
+// Behind the nson field: `","kind":` and `,"content":"` around the kind; `","tags":` and a bracket in front of the first tag.
+const AROUND_KIND: usize = 9 + 12;
+
+const BEFORE_TAGS: usize = 9 + 1;
+
 // The place behind what was written, and the place behind what was read for it.
 struct Copied {
     out: usize,
@@ -73,7 +78,7 @@ fn put_nson_front(out: &mut [u8], at: usize, s: &[u8], w: NsonWalked) -> usize
     ensures { λ r. ⌜ Wrote (now (out .entry)) at (nsonFrontText (now (s .entry)) w) (now (out .exit)) r ⌝ }
 {
     let z = w.sizes;
-    let content_at = w.body_at + nsonwalk::AROUND_KIND + z.kind;
+    let content_at = w.body_at + AROUND_KIND + z.kind;
     let a = hex::put_unhex(out, at, scan::part(s, nsoncounts::ID_AT, 64));
     let b = hex::put_unhex(out, a, scan::part(s, nsoncounts::PUBKEY_AT, 64));
     let c = hex::put_unhex(out, b, scan::part(s, nsoncounts::SIG_AT, 128));
@@ -98,7 +103,7 @@ fn put_strict_of(out: &mut [u8], s: &[u8], w: NsonWalked) -> usize
         s,
         z.tags,
         nsoncounts::TAG_COUNTS_AT,
-        w.body_at + nsonwalk::AROUND_KIND + z.kind + z.content + nsonwalk::BEFORE_TAGS,
+        w.body_at + AROUND_KIND + z.kind + z.content + BEFORE_TAGS,
     )
 }
 

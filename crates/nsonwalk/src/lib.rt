@@ -19,11 +19,6 @@ ghost use Rattle.nsoncounts.specs.Answers.{skip, amountRead, amountIn};
 ghost use Rattle.nsonwalk.specs.Walk.{gathered, elementMost, tagMost, countsMost, tagsPlaceMost, bodySize, kept, tagsPlace, nsonWalkAt};
 ghost use Rattle.nsonwalk.specs.Answers.{bodyRead, contentSizeIn, tagsSizeIn, nsonWalk, sizesOfWalk, tagsPlaceOf};
 
-// Behind the nson field: `","kind":` and `,"content":"` around the kind; `","tags":` and a bracket in front of the first tag.
-pub const AROUND_KIND: usize = 9 + 12;
-
-pub const BEFORE_TAGS: usize = 9 + 1;
-
 // A number and the cursor behind it.
 struct Numbered {
     n: usize,

@@ -15,7 +15,7 @@ use Rattle.jsonunescape.specs.Run.{backslashAt}
 use Rattle.jsontext.proofs.Meaning.{unescape-byte, unescape-itself}
 use Rattle.jsonunescape.proofs.Unescape.{unescape-end, taken, length-escape, unescape-whole}
 use Rattle.varint.specs.Uleb.{uleb}
-use Rattle.hex.specs.Hex.{HexDigit, number, letter, unhex, goesAsBytes}
+use Rattle.hex.specs.Hex.{LowerHex, number, letter, unhex, goesAsBytes}
 use Rattle.hex.proofs.Texts.{go-digits}
 use Rattle.notepack.specs.Strict.{packElement}
 use Rattle.notepack.proofs.Lengths.{element-bytes, element-text, length-as-bytes, length-as-text}
@@ -41,7 +41,7 @@ length-from (suc k) t i h =
 pub length-unescape : (t : List ℕ) → length (unescape t) ≤ length t
 length-unescape t = let m : length (unescape t) ≤ length t - 0 = length-from (length t) t 0 (omega arith) in omega arith
 
-digit-plain : (b : ℕ) → HexDigit b → b ≡ 0x5C → ⊥
+digit-plain : (b : ℕ) → LowerHex b → b ≡ 0x5C → ⊥
 digit-plain b (number l h) e = omega arith
 digit-plain b (letter l h) e = omega arith
 
