@@ -3,7 +3,7 @@
  * a program that takes `--bench ENTRY FILE N` (third word, may be missing). The parsers take the text that
  * kez_json_read takes, and only parse it. The table is gone through several times and the best figure of each kept, so
  * that a busy moment of the machine does not count. It goes to standard output, and its figures line by line to
- * target/host/bench.tsv. Built with -DKIND_.. as the driver. */
+ * target/host/bench.tsv. */
 #define _GNU_SOURCE
 #include "kezubimoryu.h"
 
@@ -108,24 +108,12 @@ static const entry entries[] = {
     {"pack", "kez_notepack_write", WRITES, kez_notepack_write, 0},
     {"tag_len", "kez_notepack_tag_len", COUNTS, kez_notepack_tag_len, 0},
     {"element", "kez_notepack_element", SHOWS, kez_notepack_element, 0},
-#ifdef KIND_canonical
     {"canonical", "kez_canonical_write", WRITES, kez_canonical_write, 0},
-#endif
-#ifdef KIND_nson_write
     {"nson_write", "kez_nson_write", WRITES, kez_nson_write, 0},
-#endif
-#ifdef KIND_nson_read
     {"nson_read", "kez_nson_read", WRITES, kez_nson_read, 1},
-#endif
-#ifdef KIND_json_read
     {"json_read", "kez_json_read", WRITES, kez_json_read, 1},
-#endif
-#ifdef KIND_read_both
     {"read_both", "kez_read_both", BOTH, kez_read_both, 1},
-#endif
-#ifdef KIND_rivals
     {"rivals", "kez_rivals", RIVALS, kez_rivals, 0},
-#endif
 };
 
 /* Who is measured. The parsers stand beside the JSON reader alone. */

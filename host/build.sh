@@ -1,10 +1,8 @@
 # Sourced by host/compare, host/test and host/bench, which run in the repository's root. All is built into target/host.
 #   LIB=path    the library's archive; LIB=reference is that of host/reference, to try the tools by themselves.
 #               Not set: target/staticlib/libkezubimoryu.a, proved and written by rt
-#   KINDS='..'  the kinds of request; not set: those of host/kinds
 
 built=target/host
-kinds=${KINDS:-$(grep -v '^#' host/kinds)}
 # the library's version, which stands in the header and nowhere else
 version=$(sed -n 's/^#define KEZ_VERSION "\(.*\)"$/\1/p' include/kezubimoryu.h)
 mkdir -p "$built"
@@ -58,9 +56,8 @@ build_shared() {
 
 # build_c NAME SOURCE [WORDS..]: a C program over the archive
 build_c() {
-    local name=$1 source=$2 defines
+    local name=$1 source=$2
     shift 2
-    defines=$(printf -- '-DKIND_%s ' $kinds)
-    quietly gcc -Wall -Wextra -O2 -Iinclude $defines -o "$built/$name" "$source" "$archive" "$@" -lpthread -ldl -lm &&
+    quietly gcc -Wall -Wextra -O2 -Iinclude -o "$built/$name" "$source" "$archive" "$@" -lpthread -ldl -lm &&
         cat "$built/log"
 }

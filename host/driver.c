@@ -1,8 +1,7 @@
 /* The line protocol over the C entries: one request a line on standard input, one answer a line.
  * It also watches what it lends: inputs keep their bytes, a refusal leaves every buffer and number as it was, success
  * leaves the bytes behind the written length as they were, and nothing around a buffer is touched. An input ends where
- * its page ends, so that a read past it is seen. Whatever goes wrong is the answer `broken ..`.
- * Built with -DKIND_.. for each kind of host/kinds; notepack's are always there. */
+ * its page ends, so that a read past it is seen. Whatever goes wrong is the answer `broken ..`. */
 #define _GNU_SOURCE
 #include "kezubimoryu.h"
 
@@ -270,7 +269,6 @@ static int do_write(const kind *k, char **words)
     return 1;
 }
 
-#ifdef KIND_read_both
 /* The second lent buffer: the guards of the first, and a pattern of its own. */
 static uint8_t second_area[GUARD + MOST + GUARD];
 
@@ -318,9 +316,7 @@ static int do_both(const kind *k, char **words)
     print_bytes(second_area + GUARD, len);
     return 1;
 }
-#endif
 
-#ifdef KIND_rivals
 static int do_rivals(const kind *k, char **words)
 {
     (void)k;
@@ -347,7 +343,6 @@ static int do_rivals(const kind *k, char **words)
         printf(of_first.refusal ? " 1" : " 2");
     return 1;
 }
-#endif
 
 static const kind kinds[] = {
     {"read", 1, do_read, NULL},
@@ -356,24 +351,12 @@ static const kind kinds[] = {
     {"strict", 1, do_strict, NULL},
     {"element", 3, do_element, NULL},
     {"pack", 2, do_write, kez_notepack_write},
-#ifdef KIND_canonical
     {"canonical", 2, do_write, kez_canonical_write},
-#endif
-#ifdef KIND_nson_write
     {"nson_write", 2, do_write, kez_nson_write},
-#endif
-#ifdef KIND_nson_read
     {"nson_read", 2, do_write, kez_nson_read},
-#endif
-#ifdef KIND_json_read
     {"json_read", 2, do_write, kez_json_read},
-#endif
-#ifdef KIND_read_both
     {"read_both", 2, do_both, NULL},
-#endif
-#ifdef KIND_rivals
     {"rivals", 2, do_rivals, NULL},
-#endif
 };
 
 static int answer(char *line)

@@ -1,4 +1,4 @@
-//! Requests of the line protocol, always the same for the same words: requests SEED COUNT KIND..
+//! Requests of the line protocol, always the same for the same words: requests SEED COUNT [KIND..]; without a kind all of them.
 //!
 //! Three parts: each limit of the paper, met and passed; samples cut and changed at every place; then random inputs.
 //! Where COUNT is small the first two are thinned, evenly. The encoders here can also write what no encoder would.
@@ -26,11 +26,12 @@ fn main() -> io::Result<()> {
     let words: Vec<String> = std::env::args().skip(1).collect();
     let number = |i: usize| words.get(i).and_then(|w| w.parse::<u64>().ok());
     let (Some(seed), Some(count)) = (number(0), number(1)) else {
-        eprintln!("usage: requests SEED COUNT KIND..");
+        eprintln!("usage: requests SEED COUNT [KIND..]");
         std::process::exit(2);
     };
     let mut out = io::BufWriter::with_capacity(1 << 20, io::stdout().lock());
-    for line in requests(seed, count as usize, &words[2..]) {
+    let kinds: Vec<String> = if words.len() > 2 { words[2..].to_vec() } else { ALL.iter().map(|kind| kind.to_string()).collect() };
+    for line in requests(seed, count as usize, &kinds) {
         out.write_all(line.as_bytes())?;
         out.write_all(b"\n")?;
     }
@@ -70,6 +71,11 @@ fn thinned(lines: Vec<String>, most: usize) -> Vec<String> {
     let keep = most.min(all);
     lines.into_iter().enumerate().filter(|(i, _)| (i + 1) * keep / all > i * keep / all).map(|(_, line)| line).collect()
 }
+
+/// Every kind of request.
+const ALL: [&str; 12] = [
+    "read", "strict", "pack", "content", "element", "lister", "canonical", "nson_write", "nson_read", "json_read", "rivals", "read_both",
+];
 
 /// Kinds whose input is a packed event.
 const PACKED: [&str; 8] = ["read", "strict", "pack", "content", "element", "lister", "canonical", "nson_write"];

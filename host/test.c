@@ -1,5 +1,4 @@
-/* Tests of the C entries over the library's archive; those of host/kinds that are not notepack's, by the paper's examples.
- * The last line is 'N passed, M failed'. Built with -DKIND_.. as the driver. */
+/* Tests of the C entries over the library's archive, by the paper's examples. The last line is 'N passed, M failed'. */
 #define _GNU_SOURCE
 #include "kezubimoryu.h"
 
@@ -402,9 +401,8 @@ static void limits(void)
     refused(b.at, b.len, 1, 0);
 }
 
-/* The other formats, as soon as they are among the kinds */
+/* The other formats */
 
-#if defined KIND_canonical || defined KIND_nson_write || defined KIND_nson_read || defined KIND_json_read
 static void refuses(writer *entry, const bytes *b, uint64_t refusal, uint64_t place)
 {
     lend();
@@ -413,9 +411,7 @@ static void refuses(writer *entry, const bytes *b, uint64_t refusal, uint64_t pl
     CHECK(is(entry(b->at, b->len, NULL, 0), refusal, place), "without room");
     CHECK(untouched(), "a refusal changed what was lent");
 }
-#endif
 
-#ifdef KIND_canonical
 static void canonical(void)
 {
     static bytes b, text;
@@ -451,9 +447,7 @@ static void canonical(void)
     PUT(&text, "\"]");
     writes(kez_canonical_write, &b, &text);
 }
-#endif
 
-#if defined KIND_nson_write || defined KIND_nson_read || defined KIND_json_read
 
 /* zero id, pubkey and sig, created_at 1,000,000,000, kind 1, content a"b: packed, and as NSON with this nson field */
 static void a_b(bytes *packed, bytes *text, const char *nson)
@@ -510,9 +504,7 @@ static void document_003(bytes *packed, bytes *text)
     put(text, p, 64);
     PUT(text, "\",\"\",\"wss://relay.damus.io\"]]}");
 }
-#endif
 
-#ifdef KIND_nson_write
 /* So many tags of so many texts: written as NSON and shown again by both readers, or 17. */
 static void carried(uint8_t tags, uint8_t texts, int fits)
 {
@@ -533,12 +525,8 @@ static void carried(uint8_t tags, uint8_t texts, int fits)
     kez_answer a = kez_nson_write(b.at, b.len, text.at, sizeof text.at);
     CHECK(!a.refusal, "%d tags of %d texts", tags, texts);
     text.len = a.value;
-#ifdef KIND_nson_read
     writes(kez_nson_read, &text, &b);
-#endif
-#ifdef KIND_json_read
     writes(kez_json_read, &text, &b);
-#endif
 }
 
 static void nson_write(void)
@@ -556,9 +544,7 @@ static void nson_write(void)
     b.len = 140;
     refuses(kez_nson_write, &b, 2, 134);
 }
-#endif
 
-#ifdef KIND_nson_read
 static void nson_read(void)
 {
     static bytes b, text;
@@ -575,9 +561,7 @@ static void nson_read(void)
     text.len = 0;
     refuses(kez_nson_read, &text, 12, 0);
 }
-#endif
 
-#ifdef KIND_json_read
 static void json_read(void)
 {
     static bytes b, text;
@@ -603,9 +587,7 @@ static void json_read(void)
         refuses(kez_json_read, &text, depth == 16 ? 15 : 18, depth == 16 ? text.len - 1 : 5 + 16);
     }
 }
-#endif
 
-#ifdef KIND_rivals
 static void rivals(void)
 {
     static bytes a, b;
@@ -636,7 +618,6 @@ static void rivals(void)
     CHECK(is(kez_rivals(vector.at, vector.len, b.at, b.len), 2, 0), "the second refused");
     CHECK(is(kez_rivals(NULL, 0, NULL, 0), 2, 0), "nothing at all");
 }
-#endif
 
 static void sentences(void)
 {
@@ -659,34 +640,21 @@ static void nothing_lent(void)
             uint8_t *out = none[j];
             CHECK(is(kez_notepack_write(in, 0, out, 0), 2, 0), "%d %d", i, j);
             CHECK(is(kez_notepack_write(vector.at, vector.len, out, 0), 11, vector.len), "%d", j);
-#ifdef KIND_canonical
             CHECK(is(kez_canonical_write(in, 0, out, 0), 2, 0), "%d %d", i, j);
             CHECK(is(kez_canonical_write(vector.at, vector.len, out, 0), 11, 265), "%d", j);
-#endif
-#ifdef KIND_nson_write
             CHECK(is(kez_nson_write(in, 0, out, 0), 2, 0), "%d %d", i, j);
             CHECK(kez_nson_write(vector.at, vector.len, out, 0).refusal == 11, "%d", j);
-#endif
-#ifdef KIND_nson_read
             CHECK(is(kez_nson_read(in, 0, out, 0), 12, 0), "%d %d", i, j);
-#endif
-#ifdef KIND_json_read
             CHECK(is(kez_json_read(in, 0, out, 0), 14, 0), "%d %d", i, j);
-#endif
-#ifdef KIND_read_both
             CHECK(is(kez_read_both(in, 0, out, 0, out, 0, numbers), 14, 0), "%d %d", i, j);
             CHECK(untouched(), "%d %d: a refusal changed the length", i, j);
-#endif
-#ifdef KIND_rivals
             CHECK(is(kez_rivals(in, 0, out, 0), 2, 0), "%d %d", i, j);
             CHECK(is(kez_rivals(vector.at, vector.len, out, 0), 2, 0), "%d", j);
-#endif
         }
     }
     munmap(page, 4096);
 }
 
-#ifdef KIND_read_both
 /* The buffer that is lent beside room. */
 static uint8_t other[sizeof room];
 
@@ -770,7 +738,6 @@ static void read_both(void)
         refused_by_both(&damaged, lent, lent, 1, 0);
     }
 }
-#endif
 
 int main(void)
 {
@@ -783,24 +750,12 @@ int main(void)
     varint_faults();
     limits();
     sentences();
-#ifdef KIND_canonical
     canonical();
-#endif
-#ifdef KIND_nson_write
     nson_write();
-#endif
-#ifdef KIND_nson_read
     nson_read();
-#endif
-#ifdef KIND_json_read
     json_read();
-#endif
-#ifdef KIND_read_both
     read_both();
-#endif
-#ifdef KIND_rivals
     rivals();
-#endif
     printf("%d passed, %d failed\n", passed, failed);
     return failed != 0;
 }

@@ -1,5 +1,4 @@
-/* kez: the library at the command line. See kez.1.
- * Built with -DKIND_.. for each kind of host/kinds, as the library's other programs. */
+/* kez: the library at the command line. See kez.1. */
 #define _GNU_SOURCE
 #include "kezubimoryu.h"
 
@@ -270,28 +269,11 @@ static int do_write(writer *entry, int input, int to_text)
 }
 
 static int do_pack(void) { return do_write(kez_notepack_write, PACKED, 0); }
-#ifdef KIND_canonical
 static int do_canonical(void) { return do_write(kez_canonical_write, PACKED, 1); }
-#else
-#define do_canonical NULL
-#endif
-#ifdef KIND_nson_write
 static int do_to_nson(void) { return do_write(kez_nson_write, PACKED, 1); }
-#else
-#define do_to_nson NULL
-#endif
-#ifdef KIND_nson_read
 static int do_from_nson(void) { return do_write(kez_nson_read, NSON, 0); }
-#else
-#define do_from_nson NULL
-#endif
-#ifdef KIND_json_read
 static int do_from_json(void) { return do_write(kez_json_read, JSON, 0); }
-#else
-#define do_from_json NULL
-#endif
 
-#if defined KIND_read_both && defined KIND_nson_read && defined KIND_json_read
 static int do_both(void)
 {
     static uint8_t by_nson[KEZ_MOST];
@@ -308,11 +290,7 @@ static int do_both(void)
     put_output(out, len, 0);
     return ACCEPTED;
 }
-#else
-#define do_both NULL
-#endif
 
-#ifdef KIND_rivals
 static int do_keep(void)
 {
     static const char *const told[] = {"not rivals", "first", "second"};
@@ -327,14 +305,11 @@ static int do_keep(void)
     fprintf(stderr, of_first ? "the first: " : "the second: ");
     return refused(of_first ? &first : &second, a, PACKED);
 }
-#else
-#define do_keep NULL
-#endif
 
 typedef struct {
     const char *name;
     int files;
-    int (*run)(void); /* NULL: not in this library */
+    int (*run)(void);
 } command;
 
 static const command commands[] = {
@@ -393,8 +368,6 @@ int main(int count, char **words)
         return usage("which command?", NULL);
     if (given < c->files)
         return usage("two files are needed, the first and the second record", NULL);
-    if (!c->run)
-        return usage("this library was built without it", c->name);
     if (!read_file(&first, c->files ? files[0] : "-") || (c->files && !read_file(&second, files[1])))
         return USAGE;
     int status = c->run();

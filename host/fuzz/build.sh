@@ -13,11 +13,8 @@ fi
 
 # build_fuzz COMPILER NAME WORDS..: the harness over the archive
 build_fuzz() {
-    local compiler=$1 name=$2 defines
+    local compiler=$1 name=$2
     shift 2
-    defines=$(printf -- '-DKIND_%s ' $kinds)
-    quietly "$compiler" -Wall -Wextra $defines -Iinclude -I$fuzz -o "$built/$name" $fuzz/properties.c $fuzz/generate.c "$@" "$archive" -lpthread -ldl -lm &&
+    quietly "$compiler" -Wall -Wextra -Iinclude -I$fuzz -o "$built/$name" $fuzz/properties.c $fuzz/generate.c "$@" "$archive" -lpthread -ldl -lm &&
         cat "$built/log"
 }
-
-has() { [[ " ${kinds//$'\n'/ } " == *" $1 "* ]]; }

@@ -1,4 +1,4 @@
-/* The properties, and the lent buffers that are watched. Built with -DKIND_.. for each kind of host/kinds.
+/* The properties, and the lent buffers that are watched.
  * Every buffer that is lent ends at a page that can't be touched, or starts behind one, as the dice fall; on its other
  * side stand bytes that are looked at after the call, and so are the bytes of the buffer that the call must leave. */
 #define _GNU_SOURCE
@@ -262,7 +262,7 @@ static void elements(kez_answer read, uint64_t tags)
 /* One input as a packed event */
 
 static result strict_form, again;
-static result canonical_text __attribute__((unused)), by_nson __attribute__((unused)), by_json __attribute__((unused)); /* by the kinds */
+static result canonical_text, by_nson, by_json;
 
 static int is_strict(void)
 {
@@ -284,16 +284,12 @@ static void as_packed(const uint8_t *data, size_t len)
     for (int i = 0; i < 3; i++)
         elements(read, was[4]);
     write_with(&strict_form, PACK, kez_notepack_write);
-#ifdef KIND_canonical
     write_with(&canonical_text, CANONICAL, kez_canonical_write);
     must(!read.refusal || same(read, canonical_text.answer), "refuses otherwise than the reader");
     must(read.refusal || canonical_text.answer.value <= 3 * len, "writes more than three times what was packed");
-#endif
-#ifdef KIND_nson_write
     static result text;
     write_with(&text, NSON_WRITE, kez_nson_write);
     must(!read.refusal || same(read, text.answer), "refuses otherwise than the reader");
-#endif
     current = PACK;
     if (read.refusal) {
         must(same(read, strict_form.answer), "refuses otherwise than the reader");
@@ -314,28 +310,19 @@ static void as_packed(const uint8_t *data, size_t len)
     must(is_strict() == 1, "does not take the strict form as strict");
     write_with(&again, PACK, kez_notepack_write);
     must(leaves(&again, strict_form.bytes, strict_form.answer.value), "does not leave strict bytes as they are");
-#ifdef KIND_canonical
     write_with(&again, CANONICAL, kez_canonical_write);
     must(leaves(&again, canonical_text.bytes, canonical_text.answer.value), "has another text for the strict form");
-#endif
-#ifdef KIND_nson_write
     if (text.answer.refusal)
         return;
     lend_input(&in_first, text.bytes, text.answer.value, first_copy);
-#ifdef KIND_nson_read
     write_with(&again, NSON_READ, kez_nson_read);
     must(leaves(&again, strict_form.bytes, strict_form.answer.value), "does not read what the NSON writer wrote");
-#endif
-#ifdef KIND_json_read
     write_with(&again, JSON_READ, kez_json_read);
     must(leaves(&again, strict_form.bytes, strict_form.answer.value), "does not read what the NSON writer wrote");
-#endif
-#endif
 }
 
 /* One input as a text */
 
-#ifdef KIND_read_both
 static void both_readers(void)
 {
     int nson = !by_nson.answer.refusal, json = !by_json.answer.refusal;
@@ -363,44 +350,30 @@ static void both_readers(void)
     if (nson)
         must(!memcmp(out_first.at, by_json.bytes, need), "leaves two events");
 }
-#endif
 
 static void as_text(const uint8_t *data, size_t len)
 {
     lend_input(&in_first, data, len, first_copy);
-#ifdef KIND_nson_read
     write_with(&by_nson, NSON_READ, kez_nson_read);
     must(by_nson.answer.refusal || by_nson.answer.value <= len, "leaves a strict form that is longer than its text");
-#endif
-#ifdef KIND_json_read
     write_with(&by_json, JSON_READ, kez_json_read);
     must(by_json.answer.refusal || by_json.answer.value <= len, "leaves a strict form that is longer than its text");
-#ifdef KIND_nson_read
     must(by_nson.answer.refusal || leaves(&by_json, by_nson.bytes, by_nson.answer.value), "shows another event than the NSON reader");
-#endif
-#endif
-#ifdef KIND_read_both
     both_readers();
-#endif
     /* what a reader leaves is strict, and an NSON text is the writer's own */
-#ifdef KIND_json_read
     if (!by_json.answer.refusal) {
         lend_input(&in_first, by_json.bytes, by_json.answer.value, first_copy);
         must(is_strict() == 1, "does not take as strict what the JSON reader leaves");
     }
-#endif
-#if defined KIND_nson_read && defined KIND_nson_write
     if (!by_nson.answer.refusal) {
         lend_input(&in_first, by_nson.bytes, by_nson.answer.value, first_copy);
         write_with(&again, NSON_WRITE, kez_nson_write);
         must(leaves(&again, data, len), "does not write the text that the NSON reader read");
     }
-#endif
 }
 
 /* Two inputs */
 
-#ifdef KIND_rivals
 static kez_answer rivals_of(const uint8_t *data, size_t len, const uint8_t *other, size_t other_len)
 {
     lend_input(&in_first, data, len, first_copy);
@@ -424,7 +397,6 @@ static void as_rivals(const uint8_t *data, size_t len, const uint8_t *other, siz
     if (one.value == 1 && two.value == 1)
         must(!memcmp(data, other, 32), "ties though the ids differ");
 }
-#endif
 
 void properties(const uint8_t *data, size_t len, const uint8_t *other, size_t other_len, uint64_t choices)
 {
@@ -441,9 +413,5 @@ void properties(const uint8_t *data, size_t len, const uint8_t *other, size_t ot
     given_len = len;
     as_packed(data, len);
     as_text(data, len);
-#ifdef KIND_rivals
     as_rivals(data, len, other, other_len);
-#else
-    (void)other, (void)other_len;
-#endif
 }

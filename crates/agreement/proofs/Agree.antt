@@ -2,12 +2,12 @@
 -- An accepted string is the writer's own text, whose tree is the event; the JSON reader shows what the tree is.
 use mathlib.Core.Path.{_≡_, sym, _∙_}
 use Rattle.scan.specs.Choice.{shown}
+use Rattle.scan.proofs.Many.{shown-same}
 use Rattle.event.specs.Event.{Event, Valid}
 use Rattle.json.specs.Object.{readJson}
 use Rattle.json.proofs.Whole.{complete}
 use Rattle.nson.specs.Nson.{nson}
 use Rattle.nson.specs.Carries.{Carries}
-use Rattle.nson.proofs.Pieces.{shown-same}
 use Rattle.nson.proofs.Sound.{accepted}
 use Rattle.agreement.specs.Demand3.{NeverTwo, BothAccept}
 use Rattle.agreement.proofs.Written.{tree-text}

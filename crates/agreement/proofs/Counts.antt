@@ -1,7 +1,7 @@
 -- The NSON reader accepts no string whose nson field holds a count that lies.
 -- An accepted string is the writer's own text, so its tree is the event's; the field says one size and one set of counts, the event's.
 use Prim.Native.Nat.{ℕ, _+_, _*_}
-use mathlib.Core.Path.{_≡_, refl, sym, _∙_, subst}
+use mathlib.Core.Path.{_≡_, refl, sym, subst}
 use mathlib.Core.List.{List, [], _∷_, map}
 use native.Mathlib.Omega.{arith}
 use lib.ListN.{length}
@@ -9,18 +9,19 @@ use Rattle.scan.specs.Choice.{shown}
 use Rattle.scan.specs.Place.{within}
 use Rattle.hex.specs.Hex.{hexes}
 use Rattle.hex.proofs.Texts.{length-hexes}
-use Rattle.event.specs.Event.{Text, Tag, Event, Valid, sameText}
+use Rattle.scan.specs.Compare.{sameBytes}
+use Rattle.event.specs.Event.{Text, Tag, Event, Valid}
+use Rattle.jsontext.proofs.OneValue.{chars-one, one-value}
 use Rattle.jsontext.specs.Grammar as json
 use Rattle.json.specs.Meaning.{kindName, contentName, tagsName, Values, IsHex, is-hex, Each, IsArray, is-array, once}
-use Rattle.json.proofs.Tracks.{chars-one}
-use Rattle.json.proofs.OneEvent.{values-one, one-value}
-use Rattle.nson.specs.Nson.{Counts, bytesIn, counts, descriptors, field}
+use Rattle.json.proofs.OneEvent.{values-one}
+use Rattle.nson.specs.Nson.{Counts, escapedSize, counts, descriptors, nsonField}
 use Rattle.nson.specs.Carries.{Carries}
 use Rattle.nson.specs.Read.{readNson}
 use Rattle.nson.proofs.Sound.{accepted, field-true, size-true}
 use Rattle.agreement.specs.Counted.{nsonName, StringOf, string-of, number-of, TrueCounts, FieldHolds}
 use Rattle.agreement.specs.Demand3.{NoLie, CountsFollowed}
-use Rattle.agreement.proofs.Spelled.{items}
+use Rattle.jsontext.proofs.Compact.{items}
 use Rattle.agreement.proofs.Tree.{textTree, tagTree, members, tree}
 use Rattle.agreement.proofs.Naming.{plain-values}
 use Rattle.agreement.proofs.Written.{field-chars, tree-text}
@@ -33,36 +34,36 @@ module _ {A B : Type 0} (Is : json.Json → B → Type 0) (f : A → json.Json) 
   each-of g [] = Each.none
   each-of g (x ∷ l) = Each.also (g x) (each-of g l)
 
-text-of : (t : Text) → StringOf (textTree t) (bytesIn t)
-unfolding bytesIn
+text-of : (t : Text) → StringOf (textTree t) (escapedSize t)
+unfolding escapedSize
 text-of t = string-of
 
-tag-of : (t : Tag) → IsArray StringOf (tagTree t) (map bytesIn t)
-tag-of t = is-array (each-of StringOf textTree bytesIn text-of t)
+tag-of : (t : Tag) → IsArray StringOf (tagTree t) (map escapedSize t)
+tag-of t = is-array (each-of StringOf textTree escapedSize text-of t)
 
 -- the size counts what is behind it
-field-long : (c : Counts) → length (field c) ≡ 2 + 2 * length (descriptors c)
-unfolding field
+field-long : (c : Counts) → length (nsonField c) ≡ 2 + 2 * length (descriptors c)
+unfolding nsonField
 field-long c = omega (arith, length-hexes (descriptors c))
 
 true-counts : (e : Event) → TrueCounts (members e) (2 * length (descriptors (counts e))) (counts e)
-unfolding counts bytesIn sameText within
+unfolding counts escapedSize sameBytes within
 true-counts e =
     record {
-      behind = once (plain-values nsonName (members e) refl) (subst (StringOf (json.string (field (counts e)))) (field-long (counts e)) string-of);
+      behind = once (plain-values nsonName (members e) refl) (subst (StringOf (json.string (nsonField (counts e)))) (field-long (counts e)) string-of);
       kind = once (plain-values kindName (members e) refl) number-of;
       content = once (plain-values contentName (members e) refl) string-of;
-      tags = once (plain-values tagsName (members e) refl) (is-array (each-of (IsArray StringOf) tagTree (map bytesIn) tag-of (e .tags)));
+      tags = once (plain-values tagsName (members e) refl) (is-array (each-of (IsArray StringOf) tagTree (map escapedSize) tag-of (e .tags)));
     }
 
 -- ---- what the field holds
 
-field-values : (e : Event) → Values nsonName (members e) (json.string (field (counts e)) ∷ [])
-unfolding sameText within
+field-values : (e : Event) → Values nsonName (members e) (json.string (nsonField (counts e)) ∷ [])
+unfolding sameBytes within
 field-values e = plain-values nsonName (members e) refl
 
 holds-own : {e : Event} → Carries e → Valid e → FieldHolds (members e) (2 * length (descriptors (counts e))) (counts e)
-unfolding field
+unfolding nsonField
 holds-own {e} c v = once (field-values e) (is-hex (field-chars c v))
 
 hex-string : {l b : List ℕ} → IsHex (json.string l) b → json.Chars l (hexes b)
@@ -70,10 +71,10 @@ hex-string (is-hex e) = e
 
 -- nothing else
 holds-one : {e : Event} {size : ℕ} {c : Counts} → Carries e → Valid e → FieldHolds (members e) size c → (2 * length (descriptors (counts e)) ≡ size) × (counts e ≡ c)
-unfolding field
+unfolding nsonField
 holds-one {e} {size} {c} k v (once {v = w} q g) =
-    let f : json.string (field (counts e)) ∷ [] ≡ w ∷ [] = values-one (field-values e) q in
-    let same : json.string (field (counts e)) ≡ w = cc in
+    let f : json.string (nsonField (counts e)) ∷ [] ≡ w ∷ [] = values-one (field-values e) q in
+    let same : json.string (nsonField (counts e)) ≡ w = cc in
     let h = hex-string (rw (sym same) at g) in
     let own = descriptors (counts e) in
     let all : 2 * length own ∷ own ≡ size ∷ descriptors c = hexes-one (2 * length own ∷ own) (size ∷ descriptors c) (chars-one (field-chars k v) h) in
@@ -82,7 +83,7 @@ holds-one {e} {size} {c} k v (once {v = w} q g) =
 
 -- ---- the sentences
 
-own-text : {s : List ℕ} {e : Event} → readNson s ≡ shown e → json.Text (tree e) s
+own-text : {s : List ℕ} {e : Event} → readNson s ≡ shown e → json.JsonText (tree e) s
 own-text r = let a = accepted r in rw (a .text) (tree-text (a .carries) (a .valid))
 
 pub no-lie : NoLie

@@ -7,8 +7,9 @@ use mathlib.Core.Bool.{true}
 use Rattle.hex.specs.Hex.{hexes}
 use Rattle.decimal.specs.Decimal.{decimal}
 use Rattle.escape.specs.Escape.{canonicalByte, escaped}
-use Rattle.tagtext.specs.TagText.{quoted, array, tagsText}
-use Rattle.tagtext.proofs.Texts.{hexes-stand}
+use Rattle.jsontags.specs.TagText.{quoted, array, tagsText}
+use Rattle.escape.specs.declared.Escaping.the-variants.{Canonical}
+use Rattle.jsontags.proofs.Texts.{hexes-stand}
 use Rattle.canonical.specs.Canonical.{canonical}
 use Rattle.notepack.specs.Strict.{pack}
 use Rattle.notepack.proofs.Sound.{sound}
@@ -16,8 +17,9 @@ use Rattle.notepack.proofs.Complete.{complete, one-event}
 use Rattle.notepack.proofs.StrictLaws.{reads-again, equal-exactly}
 use Rattle.notepack.proofs.Seen.{seen}
 use Rattle.strict.proofs.Laws.{strict-exactly}
+use Rattle.jsontext.proofs.OneValue.{one-value}
 use Rattle.json.proofs.Whole as whole
-use Rattle.json.proofs.OneEvent.{one-value, event-one}
+use Rattle.json.proofs.OneEvent.{event-one}
 use Rattle.agreement.specs.Demand2.{ReadsLayout, WritesStrict, CanonicalText, WritesCanonical, ReadsJson, Demand2}
 use Rattle.agreement.proofs.Entries.{fits}
 
@@ -37,7 +39,7 @@ items-right key time kind tags content = simp append-assoc
 canonical-text : CanonicalText
 unfolding canonical quoted
 canonical-text e v =
-    let h : escaped canonicalByte (hexes (e .pubkey)) ≡ hexes (e .pubkey) = hexes-stand true (v .pubkey32 .each) in
+    let h : escaped canonicalByte (hexes (e .pubkey)) ≡ hexes (e .pubkey) = hexes-stand Canonical (v .pubkey32 .each) in
     rw h (items-right (hexes (e .pubkey)) (decimal (e .createdAt)) (decimal (e .kind)) (tagsText canonicalByte (e .tags)) (escaped canonicalByte (e .content)))
 
 writes-canonical : WritesCanonical

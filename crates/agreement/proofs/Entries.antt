@@ -12,9 +12,7 @@ use borrow.Author.Tests.{leb-true, leb-false, le-leb, lt-leb}
 use Rattle.scan.specs.Choice.{pick, Answer, shown, refused}
 use Rattle.scan.proofs.Step.{false-true}
 use Rattle.event.specs.Tells.{among, Tells, value, refusal}
-use Rattle.store.specs.Entry.{written, filled, writes, leaves}
-
--- ---- general: all of these belong to crate store
+use Rattle.buffer.specs.Entry.{written, filled, writes, leaves}
 
 -- a value was read, and its text fitted
 pub record Fitted {A : Type 0} (text : A → List ℕ) (a : Answer A) (d : List ℕ) (n : ℕ) : Type 0 where

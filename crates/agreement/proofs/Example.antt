@@ -10,12 +10,13 @@ use Rattle.scan.specs.Place.{begins, standsAt, within, run, runAt}
 use Rattle.utf8.specs.Encode.{encode}
 use Rattle.utf8.specs.Width.{widthAt}
 use Rattle.hex.specs.Hex.{hexes, valueOf, unhex, allDigits}
-use Rattle.decimal.specs.Decimal.{decimalIn, decimal}
+use Rattle.decimal.specs.Decimal.{decimalIn, decimal, isDigit}
 use Rattle.escape.specs.Escape.{nsonByte, escaped}
-use Rattle.event.specs.Event.{Event, sameText}
-use Rattle.tagtext.specs.TagText.{tagsText}
-use Rattle.jsontext.specs.Escape.{letterOf, letterEscape, escapeAt, orItself, unescaped, unescape}
-use Rattle.jsontext.specs.Token.{isSpace, spaceAt, wordAt, isDigit, digitsOr, minusAt, signAt, intAt, fracAt, isE, expAt, numberFrom, unsignedFrom, numberAt}
+use Rattle.scan.specs.Compare.{sameBytes}
+use Rattle.event.specs.Event.{Event}
+use Rattle.jsontags.specs.TagText.{tagsText}
+use Rattle.jsontext.specs.Escape.{unescapedLetter, letterEscape, escapeAt, orItself, unescaped, unescape}
+use Rattle.jsontext.specs.Token.{isSpace, spaceAt, wordAt, digitsOr, minusAt, signAt, intAt, fracAt, isE, expAt, numberFrom, unsignedFrom, skipNumber}
 use Rattle.jsontext.specs.Text.{charsAt, stringAt}
 use Rattle.jsontext.specs.Value as value
 use Rattle.jsontext.specs.Grammar as json
@@ -50,7 +51,7 @@ abbrev lying : List ℕ
 lying = headText event ++ hexes (0x08 ∷ 0x01 ∷ 0x00 ∷ 0x03 ∷ 0x00 ∷ []) ++ bodyText event
 
 pub example-lying : (object.readJson lying ≡ shown event) × (readNson lying ≡ refused 13 353)
-unfolding headText bodyText escaped nsonByte decimal decimalIn tagsText object.readJson object.wholeAt object.objectAt object.insideAt object.membersAt object.afterMember object.closeAt object.memberAt object.colonAt fieldAt fieldOf indexIn tagsAt tagAt oneOrMore arrayAt insideAt itemsAt afterItem wholeAt wholeOf digitsOnly hexAt isHexOf textAt value.valueAt value.walkAt value.walkBy value.valueBy charsAt stringAt isSpace spaceAt wordAt isDigit digitsOr minusAt signAt intAt fracAt isE expAt numberFrom unsignedFrom numberAt letterOf letterEscape escapeAt orItself unescaped unescape sameText valueOf unhex allDigits widthAt within run runAt standsAt begins encode
+unfolding headText bodyText escaped nsonByte decimal decimalIn tagsText object.readJson object.wholeAt object.objectAt object.insideAt object.membersAt object.afterMember object.closeAt object.memberAt object.colonAt fieldAt fieldOf indexIn tagsAt tagAt oneOrMore arrayAt insideAt itemsAt afterItem wholeAt wholeOf digitsOnly hexAt isHexOf textAt value.valueAt value.skipWalk value.skipWalkBy value.skipValueBy charsAt stringAt isSpace spaceAt wordAt digitsOr minusAt signAt intAt fracAt isE expAt numberFrom unsignedFrom skipNumber unescapedLetter letterEscape escapeAt orItself unescaped unescape sameBytes valueOf unhex allDigits widthAt within run runAt standsAt begins encode
 example-lying = (refl, example-refused .0)
 
 -- a\"b between its quotes has four bytes, so a count of three is not true of it

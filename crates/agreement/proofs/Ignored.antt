@@ -4,13 +4,13 @@ use mathlib.Core.Path.{_≡_, refl, sym, _∙_}
 use mathlib.Core.Bool.{true, false}
 use mathlib.Core.List.{List}
 use Rattle.scan.proofs.Step.{false-true}
-use Rattle.event.specs.Event.{Text, Event, sameText}
-use Rattle.event.proofs.Laws.{same-text}
+use Rattle.scan.specs.Compare.{sameBytes}
+use Rattle.event.specs.Event.{Text, Event}
+use Rattle.scan.proofs.CompareLaws.{same-same}
+use Rattle.jsontext.proofs.OneValue.{chars-one, one-value}
 use Rattle.jsontext.specs.Grammar as json
 use Rattle.json.specs.Meaning.{Values, no-value, named, other, Once, once, Says, Shallow, no-member, known, ignored, IsEvent, is-event}
-use Rattle.json.proofs.Tracks.{chars-one}
 use Rattle.json.proofs.Whole.{sound, complete}
-use Rattle.json.proofs.OneEvent.{one-value}
 use Rattle.agreement.specs.Counted.{nsonName, OtherField, ended, kept, removed, added}
 use Rattle.agreement.specs.Demand3.{FieldIgnored}
 
@@ -24,15 +24,15 @@ same-values h (removed d o) (other c x r) = same-values h o r
 same-values h (added d n o) r = other d h (same-values h o r)
 
 -- found by comparing
-differs : {t : Text} → sameText nsonName t ≡ false → nsonName ≡ t → ⊥
-differs {t} h e = false-true (sym h ∙ rw (← e) (same-text nsonName))
+differs : {t : Text} → sameBytes nsonName t ≡ false → nsonName ≡ t → ⊥
+differs {t} h e = false-true (sym h ∙ rw (← e) (same-same nsonName))
 
-same-once : {A : Type 0} {m k : json.Members} {t : Text} {Is : json.Json → A → Type 0} {x : A} → sameText nsonName t ≡ false → OtherField m k
+same-once : {A : Type 0} {m k : json.Members} {t : Text} {Is : json.Json → A → Type 0} {x : A} → sameBytes nsonName t ≡ false → OtherField m k
     → Once m t Is x → Once k t Is x
 same-once h o (once e g) = once (same-values (differs h) o e) g
 
 same-says : {m k : json.Members} {e : Event} → OtherField m k → Says m e → Says k e
-unfolding sameText
+unfolding sameBytes
 same-says o y =
     record {
       id = same-once refl o (y .id);

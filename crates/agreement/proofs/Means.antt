@@ -9,15 +9,16 @@ use Rattle.scan.specs.Span.{All, none, also, IsBytes}
 use Rattle.utf8.specs.Utf8.{Utf8}
 use Rattle.hex.specs.Hex.{hexes}
 use Rattle.decimal.specs.Decimal.{decimal}
-use Rattle.decimal.proofs.Spelling.{number-decimal}
-use Rattle.event.specs.Event.{Text, Tag, Event, ValidTag, Valid, sameText}
+use Rattle.decimal.proofs.Spelling.{decimal-digits, number-decimal}
+use Rattle.scan.specs.Compare.{sameBytes}
+use Rattle.event.specs.Event.{Text, Tag, Event, ValidTag, Valid}
 use Rattle.jsontext.specs.Grammar as json
 use Rattle.json.specs.Meaning.{idName, pubkeyName, sigName, createdAtName, kindName, tagsName, contentName, Values, IsText, is-text, IsHex, is-hex, IsNumber, is-number, Each, is-array, IsTag, once, Says, first, later, Shallow, no-member, known, ignored, IsEvent, is-event}
-use Rattle.nson.specs.Nson.{counts, field}
+use Rattle.nson.specs.Nson.{counts, nsonField}
 use Rattle.nson.specs.Carries.{Fits, Carries}
-use Rattle.agreement.proofs.Texts.{hexes-chars, name-chars, nson-chars, decimal-json}
+use Rattle.jsontext.proofs.Compact.{hexes-chars, name-chars, items}
+use Rattle.agreement.proofs.Texts.{nson-chars}
 use Rattle.agreement.proofs.Naming.{plainValues, plain-values}
-use Rattle.agreement.proofs.Spelled.{items}
 use Rattle.agreement.proofs.Tree.{textTree, tagTree, members, tree}
 
 -- ---- values
@@ -26,7 +27,7 @@ hex-is : {b : List ℕ} → IsBytes b → IsHex (json.string (hexes b)) b
 hex-is h = is-hex (hexes-chars h)
 
 number-is : (n : ℕ) → IsNumber (json.number (decimal n)) n
-number-is n = subst (IsNumber (json.number (decimal n))) (number-decimal n) (is-number (decimal-json n))
+number-is n = subst (IsNumber (json.number (decimal n))) (number-decimal n) (is-number (decimal-digits n))
 
 text-is : {t : Text} → Fits t → Utf8 t → IsText (textTree t) t
 text-is f u = is-text (nson-chars u (f .plain))
@@ -53,7 +54,7 @@ unfolding within
 values e t = plain-values t (members e) refl
 
 says : {e : Event} → Carries e → Valid e → Says (members e) e
-unfolding sameText
+unfolding sameBytes
 says {e} c v =
     record {
       id = once (values e idName) (hex-is (v .id32 .each));
@@ -73,7 +74,7 @@ shallow e =
     (known (name-chars pubkeyName refl) (later first)
     (known (name-chars sigName refl) (later (later first))
     (known (name-chars createdAtName refl) (later (later (later first)))
-    (ignored {v = json.string (field (counts e))} (omega arith)
+    (ignored {v = json.string (nsonField (counts e))} (omega arith)
     (known (name-chars kindName refl) (later (later (later (later first))))
     (known (name-chars contentName refl) (later (later (later (later (later (later first))))))
     (known (name-chars tagsName refl) (later (later (later (later (later first))))) no-member)))))))

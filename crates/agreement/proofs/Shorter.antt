@@ -1,7 +1,7 @@
 -- The strict form of the event of a JSON text is no longer than the text: a reader that is lent as many bytes as the text has never lacks room.
 -- Piece by piece: a text is no longer than its spelling, an element than its string with a comma, a field than its member; then over the members.
 use Prim.Native.Nat.{ℕ, zero, suc, _+_, _*_, _-_, _^_, _<_, _≤_}
-use mathlib.Core.Path.{_≡_, refl, sym, ap, _∙_, subst}
+use mathlib.Core.Path.{_≡_, refl, subst}
 use mathlib.Core.Bool.{Bool, true, false}
 use mathlib.Core.List.{List, [], _∷_, _++_}
 use native.Mathlib.Omega.{arith}
@@ -10,42 +10,41 @@ use lib.ListN.{length, set, length-append}
 use Rattle.scan.specs.Choice.{pick, shown}
 use Rattle.scan.specs.Span.{All}
 use Rattle.scan.specs.Span as span
-use Rattle.scan.proofs.Step.{false-true}
 use Rattle.varint.specs.Uleb.{uleb}
 use Rattle.varint.proofs.UlebLaws.{length-uleb}
-use Rattle.hex.specs.Hex.{unhex, goesAsBytes, hexes}
+use Rattle.hex.specs.Hex.{unhex, goesAsBytes}
 use Rattle.hex.proofs.Texts.{length-unhex, length-hexes}
-use Rattle.decimal.specs.Decimal.{behind, numberOf}
+use Rattle.decimal.specs.Decimal.{DecimalDigit, digit, behind, numberOf}
 use Rattle.event.specs.Event.{Text, Tag, Event, ValidTag}
 use Rattle.jsontext.specs.Grammar as json
 use Rattle.jsontext.proofs.Meaning.{chars-same}
 use Rattle.notepack.specs.Strict.{packElement, packElements, packTag, packTags, pack}
-use Rattle.json.specs.Meaning.{IsText, is-text, IsHex, is-hex, IsNumber, is-number, Each, IsArray, is-array, IsTag, IsEvent, is-event}
+use Rattle.json.specs.Meaning.{IsText, is-text, IsHex, is-hex, IsNumber, is-number, Each, IsArray, is-array, IsTag, IsEvent}
 use Rattle.json.specs.Field.{Value, missing, bytes, number, tags, text}
-use Rattle.json.specs.Object.{Fields, noFields, isMissing, field, readJson}
+use Rattle.json.specs.Object.{Fields, isMissing, field, readJson}
 use Rattle.json.proofs.Says.{FieldSays, id-says, pubkey-says, sig-says, time-says, kind-says, tags-says, content-says, ignored-says, fieldsOf}
 use Rattle.json.proofs.Tracks.{Tracks, no-more, then, event-tracks, no-event}
-use Rattle.json.proofs.Whole.{Shows, sound}
+use Rattle.json.proofs.Whole.{sound}
 use Rattle.agreement.specs.Demand3.{TextEnough}
 use Rattle.agreement.proofs.Agree.{both-accept}
 
 -- ---- a string
 
 -- it has two quotes around it
-quoted-shorter : {l q : List ℕ} → json.Quoted l q → length q ≡ length l + 2
+quoted-shorter : {l q : List ℕ} → json.QuotedChars l q → length q ≡ length l + 2
 quoted-shorter (json.quoted {l = l} g) = omega (arith, length-append l (0x22 ∷ []))
 
 -- ---- a number is no longer than its digits
 
-digits-below : (k n : ℕ) {l : List ℕ} → All json.Digit l → n < 128 ^ k → behind n l < 128 ^ (k + length l)
+digits-below : (k n : ℕ) {l : List ℕ} → All DecimalDigit l → n < 128 ^ k → behind n l < 128 ^ (k + length l)
 digits-below k n span.none h = subst (λ (j : ℕ). n < 128 ^ j) (omega arith) h
-digits-below k n (span.also {b = b} {l = l} (json.digit p q) g) h =
+digits-below k n (span.also {b = b} {l = l} (digit p q) g) h =
     let m : n * 10 + (b - 48) < 128 ^ suc k = omega (arith, h, p, q, pow-succ' 128 k) in
     let r = digits-below (suc k) (n * 10 + (b - 48)) g m in
     let e : suc k + length l ≡ k + suc (length l) = omega arith in
     rw e at r
 
-number-shorter : {b : ℕ} {l : List ℕ} → All json.Digit (b ∷ l) → length (uleb (numberOf (b ∷ l))) ≤ suc (length l)
+number-shorter : {b : ℕ} {l : List ℕ} → All DecimalDigit (b ∷ l) → length (uleb (numberOf (b ∷ l))) ≤ suc (length l)
 number-shorter {b} {l} g =
     let e : 0 + length (b ∷ l) ≡ suc (length l) = omega arith in
     length-uleb (length l) (numberOf (b ∷ l)) (subst (λ (j : ℕ). numberOf (b ∷ l) < 128 ^ j) e (digits-below 0 0 g (omega arith)))
@@ -205,7 +204,7 @@ object-shorter {e = e} (json.is-object {w = w} {l = l} {x = x} p h q) i n =
 shorter : (s : List ℕ) (e : Event) → readJson s ≡ shown e → length (pack e) ≤ length s
 shorter s e r = let u = sound r in go (u .text) (u .event) (u .short)
   where
-    go : {v : json.Json} {s : List ℕ} → json.Text v s → IsEvent v e → length s ≤ 65_536 → length (pack e) ≤ length s
+    go : {v : json.Json} {s : List ℕ} → json.JsonText v s → IsEvent v e → length s ≤ 65_536 → length (pack e) ≤ length s
     go (json.text {w = w} {l = l} {x = x} p h q) i n = let a = length-append w (l ++ x) in let b = length-append l x in omega (arith, object-shorter h i (omega (arith, a, b, n)), a, b)
 
 -- THE room: nor where the NSON reader shows it, since then the plain JSON reader does

@@ -7,12 +7,12 @@ use Rattle.hex.specs.Hex.{hexes}
 use Rattle.decimal.specs.Decimal.{decimal}
 use Rattle.escape.specs.Escape.{nsonByte, escaped}
 use Rattle.event.specs.Event.{Text, Tag, Event}
-use Rattle.tagtext.specs.TagText.{tagsText}
+use Rattle.jsontags.specs.TagText.{tagsText}
 use Rattle.jsontext.specs.Grammar as json
 use Rattle.json.specs.Meaning.{idName, pubkeyName, sigName, createdAtName, kindName, tagsName, contentName}
-use Rattle.nson.specs.Nson.{idLabel, pubkeyLabel, sigLabel, timeLabel, nsonLabel, kindLabel, contentLabel, tagsLabel, endLabel, counts, field, headText, bodyText, nson}
+use Rattle.nson.specs.Nson.{idLabel, pubkeyLabel, sigLabel, timeLabel, nsonLabel, kindLabel, contentLabel, tagsLabel, endLabel, counts, nsonField, headText, bodyText, nson}
 use Rattle.agreement.specs.Counted.{nsonName}
-use Rattle.agreement.proofs.Spelled.{string, member, comma, braces, arrayOf}
+use Rattle.jsontext.proofs.Compact.{string, member, comma, braces, arrayOf}
 
 -- ---- the tree
 
@@ -32,7 +32,7 @@ members e =
     (json.member pubkeyName (json.string (hexes (e .pubkey)))
     (json.member sigName (json.string (hexes (e .sig)))
     (json.member createdAtName (json.number (decimal (e .createdAt)))
-    (json.member nsonName (json.string (field (counts e)))
+    (json.member nsonName (json.string (nsonField (counts e)))
     (json.member kindName (json.number (decimal (e .kind)))
     (json.member contentName (textTree (e .content))
     (json.member tagsName (tagsTree (e .tags)) json.no-member)))))))
@@ -49,7 +49,7 @@ front e l =
 
 abbrev pub back : Event → List ℕ
 back e =
-    comma (member nsonName (string (field (counts e))))
+    comma (member nsonName (string (nsonField (counts e))))
     (comma (member kindName (decimal (e .kind)))
     (comma (member contentName (string (escaped nsonByte (e .content)))) (member tagsName (tagsText nsonByte (e .tags)))))
 
@@ -75,7 +75,7 @@ nson-members e =
     let p = hexes (e .pubkey) in
     let g = hexes (e .sig) in
     let t = decimal (e .createdAt) in
-    let f = field (counts e) in
+    let f = nsonField (counts e) in
     let k = decimal (e .kind) in
     let c = escaped nsonByte (e .content) in
     let a = tagsText nsonByte (e .tags) in

@@ -10,14 +10,14 @@ use native.Mathlib.Decide.{decLe}
 use lib.ListN.{length, take}
 use Rattle.scan.specs.Choice.{Answer, shown, refused}
 use Rattle.scan.proofs.Step.{false-true}
-use Rattle.store.specs.Entry.{writes, leaves}
+use Rattle.scan.proofs.Many.{pick-shown, after, shown-same}
+use Rattle.buffer.specs.Entry.{writes, leaves}
 use Rattle.event.specs.Event.{Event}
 use Rattle.notepack.specs.Unpack.{unpack}
 use Rattle.notepack.specs.Strict.{pack}
 use Rattle.notepack.proofs.Sound as packed
 use Rattle.nson.specs.Nson.{nson}
 use Rattle.nson.specs.Carries.{Carries, carries}
-use Rattle.nson.proofs.Pieces.{pick-shown, after, shown-same}
 use Rattle.nson.proofs.Complete as complete
 use Rattle.nson.proofs.Decision.{carries-exactly}
 use Rattle.nson.specs.Entries.{carried, nsonWrites, writerLeaves}

@@ -11,16 +11,17 @@ use Rattle.scan.proofs.AllLaws.{all-append}
 use Rattle.utf8.specs.Utf8.{Utf8}
 use Rattle.escape.specs.Escape.{nsonByte}
 use Rattle.event.specs.Event.{Text, Tag, Event, ValidTag, Valid}
-use Rattle.tagtext.specs.TagText.{quoted, tagText, tagsText}
+use Rattle.jsontags.specs.TagText.{quoted, tagText, tagsText}
 use Rattle.jsontext.specs.Grammar as json
 use Rattle.json.specs.Meaning.{idName, pubkeyName, sigName, createdAtName, kindName, tagsName, contentName}
-use Rattle.nson.specs.Nson.{Counts, counts, word, words, tagCounts, descriptors, field, nson}
+use Rattle.nson.specs.Nson.{Counts, counts, word, words, tagCounts, descriptors, nsonField, nson}
 use Rattle.nson.specs.Carries.{Fits, Carries}
 use Rattle.nson.proofs.Counts.{Short, TagCounts, Holds}
 use Rattle.nson.proofs.Carrying.{descriptors-length, carried-holds}
 use Rattle.agreement.specs.Counted.{nsonName}
-use Rattle.agreement.proofs.Texts.{hexes-chars, name-chars, nson-chars, decimal-number}
-use Rattle.agreement.proofs.Spelled.{string-spells, member-spells, more-members, object-text, Spelt, array-spells}
+use Rattle.jsontext.proofs.Compact.{hexes-chars, name-chars, decimal-number, string-spells, member-spells, more-members, object-text}
+use Rattle.agreement.proofs.Texts.{nson-chars}
+use Rattle.agreement.proofs.Spelled.{Spelt, array-spells}
 use Rattle.agreement.proofs.Tree.{textTree, tagTree, tagsTree, members, tree, front, back, nson-members}
 
 -- ---- the bytes of the nson field. General: belongs to crate nson
@@ -48,8 +49,8 @@ field-bytes {e} c v =
     let few = c .few in
     also {b = 2 * length (descriptors (counts e))} (omega (arith, descriptors-length e)) (counts-bytes (carried-holds c v))
 
-pub field-chars : {e : Event} → Carries e → Valid e → json.Chars (field (counts e)) (field (counts e))
-unfolding field
+pub field-chars : {e : Event} → Carries e → Valid e → json.Chars (nsonField (counts e)) (nsonField (counts e))
+unfolding nsonField
 field-chars c v = hexes-chars (field-bytes c v)
 
 -- ---- the tags
@@ -91,8 +92,8 @@ tree-spells {e} c v =
     more-members id (more-members pubkey (more-members sig (more-members time (more-members nson (more-members kind (more-members content (json.last-member tags)))))))
 
 -- THE text: what the NSON writer writes is a JSON text, and its tree is `tree`
-pub tree-text : {e : Event} → Carries e → Valid e → json.Text (tree e) (nson e)
+pub tree-text : {e : Event} → Carries e → Valid e → json.JsonText (tree e) (nson e)
 tree-text {e} c v =
     let l = nson e in
     let g : json.Spells (tree e) l = subst (json.Spells (tree e)) (nson-members e) (object-text (tree-spells c v)) in
-    subst (json.Text (tree e)) (append-nil l) (json.text {w = []} {l = l} {x = []} none g none)
+    subst (json.JsonText (tree e)) (append-nil l) (json.text {w = []} {l = l} {x = []} none g none)

@@ -7,7 +7,7 @@ use mathlib.Core.Logic.{_↔_}
 use lib.ListN.{length, drop}
 use Rattle.scan.specs.Choice.{shown}
 use Rattle.scan.specs.Span.{IsBytes}
-use Rattle.store.specs.Entry.{writes, leaves}
+use Rattle.buffer.specs.Entry.{writes, leaves}
 use Rattle.hex.specs.Hex.{hexes}
 use Rattle.decimal.specs.Decimal.{decimal}
 use Rattle.escape.specs.Escape.{canonicalByte, escaped}
@@ -18,7 +18,7 @@ use Rattle.notepack.specs.Strict.{pack}
 use Rattle.notepack.specs.Unpack.{unpack}
 use Rattle.notepack.specs.Seen.{Seen}
 use Rattle.strict.specs.Strict.{strict}
-use Rattle.tagtext.specs.TagText.{tagsText}
+use Rattle.jsontags.specs.TagText.{tagsText}
 use Rattle.canonical.specs.Canonical.{canonical}
 use Rattle.json.specs.Meaning.{IsEvent}
 use Rattle.json.specs.Object.{readJson}
@@ -86,11 +86,11 @@ WritesCanonical =
 -- "JSON is read as RFC 8259 has it, under the limits of document 01": an event is shown exactly if the input is a JSON text of at most 65,536
 -- bytes, by the RFC's grammar, whose tree is that event
 abbrev pub ReadsJson : Type 0
-ReadsJson = (s : List ℕ) (e : Event) → (readJson s ≡ shown e) ↔ ((v : json.Json) × json.Text v s × IsEvent v e × (length s ≤ 65_536))
+ReadsJson = (s : List ℕ) (e : Event) → (readJson s ≡ shown e) ↔ ((v : json.Json) × json.JsonText v s × IsEvent v e × (length s ≤ 65_536))
 
 -- a text has one tree, and a tree is at most one event
 abbrev pub OneTree : Type 0
-OneTree = (s : List ℕ) (v w : json.Json) → json.Text v s → json.Text w s → v ≡ w
+OneTree = (s : List ℕ) (v w : json.Json) → json.JsonText v s → json.JsonText w s → v ≡ w
 
 abbrev pub OneMeaning : Type 0
 OneMeaning = (v : json.Json) (d e : Event) → IsEvent v d → IsEvent v e → d ≡ e

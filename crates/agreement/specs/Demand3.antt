@@ -31,7 +31,7 @@ BothAccept = (s : List ℕ) (e : Event) → readNson s ≡ shown e → readJson 
 -- "the plain JSON reader, which ignores that field": with another value there, with the field added or without it, it shows the same event
 abbrev pub FieldIgnored : Type 0
 FieldIgnored =
-    (s t : List ℕ) (m k : json.Members) (e : Event) → json.Text (json.object m) s → json.Text (json.object k) t → OtherField m k → length t ≤ 65_536
+    (s t : List ℕ) (m k : json.Members) (e : Event) → json.JsonText (json.object m) s → json.JsonText (json.object k) t → OtherField m k → length t ≤ 65_536
     → readJson s ≡ shown e → readJson t ≡ shown e
 
 -- "given room. Both then show the same event: the same length written and the same bytes."
@@ -72,15 +72,15 @@ TextEnough = (s : List ℕ) (e : Event) → (readJson s ≡ shown e → length (
 -- text holds, they are true
 abbrev pub NoLie : Type 0
 NoLie =
-    (s : List ℕ) (e : Event) → readNson s ≡ shown e → (m : json.Members) → json.Text (json.object m) s → (size : ℕ) (c : Counts) → FieldHolds m size c
+    (s : List ℕ) (e : Event) → readNson s ≡ shown e → (m : json.Members) → json.JsonText (json.object m) s → (size : ℕ) (c : Counts) → FieldHolds m size c
     → TrueCounts m size c
 
 -- and it does hold some: an accepted string is a JSON text, of one object and of no other value, and its nson field holds the very size and
 -- counts that the reader follows
 pub record Followed (s : List ℕ) : Type 0 where
   pub members : json.Members
-  pub text : json.Text (json.object members) s
-  pub only : (v : json.Json) → json.Text v s → v ≡ json.object members
+  pub text : json.JsonText (json.object members) s
+  pub only : (v : json.Json) → json.JsonText v s → v ≡ json.object members
   pub counts : Counts
   pub behind : ℕ
   pub read-there : countsAt s ≡ read counts behind

@@ -1,11 +1,12 @@
--- The canonical text of NIP-01 (document 01, "Canonical text"), over which an event's id is taken: JSON without white space. Assumes nothing.
+-- The canonical text of NIP-01 (document 01, "Canonical text"), over which an event's id is taken: JSON without white
+-- space. Assumes nothing.
 use Prim.Native.Nat.{ℕ}
 use mathlib.Core.List.{List, [], _∷_}
 use Rattle.hex.specs.Hex.{hexes}
 use Rattle.decimal.specs.Decimal.{decimal}
 use Rattle.escape.specs.Escape.{canonicalByte}
 use Rattle.event.specs.Event.{Event}
-use Rattle.tagtext.specs.TagText.{quoted, array, tagsText}
+use Rattle.jsontags.specs.TagText.{quoted, array, tagsText}
 
 -- [0,"pubkey",created_at,kind,tags,"content"], item by item
 abbrev pub items : Event → List (List ℕ)

@@ -1,3 +1,2 @@
 pub mod Canonical
-pub mod Copy
-pub mod Answers
+pub mod Front

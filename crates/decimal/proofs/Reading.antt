@@ -17,23 +17,23 @@ use Rattle.scan.specs.Span.{Span, here, All}
 use Rattle.scan.proofs.Step.{byte-none, pick-true, pick-by}
 use Rattle.scan.proofs.SpanLaws.{span-length, none-span, from-span, place}
 use Rattle.scan.proofs.PlaceLaws.{span-run, run-span}
-use Rattle.decimal.specs.Decimal.{Digit, digit, isDigit, numberOf, decimal, Digits, number, over, digitsTo, digitsAt}
+use Rattle.decimal.specs.Decimal.{DecimalDigit, digit, isDigit, numberOf, decimal, Digits, number, over, digitsTo, digitsAt}
 use Rattle.decimal.proofs.Spelling.{length-some, decimal-digits, number-decimal}
 
 -- ---- the test of a digit
 
 -- a digit passes the test
-pub digit-passes : (b : ℕ) → Digit b → isDigit b ≡ true
+pub digit-passes : (b : ℕ) → DecimalDigit b → isDigit b ≡ true
 unfolding within
 digit-passes b (digit p q) = simp (le-leb 48 b p, le-leb b 57 q)
 
 -- what passes the test is a digit
-pub passes-digit : (b : ℕ) → isDigit b ≡ true → Digit b
+pub passes-digit : (b : ℕ) → isDigit b ≡ true → DecimalDigit b
 unfolding within
 passes-digit b h = let t = pick-true (leb 48 b) (leb b 57) h in digit (leb-true 48 b (t .0)) (leb-true b 57 (t .1))
 
 -- a byte that is no digit fails the test
-pub other-fails : (b : ℕ) → (Digit b → ⊥) → isDigit b ≡ false
+pub other-fails : (b : ℕ) → (DecimalDigit b → ⊥) → isDigit b ≡ false
 other-fails b n = go (isDigit b) refl
   where
     go : (t : Bool) → isDigit b ≡ t → t ≡ false
@@ -53,14 +53,14 @@ run-stops s at = go (drop at s) at refl
 
 -- ---- accepts
 
-module _ (max : ℕ) (s : List ℕ) {at c : ℕ} {l : List ℕ} (all : All Digit l) (some : 0 < length l) (span : Span s at l c)
+module _ (max : ℕ) (s : List ℕ) {at c : ℕ} {l : List ℕ} (all : All DecimalDigit l) (some : 0 < length l) (span : Span s at l c)
     (stop : c < length s → isDigit (getD s c 0) ≡ false) where
   told : digitsAt max s at ≡ pick (leb (numberOf l) max) (number (numberOf l) c) (over c)
   unfolding digitsAt digitsTo
   told =
       let e = span-length span in
       let n : c - at ≡ length l = omega arith in
-      rw (span-run isDigit Digit digit-passes s all span stop, ne-eqb c at (λ f. omega arith), n, from-span span, take-at l (drop c s) (length l) refl)
+      rw (span-run isDigit DecimalDigit digit-passes s all span stop, ne-eqb c at (λ f. omega arith), n, from-span span, take-at l (drop c s) (length l) refl)
 
   -- digits that spell a number up to the maximum are read as it
   pub accepts-number : numberOf l ≤ max → digitsAt max s at ≡ number (numberOf l) c
@@ -73,7 +73,7 @@ module _ (max : ℕ) (s : List ℕ) {at c : ℕ} {l : List ℕ} (all : All Digit
 -- where no digit stands, none is read
 pub accepts-none : (max : ℕ) (s : List ℕ) (at : ℕ) → (at < length s → isDigit (getD s at 0) ≡ false) → digitsAt max s at ≡ Digits.none
 unfolding digitsAt digitsTo
-accepts-none max s at stop = rw (span-run isDigit Digit digit-passes s All.none here stop, eq-eqb at at refl)
+accepts-none max s at stop = rw (span-run isDigit DecimalDigit digit-passes s All.none here stop, eq-eqb at at refl)
 
 -- what is written reads back, where no digit follows
 pub decimal-reads : (max : ℕ) (s : List ℕ) (n : ℕ) {at c : ℕ} → n ≤ max → Span s at (decimal n) c → (c < length s → isDigit (getD s c 0) ≡ false)
@@ -86,17 +86,17 @@ decimal-reads max s n {at} {c} h span stop =
 
 -- what stands at `at` where a read told this: digits to its end and none behind them, or no digit at all
 pub data Taken (max : ℕ) (s : List ℕ) (at : ℕ) : Digits → Type 0 where
-  took-number : {n c : ℕ} {l : List ℕ} → All Digit l → 0 < length l → Span s at l c → isDigit (getD s c 0) ≡ false → numberOf l ≡ n → n ≤ max
+  took-number : {n c : ℕ} {l : List ℕ} → All DecimalDigit l → 0 < length l → Span s at l c → isDigit (getD s c 0) ≡ false → numberOf l ≡ n → n ≤ max
       → Taken max s at (number n c)
-  took-over : {c : ℕ} {l : List ℕ} → All Digit l → 0 < length l → Span s at l c → isDigit (getD s c 0) ≡ false → max < numberOf l
+  took-over : {c : ℕ} {l : List ℕ} → All DecimalDigit l → 0 < length l → Span s at l c → isDigit (getD s c 0) ≡ false → max < numberOf l
       → Taken max s at (over c)
   took-none : isDigit (getD s at 0) ≡ false → Taken max s at Digits.none
 
 -- every answer is one of the three
 pub consumes : (max : ℕ) (s : List ℕ) (at : ℕ) → Taken max s at (digitsAt max s at)
-consumes max s at = let r = run-span isDigit Digit passes-digit s at in go (r .0) (r .1) (r .2)
+consumes max s at = let r = run-span isDigit DecimalDigit passes-digit s at in go (r .0) (r .1) (r .2)
   where
-    go : (l : List ℕ) → All Digit l → Span s at l (runAt isDigit s at) → Taken max s at (digitsAt max s at)
+    go : (l : List ℕ) → All DecimalDigit l → Span s at l (runAt isDigit s at) → Taken max s at (digitsAt max s at)
     go [] all span =
         let f = rw (sym (none-span span)) at (run-stops s at) in
         rw (accepts-none max s at (λ h. f)) (took-none f)
@@ -108,18 +108,18 @@ consumes max s at = let r = run-span isDigit Digit passes-digit s at in go (r .0
 
 -- a number is read from digits that spell it, and no digit stands behind them
 pub consumes-number : (max : ℕ) (s : List ℕ) (at : ℕ) {n c : ℕ} → digitsAt max s at ≡ number n c
-    → (l : List ℕ) × All Digit l × (0 < length l) × Span s at l c × (isDigit (getD s c 0) ≡ false) × (numberOf l ≡ n) × (n ≤ max)
+    → (l : List ℕ) × All DecimalDigit l × (0 < length l) × Span s at l c × (isDigit (getD s c 0) ≡ false) × (numberOf l ≡ n) × (n ≤ max)
 consumes-number max s at {n} {c} e = go (rw e at (consumes max s at))
   where
-    go : Taken max s at (number n c) → (l : List ℕ) × All Digit l × (0 < length l) × Span s at l c × (isDigit (getD s c 0) ≡ false) × (numberOf l ≡ n) × (n ≤ max)
+    go : Taken max s at (number n c) → (l : List ℕ) × All DecimalDigit l × (0 < length l) × Span s at l c × (isDigit (getD s c 0) ≡ false) × (numberOf l ≡ n) × (n ≤ max)
     go (took-number {l = l} all some span stop spell fits) = (l, all, some, span, stop, spell, fits)
 
 -- over the maximum is told of digits that spell more, and no digit stands behind them
 pub consumes-over : (max : ℕ) (s : List ℕ) (at : ℕ) {c : ℕ} → digitsAt max s at ≡ over c
-    → (l : List ℕ) × All Digit l × (0 < length l) × Span s at l c × (isDigit (getD s c 0) ≡ false) × (max < numberOf l)
+    → (l : List ℕ) × All DecimalDigit l × (0 < length l) × Span s at l c × (isDigit (getD s c 0) ≡ false) × (max < numberOf l)
 consumes-over max s at {c} e = go (rw e at (consumes max s at))
   where
-    go : Taken max s at (over c) → (l : List ℕ) × All Digit l × (0 < length l) × Span s at l c × (isDigit (getD s c 0) ≡ false) × (max < numberOf l)
+    go : Taken max s at (over c) → (l : List ℕ) × All DecimalDigit l × (0 < length l) × Span s at l c × (isDigit (getD s c 0) ≡ false) × (max < numberOf l)
     go (took-over {l = l} all some span stop more) = (l, all, some, span, stop, more)
 
 -- where none is read, no digit stands

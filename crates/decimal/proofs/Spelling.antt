@@ -11,7 +11,7 @@ use lib.ListN.{length, getD, length-append, List·getD-append}
 use borrow.Author.Tests.{lt-ltb, le-ltb}
 use Rattle.scan.specs.Span.{All, none, also}
 use Rattle.scan.proofs.AllLaws.{all-append}
-use Rattle.decimal.specs.Decimal.{Digit, digit, behind, numberOf, decimalIn, decimal}
+use Rattle.decimal.specs.Decimal.{DecimalDigit, digit, behind, numberOf, decimalIn, decimal}
 
 -- ---- the two steps of the spelling
 
@@ -101,12 +101,12 @@ ten-length n e = (
 -- ---- the digits
 
 -- only digits are written
-pub decimal-digits : (n : ℕ) → All Digit (decimal n)
+pub decimal-digits : (n : ℕ) → All DecimalDigit (decimal n)
 decimal-digits =
-    by-tenths (λ (n : ℕ). All Digit (decimal n)) (λ n h. rw (decimal-last n h) (one n h))
+    by-tenths (λ (n : ℕ). All DecimalDigit (decimal n)) (λ n h. rw (decimal-last n h) (one n h))
     (λ n h r. rw (decimal-more n h) (all-append r (one (n % 10) (omega arith))))
   where
-    one : (d : ℕ) → d < 10 → All Digit ((48 + d) ∷ [])
+    one : (d : ℕ) → d < 10 → All DecimalDigit ((48 + d) ∷ [])
     one d h = also (digit {b = 48 + d} (omega arith) (omega arith)) none
 
 -- the first digit is 0 for the number 0 alone
@@ -142,7 +142,7 @@ pub decimal-injective : (m n : ℕ) → decimal m ≡ decimal n → m ≡ n
 decimal-injective m n e = sym (number-decimal m) ∙ ap numberOf e ∙ number-decimal n
 
 -- digits behind a number that is not 0 spell on
-decimal-behind : (n : ℕ) {l : List ℕ} → 0 < n → All Digit l → decimal (behind n l) ≡ decimal n ++ l
+decimal-behind : (n : ℕ) {l : List ℕ} → 0 < n → All DecimalDigit l → decimal (behind n l) ≡ decimal n ++ l
 decimal-behind n h none = sym (append-nil (decimal n))
 decimal-behind n h (also {b = b} {l = l} (digit p q) r) =
     let m = n * 10 + (b - 48) in
@@ -151,7 +151,7 @@ decimal-behind n h (also {b = b} {l = l} (digit p q) r) =
     decimal-behind m (omega arith) r ∙ rw (decimal-more m (omega arith), t, d) (append-assoc (decimal n) (b ∷ []) l)
 
 -- the spelling is the only one: digits with no leading zero, unless 0 stands alone, are what is written for their number
-pub decimal-unique : (b : ℕ) (l : List ℕ) → All Digit (b ∷ l) → (b ≡ 48 → l ≡ []) → decimal (numberOf (b ∷ l)) ≡ b ∷ l
+pub decimal-unique : (b : ℕ) (l : List ℕ) → All DecimalDigit (b ∷ l) → (b ≡ 48 → l ≡ []) → decimal (numberOf (b ∷ l)) ≡ b ∷ l
 decimal-unique b l (also (digit p q) r) lone =
     dite (ℕ-discrete b 48)
     (λ e. rw (lone e, e) (decimal-last 0 (omega arith)))

@@ -17,7 +17,7 @@ use Rattle.scan.specs.Span.{Span, here, step, All, none, also}
 use Rattle.scan.proofs.Step.{false-true}
 use Rattle.scan.proofs.SpanLaws.{join, open-span, none-span, span-length}
 use Rattle.scan.proofs.PlaceLaws.{run-span}
-use Rattle.decimal.specs.Decimal.{Digit, digit, isDigit, behind, numberOf, Digits, number, over, digitsAt}
+use Rattle.decimal.specs.Decimal.{DecimalDigit, digit, isDigit, behind, numberOf, Digits, number, over, digitsAt}
 use Rattle.scan.proofs.AllLaws.{all-append}
 use Rattle.decimal.proofs.Spelling.{behind-append, behind-grows}
 use Rattle.decimal.proofs.Reading.{passes-digit, run-stops, accepts-number, accepts-over, accepts-none}
@@ -27,7 +27,7 @@ use Rattle.decimal.proofs.Reading.{passes-digit, run-stops, accepts-num
 pub digit-least : (b : ℕ) (t : Bool) → t ≡ isDigit b → t ≡ true → 48 ≤ b
 digit-least b t e k = low (passes-digit b (sym e ∙ k))
   where
-    low : {b : ℕ} → Digit b → 48 ≤ b
+    low : {b : ℕ} → DecimalDigit b → 48 ≤ b
     low (digit p q) = p
 
 -- what `fits_behind` compares, with no number above max
@@ -52,7 +52,7 @@ value-fits value d max u h f m = let k = at-most (value * 10 + d) max f m in rec
 -- the bytes from `at` to i are digits, and spell a value up to the maximum
 pub record Reading (max : ℕ) (s : List ℕ) (at i value : ℕ) : Type 0 where
   pub digits : List ℕ
-  pub all : All Digit digits
+  pub all : All DecimalDigit digits
   pub span : Span s at digits i
   pub spell : numberOf digits ≡ value
   pub fits : value ≤ max
@@ -76,9 +76,9 @@ module _ (max : ℕ) (s : List ℕ) (at i value : ℕ) where
   -- with one digit more it is over the maximum: the rest of the run is read over
   pub reading-over : (t u : Bool) (end : ℕ) → Reading max s at i value → t ≡ isDigit (getD s i 0) → t ≡ true
       → u ≡ leb (value * 10 + (getD s i 0 - 48)) max → u ≡ false → end ≡ runAt isDigit s i → over end ≡ digitsAt max s at
-  reading-over t u end v e k f m r = let p = run-span isDigit Digit passes-digit s i in go (p .0) (p .1) (p .2)
+  reading-over t u end v e k f m r = let p = run-span isDigit DecimalDigit passes-digit s i in go (p .0) (p .1) (p .2)
     where
-      go : (l : List ℕ) → All Digit l → Span s i l (runAt isDigit s i) → over end ≡ digitsAt max s at
+      go : (l : List ℕ) → All DecimalDigit l → Span s i l (runAt isDigit s i) → over end ≡ digitsAt max s at
       go [] d p = let z = rw (sym (none-span p)) at (run-stops s i) in absurd (false-true (sym z ∙ sym e ∙ k))
       go (b ∷ l) d p =
           let first = open-span p .1 in

@@ -10,8 +10,8 @@ use Rattle.decimal.specs.declared.DecimalRead.{DecimalRead}
 use Rattle.decimal.specs.declared.DecimalRead.the-variants.{Number, Over, NoDigit}
 
 -- 0-9
-pub data Digit : ℕ → Type 0 where
-  digit : {b : ℕ} → 48 ≤ b → b ≤ 57 → Digit b
+pub data DecimalDigit : ℕ → Type 0 where
+  digit : {b : ℕ} → 48 ≤ b → b ≤ 57 → DecimalDigit b
 
 abbrev pub isDigit : ℕ → Bool
 isDigit = within 48 57

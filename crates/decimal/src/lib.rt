@@ -3,7 +3,7 @@ ghost use Prim.Native.Nat.{_+_, _*_, _≤_};
 ghost use mathlib.Core.Path.{_≡_};
 ghost use lib.ListN.{length};
 ghost use lib.Dec.{leb};
-ghost use Rattle.store.specs.Store.{Wrote};
+ghost use Rattle.buffer.specs.Store.{Wrote};
 ghost use Rattle.decimal.specs.Decimal.{decimal, digitsAt, decimalRead};
 
 // A place in the input. A cursor past the end reads as the end.
@@ -87,5 +87,5 @@ pub fn put_decimal(out: &mut [u8], at: usize, n: u64) -> usize
     }
     k -= 1;
     digits[k] = 48 + rest as u8;
-    store::put_bytes(out, at, &digits[k..])
+    buffer::put_bytes(out, at, &digits[k..])
 }

@@ -1,68 +1,59 @@
 -- Blocks of a text: how much longer one gets, and how far one goes with no escape.
 -- Each turn of the loops is one law whose premises are what the loop knows; `byte-tests` says what a byte becomes.
-use Prim.Native.Nat.{ℕ, suc, _+_, _-_, _<_, _≤_, min}
+use Prim.Native.Nat.{ℕ, suc, _+_, _-_, _<_, _≤_}
 use mathlib.Core.Path.{_≡_, refl, sym, ap, _∙_}
 use mathlib.Core.Bool.{Bool, true, false}
-use mathlib.Core.List.{List, [], _∷_, _++_, append-nil}
+use mathlib.Core.List.{List, [], _∷_, _++_}
 use native.Mathlib.Omega.{arith}
 use lib.ListN.{length, getD, take, drop, length-append, length-take, length-drop, take-append-drop}
 use lib.Seq.{drop-drop, drop-append-le, take-all, length-take-le, getD-take, getD-drop}
 use Rattle.scan.specs.Choice.{pick}
-use Rattle.scan.proofs.Step.{rest-none, rest-more, pick-by}
-use Rattle.store.specs.Store.{Wrote}
-use Rattle.store.proofs.Laws.{Left, also}
-use Rattle.escape.specs.Escape.{behind, escaped, isControl, controls}
-use Rattle.escape.specs.Block.{byteOf, isEscaped, letterOf, runOf}
-use Rattle.escape.proofs.ByteLaws.{escaping, byte-tests}
+use Rattle.scan.specs.Blocks.{beforeStop}
+use Rattle.scan.proofs.Step.{rest-none, rest-more, rest-block}
+use Rattle.scan.proofs.BlockLaws.{stop-within, stop-here}
+use Rattle.buffer.specs.Store.{Wrote}
+use Rattle.buffer.proofs.Laws.{Left, also}
+use Rattle.buffer.proofs.OverLaws.{wide}
+use Rattle.escape.specs.Escape.{backslashed, escaped, isUncarried, controls}
+use Rattle.escape.specs.Block.{byteBy, isEscaped, escapeLetter, runOf}
+use Rattle.escape.proofs.ByteLaws.{escaping-by, byte-tests}
 use Rattle.escape.proofs.TextLaws.{escaped-append, length-least}
-use Rattle.escape.proofs.OverLaws.{wide}
-
--- general: the text from i on is the block from i to e and the text from e on
-pub rest-block : (t : List ℕ) (i e : ℕ) → i ≤ e → drop i t ≡ take (e - i) (drop i t) ++ drop e t
-rest-block t i e h =
-    let j : i + (e - i) ≡ e = omega arith in
-    let d = drop-drop (e - i) i t ∙ ap (λ (k : ℕ). drop k t) j in
-    sym (take-append-drop (e - i) (drop i t)) ∙ ap (λ (r : List ℕ). take (e - i) (drop i t) ++ r) d
-
--- general: a part that goes to the end
-pub rest-whole : (t : List ℕ) (i : ℕ) → take (length t - i) (drop i t) ≡ drop i t
-rest-whole t i = take-all (length t - i) (drop i t) (omega (arith, length-drop i t))
 
 -- ---- the length
 
-byte-length : (all : Bool) (b : ℕ) → length (byteOf all b) ≡ pick (isEscaped all b) 1 0 + 1
+byte-length : (all : Bool) (b : ℕ) → length (byteBy all b) ≡ pick (isEscaped all b) 1 0 + 1
 byte-length all b = ap length (byte-tests all b) ∙ by-cases (isEscaped all b)
   where
-    by-cases : (t : Bool) → length (pick t (behind (letterOf b)) (b ∷ [])) ≡ pick t 1 0 + 1
+    by-cases : (t : Bool) → length (pick t (backslashed (escapeLetter b)) (b ∷ [])) ≡ pick t 1 0 + 1
     by-cases true = refl
     by-cases false = refl
 
 module _ (all : Bool) (s : List ℕ) (i n h : ℕ) where
   -- a byte more is counted
-  pub count-more : {t : Bool} {k : ℕ} → n + i + length (escaped (byteOf all) (drop i s)) ≡ h → i < length s → t ≡ isEscaped all (getD s i 0) → k ≡ pick t 1 0
-      → n + k + (i + 1) + length (escaped (byteOf all) (drop (i + 1) s)) ≡ h
+  pub count-more : {t : Bool} {k : ℕ} → n + i + length (escaped (byteBy all) (drop i s)) ≡ h → i < length s → t ≡ isEscaped all (getD s i 0) → k ≡ pick t 1 0
+      → n + k + (i + 1) + length (escaped (byteBy all) (drop (i + 1) s)) ≡ h
   unfolding escaped
   count-more {t} {k} e l p q =
       let b = getD s i 0 in
-      let more = escaped (byteOf all) (drop (i + 1) s) in
-      let r : length (escaped (byteOf all) (drop i s)) ≡ length (byteOf all b) + length more = rw (rest-more s i l) (length-append (byteOf all b) more) in
-      let g : length (byteOf all b) ≡ k + 1 = byte-length all b ∙ rw (sym p, sym q) in
+      let more = escaped (byteBy all) (drop (i + 1) s) in
+      let r : length (escaped (byteBy all) (drop i s)) ≡ length (byteBy all b) + length more = rw (rest-more s i l) (length-append (byteBy all b) more) in
+      let g : length (byteBy all b) ≡ k + 1 = byte-length all b ∙ rw (sym p, sym q) in
       omega arith
 
   -- all is counted
-  pub count-all : n + i + length (escaped (byteOf all) (drop i s)) ≡ h → length s ≤ i → i ≤ length s → n + length s ≡ h
+  pub count-all : n + i + length (escaped (byteBy all) (drop i s)) ≡ h → length s ≤ i → i ≤ length s → n + length s ≡ h
   unfolding escaped
-  count-all e l k = let r : length (escaped (byteOf all) (drop i s)) ≡ 0 = rw (rest-none s i l) refl in omega arith
+  count-all e l k = let r : length (escaped (byteBy all) (drop i s)) ≡ 0 = rw (rest-none s i l) refl in omega arith
 
 -- a text that doesn't grow stands as it is
-pub grows-not : (all : Bool) (s : List ℕ) → length (escaped (byteOf all) s) ≡ length s → escaped (byteOf all) s ≡ s
+pub grows-not : (all : Bool) (s : List ℕ) → length (escaped (byteBy all) s) ≡ length s → escaped (byteBy all) s ≡ s
 unfolding escaped
 grows-not all [] h = refl
-grows-not all (b ∷ s) h = by-cases (isEscaped all b) (byte-tests all b) (grows-not all s) (sym (length-append (byteOf all b) (escaped (byteOf all) s)) ∙ h)
+grows-not all (b ∷ s) h = by-cases (isEscaped all b) (byte-tests all b) (grows-not all s) (sym (length-append (byteBy all b) (escaped (byteBy all) s)) ∙ h)
   where
-    by-cases : (t : Bool) → byteOf all b ≡ pick t (behind (letterOf b)) (b ∷ []) → (length (escaped (byteOf all) s) ≡ length s → escaped (byteOf all) s ≡ s)
-        → length (byteOf all b) + length (escaped (byteOf all) s) ≡ suc (length s) → byteOf all b ++ escaped (byteOf all) s ≡ b ∷ s
-    by-cases true e f k = let n = ap length e in absurd (omega (arith, length-least (byteOf all) (escaping all) s))
+    by-cases : (t : Bool) → byteBy all b ≡ pick t (backslashed (escapeLetter b)) (b ∷ []) → (length (escaped (byteBy all) s) ≡ length s → escaped (byteBy all) s ≡ s)
+        → length (byteBy all b) + length (escaped (byteBy all) s) ≡ suc (length s) → byteBy all b ++ escaped (byteBy all) s ≡ b ∷ s
+    by-cases true e f k = let n = ap length e in absurd (omega (arith, length-least (byteBy all) (escaping-by all) s))
     by-cases false e f k = let n = ap length e in rw e (ap (λ (l : List ℕ). b ∷ l) (f (omega arith)))
 
 -- a block's length and that of the rest
@@ -83,98 +74,64 @@ length-last f s i n h q =
 
 -- ---- the run
 
--- the run ends within the block
-pub run-within : (all : Bool) (x : List ℕ) → runOf all x ≤ length x
-unfolding runOf
-run-within all [] = omega arith
-run-within all (b ∷ x) = let n = run-within all x in pick-by (λ (r : ℕ). r ≤ suc (length x)) (isEscaped all b) (λ t. omega arith) (λ t. omega arith)
-
-module _ (all : Bool) (s : List ℕ) (i n m : ℕ) where
-  -- a byte more is looked at
-  pub run-more : {t : Bool} {k r : ℕ} → runOf all s ≡ min m (i + runOf all (drop i s)) → i < length s → m ≤ n → t ≡ isEscaped all (getD s i 0) → k ≡ pick t i n → r ≡ min k m
-      → runOf all s ≡ min r (i + 1 + runOf all (drop (i + 1) s))
-  unfolding runOf
-  run-more {t} {k} {r} v h l p q w =
-      let f : runOf all (drop i s) ≡ pick t 0 (suc (runOf all (drop (i + 1) s))) = rw (rest-more s i h, p) refl in
-      by-cases t f q
-    where
-      by-cases : (t : Bool) → runOf all (drop i s) ≡ pick t 0 (suc (runOf all (drop (i + 1) s))) → k ≡ pick t i n → runOf all s ≡ min r (i + 1 + runOf all (drop (i + 1) s))
-      by-cases true f q = omega arith
-      by-cases false f q = omega arith
-
-  -- all is looked at
-  pub run-done : runOf all s ≡ min m (i + runOf all (drop i s)) → length s ≤ i → m ≤ length s → m ≡ runOf all s
-  unfolding runOf
-  run-done v h l = let f : runOf all (drop i s) ≡ 0 = rw (rest-none s i h) refl in omega arith
-
 module _ (all : Bool) where
   -- the bytes of the run stand as they are
-  run-front : (x y : List ℕ) → escaped (byteOf all) (x ++ y) ≡ take (runOf all x) x ++ escaped (byteOf all) (drop (runOf all x) x ++ y)
-  unfolding runOf escaped
+  run-front : (x y : List ℕ) → escaped (byteBy all) (x ++ y) ≡ take (runOf all x) x ++ escaped (byteBy all) (drop (runOf all x) x ++ y)
+  unfolding beforeStop escaped
   run-front [] y = refl
   run-front (b ∷ x) y = by-cases (isEscaped all b) (byte-tests all b) (run-front x y)
     where
-      by-cases : (t : Bool) → byteOf all b ≡ pick t (behind (letterOf b)) (b ∷ [])
-          → escaped (byteOf all) (x ++ y) ≡ take (runOf all x) x ++ escaped (byteOf all) (drop (runOf all x) x ++ y)
-          → escaped (byteOf all) (b ∷ x ++ y) ≡ take (pick t 0 (suc (runOf all x))) (b ∷ x) ++ escaped (byteOf all) (drop (pick t 0 (suc (runOf all x))) (b ∷ x) ++ y)
+      by-cases : (t : Bool) → byteBy all b ≡ pick t (backslashed (escapeLetter b)) (b ∷ [])
+          → escaped (byteBy all) (x ++ y) ≡ take (runOf all x) x ++ escaped (byteBy all) (drop (runOf all x) x ++ y)
+          → escaped (byteBy all) (b ∷ x ++ y) ≡ take (pick t 0 (suc (runOf all x))) (b ∷ x) ++ escaped (byteBy all) (drop (pick t 0 (suc (runOf all x))) (b ∷ x) ++ y)
       by-cases true e f = refl
       by-cases false e f = rw (e, f)
-
-  -- the byte behind the run becomes two
-  run-stop : (x : List ℕ) → runOf all x < length x → isEscaped all (getD x (runOf all x) 0) ≡ true
-  unfolding runOf
-  run-stop [] h = absurd (omega arith)
-  run-stop (b ∷ x) h = by-cases (isEscaped all b) refl (run-stop x) h
-    where
-      by-cases : (t : Bool) → isEscaped all b ≡ t → (runOf all x < length x → isEscaped all (getD x (runOf all x) 0) ≡ true) → pick t 0 (suc (runOf all x)) < suc (length x) → isEscaped all (getD (b ∷ x) (pick t 0 (suc (runOf all x))) 0) ≡ true
-      by-cases true e f h = e
-      by-cases false e f h = f (omega arith)
 
   module _ (s : List ℕ) (i k m : ℕ) (fits : i + k ≤ length s) (is : m ≡ runOf all (take k (drop i s))) where
     block-length : length (take k (drop i s)) ≡ k
     block-length = length-take-le k (drop i s) (omega (arith, length-drop i s))
 
     run-inside : m ≤ k
-    run-inside = omega (arith, block-length, run-within all (take k (drop i s)))
+    run-inside = omega (arith, block-length, stop-within (isEscaped all) (take k (drop i s)))
 
     -- the run of the block, and the rest of the text
-    run-then : escaped (byteOf all) (drop i s) ≡ take m (take k (drop i s)) ++ escaped (byteOf all) (drop (i + m) s)
+    run-then : escaped (byteBy all) (drop i s) ≡ take m (take k (drop i s)) ++ escaped (byteBy all) (drop (i + m) s)
     run-then =
         let t = drop i s in
         let block = take k t in
         let whole = take-append-drop k t in
         let rest = sym (drop-append-le m block (drop k t) (omega (arith, block-length, run-inside))) ∙ ap (λ (l : List ℕ). drop m l) whole ∙ drop-drop m i s in
-        ap (λ (l : List ℕ). escaped (byteOf all) l) (sym whole) ∙ run-front block (drop k t) ∙ rw (sym is, rest)
+        ap (λ (l : List ℕ). escaped (byteBy all) l) (sym whole) ∙ run-front block (drop k t) ∙ rw (sym is, rest)
 
     -- a block was stored whole at o: its run is written, and what is left goes over the rest of it
-    pub run-written : {d : List ℕ} {at : ℕ} {text d′ : List ℕ} {o : ℕ} {d″ : List ℕ} {r : ℕ} → Left d at text d′ o (escaped (byteOf all) (drop i s))
-        → Wrote d′ o (take k (drop i s)) d″ r → o + k ≤ length d′ → Left d at text d″ (o + m) (escaped (byteOf all) (drop (i + m) s))
+    pub run-written : {d : List ℕ} {at : ℕ} {text d′ : List ℕ} {o : ℕ} {d″ : List ℕ} {r : ℕ} → Left d at text d′ o (escaped (byteBy all) (drop i s))
+        → Wrote d′ o (take k (drop i s)) d″ r → o + k ≤ length d′ → Left d at text d″ (o + m) (escaped (byteBy all) (drop (i + m) s))
     run-written l w room =
         let block = take k (drop i s) in
         let h = run-inside in
         let n = length-take-le m block (omega (arith, block-length)) in
-        let more = length-least (byteOf all) (escaping all) (drop (i + m) s) in
+        let more = length-least (byteBy all) (escaping-by all) (drop (i + m) s) in
         let whole = rw (sym (take-append-drop m block)) at w in
         rw n at
         (wide (take m block) (drop m block) (also run-then l) whole (omega (arith, more, length-drop m block, block-length, length-drop (i + m) s)) (omega arith))
 
     -- the byte behind the run, with its letter
-    pub run-letter : (m ≡ k → ⊥) → escaped (byteOf all) (drop (i + m) s) ≡ 0x5C ∷ letterOf (getD s (i + m) 0) ∷ escaped (byteOf all) (drop (i + m + 1) s)
+    pub run-letter : (m ≡ k → ⊥) → escaped (byteBy all) (drop (i + m) s) ≡ 0x5C ∷ escapeLetter (getD s (i + m) 0) ∷ escaped (byteBy all) (drop (i + m + 1) s)
     unfolding escaped
     run-letter n =
         let h = run-inside in
         let block = take k (drop i s) in
         let here : getD block m 0 ≡ getD s (i + m) 0 = getD-take k (drop i s) m 0 (omega arith) ∙ getD-drop i s m 0 in
-        let stop : isEscaped all (getD s (i + m) 0) ≡ true = rw (sym is, here) at (run-stop block (omega (arith, block-length))) in
+        let stop : isEscaped all (getD s (i + m) 0) ≡ true = rw (sym is, here) at (stop-here (isEscaped all) block (omega (arith, block-length))) in
         rw (rest-more s (i + m) (omega arith), byte-tests all (getD s (i + m) 0), stop)
 
 -- ---- what NSON can carry
 
 module _ (s : List ℕ) (i n h : ℕ) where
   -- a byte more is counted
-  pub control-more : n + controls (drop i s) ≡ h → i < length s → n + isControl (getD s i 0) + controls (drop (i + 1) s) ≡ h
+  pub control-more : n + controls (drop i s) ≡ h → i < length s → n + isUncarried (getD s i 0) + controls (drop (i + 1) s) ≡ h
   unfolding controls
-  control-more e l = let q : controls (drop i s) ≡ isControl (getD s i 0) + controls (drop (i + 1) s) = rw (rest-more s i l) refl in omega arith
+  control-more e l = let q : controls (drop i s) ≡ isUncarried (getD s i 0) + controls (drop (i + 1) s) = rw (rest-more s i l) refl in omega arith
 
   -- all is counted
   pub control-all : n + controls (drop i s) ≡ h → length s ≤ i → n ≡ h

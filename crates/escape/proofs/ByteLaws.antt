@@ -1,5 +1,7 @@
--- What each of the two byte functions makes of a byte: the byte itself, or a backslash and a letter that means the byte.
--- By the tests of the definitions, one after the other. `Escaping f` is all that the laws of texts ask of a byte function.
+-- What each of the two byte functions makes of a byte: the byte itself, or a backslash and a letter that means the
+-- byte.
+-- By the tests of the definitions, one after the other. `ReadBack f` is all that the laws of texts ask of a byte
+-- function.
 use Prim.Native.Nat.{ℕ, _+_, _<_, _≤_}
 use mathlib.Core.Path.{_≡_, refl, sym, _∙_}
 use mathlib.Core.Bool.{Bool, true, false}
@@ -12,8 +14,10 @@ use borrow.Author.Tests.{eqb-true, eqb-false, ne-eqb, le-leb, lt-leb}
 use Rattle.scan.specs.Choice.{pick}
 use Rattle.scan.specs.Place.{within}
 use Rattle.scan.proofs.Step.{pick-by}
-use Rattle.escape.specs.Escape.{behind, nsonByte, canonicalByte, meaning}
-use Rattle.escape.specs.Block.{byteOf, isEscaped, letterOf}
+use Rattle.escape.specs.declared.Escaping.{Escaping}
+use Rattle.escape.specs.declared.Escaping.the-variants.{Canonical, Nson}
+use Rattle.escape.specs.Escape.{backslashed, nsonByte, canonicalByte, byteOf, meaning}
+use Rattle.escape.specs.Block.{byteBy, isEscaped, escapeLetter}
 
 -- what a byte becomes: itself, or a backslash and a letter that means it
 pub data Form (b : ℕ) : List ℕ → Type 0 where
@@ -21,15 +25,15 @@ pub data Form (b : ℕ) : List ℕ → Type 0 where
   letter : (c : ℕ) → meaning c ≡ b → b < 0x80 → c < 0x80 → Form b (0x5C ∷ c ∷ [])
 
 -- a byte function with which texts can be read back
-abbrev pub Escaping : (ℕ → List ℕ) → Type 0
-Escaping f = (b : ℕ) → Form b (f b)
+abbrev pub ReadBack : (ℕ → List ℕ) → Type 0
+ReadBack f = (b : ℕ) → Form b (f b)
 
 -- a byte that is a given one becomes a backslash and a letter that means it
-to-letter : (b k c : ℕ) → eqb b k ≡ true → meaning c ≡ k → k < 0x80 → c < 0x80 → Form b (behind c)
+to-letter : (b k c : ℕ) → eqb b k ≡ true → meaning c ≡ k → k < 0x80 → c < 0x80 → Form b (backslashed c)
 to-letter b k c t m h l = let e = eqb-true b k t in letter c (m ∙ sym e) (omega arith) l
 
 -- NSON's is one
-pub nson-escaping : Escaping nsonByte
+pub nson-escaping : ReadBack nsonByte
 unfolding nsonByte meaning
 nson-escaping b =
     pick-by (Form b) (eqb b 0x0A) (λ t. to-letter b 0x0A 0x6E t refl (omega arith) (omega arith))
@@ -38,7 +42,7 @@ nson-escaping b =
     (λ m. pick-by (Form b) (eqb b 0x5C) (λ t. to-letter b 0x5C 0x5C t refl (omega arith) (omega arith)) (λ k. itself (eqb-false b 0x5C k))))
 
 -- the canonical text's is one
-pub canonical-escaping : Escaping canonicalByte
+pub canonical-escaping : ReadBack canonicalByte
 unfolding canonicalByte meaning
 canonical-escaping b =
     pick-by (Form b) (eqb b 0x0D) (λ t. to-letter b 0x0D 0x72 t refl (omega arith) (omega arith))
@@ -48,10 +52,15 @@ canonical-escaping b =
     pick-by (Form b) (eqb b 0x08) (λ t. to-letter b 0x08 0x62 t refl (omega arith) (omega arith))
     (λ n. pick-by (Form b) (eqb b 0x0C) (λ t. to-letter b 0x0C 0x66 t refl (omega arith) (omega arith)) (λ n. nson-escaping b))))
 
--- and so both, by the code's flag
-pub escaping : (all : Bool) → Escaping (byteOf all)
-escaping true = canonical-escaping
-escaping false = nson-escaping
+-- and so each
+pub escaping : (k : Escaping) → ReadBack (byteOf k)
+escaping Canonical = canonical-escaping
+escaping Nson = nson-escaping
+
+-- by the code's flag
+pub escaping-by : (all : Bool) → ReadBack (byteBy all)
+escaping-by true = canonical-escaping
+escaping-by false = nson-escaping
 
 -- ---- by the code's tests
 
@@ -71,8 +80,8 @@ outside b n8 n9 nA nB nC nD =
     simp (le-leb 0x08 b h, lt-leb b 0x0D (next 0x0D b (next 0x0C b (next 0x0B b (next 0x0A b (next 0x09 b (next 0x08 b h n8) n9) nA) nB) nC) nD)))
 
 -- what a byte becomes, by the two tests that the code makes
-pub byte-tests : (all : Bool) (b : ℕ) → byteOf all b ≡ pick (isEscaped all b) (behind (letterOf b)) (b ∷ [])
-unfolding nsonByte canonicalByte isEscaped letterOf within
+pub byte-tests : (all : Bool) (b : ℕ) → byteBy all b ≡ pick (isEscaped all b) (backslashed (escapeLetter b)) (b ∷ [])
+unfolding nsonByte canonicalByte isEscaped escapeLetter within
 byte-tests true b =
     dite (ℕ-discrete b 0x0D) (λ e. rw e refl)
     (λ r.
@@ -100,9 +109,9 @@ byte-tests false b =
     (λ k. simp (ne-eqb b 0x0A n, ne-eqb b 0x22 m, ne-eqb b 0x5C k))))
 
 -- a byte that passed the test
-pub byte-two : (all : Bool) (b : ℕ) {t : Bool} → t ≡ isEscaped all b → t ≡ true → byteOf all b ≡ behind (letterOf b)
+pub byte-two : (all : Bool) (b : ℕ) {t : Bool} → t ≡ isEscaped all b → t ≡ true → byteBy all b ≡ backslashed (escapeLetter b)
 byte-two all b p q = byte-tests all b ∙ rw (sym p, q)
 
 -- a byte that did not
-pub byte-one : (all : Bool) (b : ℕ) {t : Bool} → t ≡ isEscaped all b → t ≡ false → byteOf all b ≡ b ∷ []
+pub byte-one : (all : Bool) (b : ℕ) {t : Bool} → t ≡ isEscaped all b → t ≡ false → byteBy all b ≡ b ∷ []
 byte-one all b p q = byte-tests all b ∙ rw (sym p, q)

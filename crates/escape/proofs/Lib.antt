@@ -1,6 +1,5 @@
 pub mod ByteLaws
 pub mod TextLaws
 pub mod QuotedLaws
-pub mod OverLaws
 pub mod PlainLaws
 pub mod BlockLaws

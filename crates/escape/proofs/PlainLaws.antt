@@ -11,7 +11,7 @@ use Rattle.scan.specs.Span.{All, also}
 use Rattle.utf8.specs.Utf8.{octet, Char, one, Utf8, char}
 use Rattle.utf8.proofs.WidthLaws.{char-length}
 use Rattle.utf8.proofs.Laws.{utf8-rest, utf8-char}
-use Rattle.escape.specs.Escape.{behind, nsonByte, canonicalByte, escaped, meaning, plainFrom, plain, Carried, newline, other, nsonText}
+use Rattle.escape.specs.Escape.{backslashed, nsonByte, canonicalByte, escaped, meaning, plainFrom, plain, Carried, newline, other, nsonText}
 use Rattle.escape.specs.Quoted.{Quoted, none, bare, escape, NsonBare, nson-bare, NsonLetter, letter-n, letter-quote, letter-backslash, CanonicalBare, canonical-bare, CanonicalLetter, letter-nson, letter-r, letter-t, letter-b, letter-f}
 use Rattle.escape.proofs.TextLaws.{High, Side, ascii, above, char-side}
 use Rattle.escape.proofs.QuotedLaws.{nson-text}
@@ -20,7 +20,7 @@ use Rattle.escape.proofs.QuotedLaws.{nson-text}
 record Back (f : ℕ → List ℕ) (Bare Letter : ℕ → Type 0) : Type 0 where
   not-backslash : {b : ℕ} → Bare b → b ≡ 0x5C → ⊥
   stands : {b : ℕ} → Bare b → f b ≡ b ∷ []
-  hides : {c : ℕ} → Letter c → f (meaning c) ≡ behind c
+  hides : {c : ℕ} → Letter c → f (meaning c) ≡ backslashed c
 
 quoted-back : {f : ℕ → List ℕ} {Bare Letter : ℕ → Type 0} → Back f Bare Letter → {l : List ℕ} → Quoted Bare Letter l → escaped f (plain l) ≡ l
 unfolding escaped plain plainFrom
@@ -38,7 +38,7 @@ nson-back = record { not-backslash = λ p. bare-not p; stands = λ p. bare-stand
     bare-stands : {b : ℕ} → NsonBare b → nsonByte b ≡ b ∷ []
     bare-stands (nson-bare {b = b} h n m) = simp (ne-eqb b 0x0A (λ e. omega arith), ne-eqb b 0x22 n, ne-eqb b 0x5C m)
 
-    letter-hides : {c : ℕ} → NsonLetter c → nsonByte (meaning c) ≡ behind c
+    letter-hides : {c : ℕ} → NsonLetter c → nsonByte (meaning c) ≡ backslashed c
     letter-hides letter-n = refl
     letter-hides letter-quote = refl
     letter-hides letter-backslash = refl
@@ -58,7 +58,7 @@ canonical-back = record { not-backslash = λ p. bare-not p; stands = λ p. bare-
     bare-stands (canonical-bare {b = b} n m k r h g f) =
         simp (ne-eqb b 0x0A n, ne-eqb b 0x22 m, ne-eqb b 0x5C k, ne-eqb b 0x0D r, ne-eqb b 0x09 h, ne-eqb b 0x08 g, ne-eqb b 0x0C f)
 
-    letter-hides : {c : ℕ} → CanonicalLetter c → canonicalByte (meaning c) ≡ behind c
+    letter-hides : {c : ℕ} → CanonicalLetter c → canonicalByte (meaning c) ≡ backslashed c
     letter-hides (letter-nson letter-n) = refl
     letter-hides (letter-nson letter-quote) = refl
     letter-hides (letter-nson letter-backslash) = refl

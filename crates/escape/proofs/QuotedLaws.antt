@@ -1,4 +1,5 @@
--- An escaped text may stand between quotes, and the first bare quote ends it. What NSON can carry is a property of each byte.
+-- An escaped text may stand between quotes, and the first bare quote ends it. What NSON can carry is a property of each
+-- byte.
 -- By the tests of the byte functions, and induction on the text.
 use Prim.Native.Nat.{ℕ, _+_, _≤_}
 use mathlib.Core.Path.{_≡_, refl, sym}
@@ -12,7 +13,7 @@ use lib.Dec.{eqb}
 use borrow.Author.Tests.{eqb-true, eqb-false, eq-eqb, ne-eqb, lt-ltb, le-ltb}
 use Rattle.scan.specs.Span.{All, also}
 use Rattle.scan.proofs.Step.{pick-by}
-use Rattle.escape.specs.Escape.{behind, nsonByte, canonicalByte, escaped, Carried, newline, other, isControl, controls, nsonText}
+use Rattle.escape.specs.Escape.{backslashed, nsonByte, canonicalByte, escaped, Carried, newline, other, isUncarried, controls, nsonText}
 use Rattle.escape.specs.Quoted.{Quoted, none, bare, escape, NsonBare, nson-bare, NsonLetter, letter-n, letter-quote, letter-backslash, CanonicalBare, canonical-bare, CanonicalLetter, letter-nson, letter-r, letter-t, letter-b, letter-f}
 use Rattle.escape.proofs.ByteLaws.{nson-escaping}
 use Rattle.escape.proofs.TextLaws.{form-length, length-least}
@@ -20,13 +21,13 @@ use Rattle.escape.proofs.TextLaws.{form-length, length-least}
 -- ---- what NSON can carry
 
 -- a byte that NSON can carry counts for nothing
-carried-none : {b : ℕ} → Carried b → isControl b ≡ 0
-unfolding isControl
+carried-none : {b : ℕ} → Carried b → isUncarried b ≡ 0
+unfolding isUncarried
 carried-none newline = refl
 carried-none (other {b = b} h) = rw (le-ltb b 0x20 h)
 
-none-carried : (b : ℕ) → isControl b ≡ 0 → Carried b
-unfolding isControl
+none-carried : (b : ℕ) → isUncarried b ≡ 0 → Carried b
+unfolding isUncarried
 none-carried b h =
     dite (decLt b 0x20)
     (λ l.
@@ -54,7 +55,7 @@ nson-text t = (λ h. text-all t (eqb-true (controls t) 0 h), λ a. eq-eqb (contr
 -- what one byte becomes
 data Piece (Bare Letter : ℕ → Type 0) : List ℕ → Type 0 where
   stands : {b : ℕ} → Bare b → Piece Bare Letter (b ∷ [])
-  hides : {c : ℕ} → Letter c → Piece Bare Letter (behind c)
+  hides : {c : ℕ} → Letter c → Piece Bare Letter (backslashed c)
 
 quoted-more : {Bare Letter : ℕ → Type 0} {x l : List ℕ} → Piece Bare Letter x → Quoted Bare Letter l → Quoted Bare Letter (x ++ l)
 quoted-more (stands p) q = bare p q

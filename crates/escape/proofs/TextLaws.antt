@@ -1,4 +1,5 @@
--- The laws of escaped texts, said once for every byte function with `Escaping`: parts, lengths, the text read back, bytes and UTF-8.
+-- The laws of escaped texts, said once for every byte function with `ReadBack`: parts, lengths, the text read back,
+-- bytes and UTF-8.
 -- By induction on the text; each step is the form of one byte.
 use Prim.Native.Nat.{ℕ, _+_, _*_, _<_, _≤_}
 use mathlib.Core.Path.{_≡_, refl, sym, ap, _∙_}
@@ -11,8 +12,10 @@ use Rattle.scan.specs.Span.{All, none, also, IsBytes}
 use Rattle.scan.proofs.AllLaws.{all-append}
 use Rattle.utf8.specs.Utf8.{Octet, octet, Tail, Char, one, two, three-E0, three-E1, three-ED, three-EE, four-F0, four-F1, four-F4, Utf8, char}
 use Rattle.utf8.proofs.Laws.{utf8-append, utf8-char, utf8-ascii}
-use Rattle.escape.specs.Escape.{nsonByte, canonicalByte, escaped, plainFrom, plain}
-use Rattle.escape.proofs.ByteLaws.{Form, itself, letter, Escaping, nson-escaping, canonical-escaping}
+use Rattle.escape.specs.declared.Escaping.{Escaping}
+use Rattle.escape.specs.declared.Escaping.the-variants.{Canonical, Nson}
+use Rattle.escape.specs.Escape.{nsonByte, canonicalByte, byteOf, growth, escaped, plainFrom, plain}
+use Rattle.escape.proofs.ByteLaws.{Form, itself, letter, ReadBack, nson-escaping, canonical-escaping}
 
 -- ---- with no condition
 
@@ -87,7 +90,7 @@ char-side (four-F4 p q r) = above (also {b = 0xF4} (omega arith) (also (high (om
 
 -- ---- of a text, for every escaping
 
-module _ (f : ℕ → List ℕ) (e : Escaping f) where
+module _ (f : ℕ → List ℕ) (e : ReadBack f) where
   -- an escaped text is at least as long as the text
   pub length-least : (t : List ℕ) → length t ≤ length (escaped f t)
   unfolding escaped
@@ -133,7 +136,12 @@ module _ (f : ℕ → List ℕ) (e : Escaping f) where
   escaped-utf8 Utf8.none = Utf8.none
   escaped-utf8 (char {c = c} {l = l} g u) = rw (escaped-append f c l) (utf8-append (escaped-side (char-side g) (utf8-char g)) (escaped-utf8 u))
 
--- ---- the two
+-- ---- each
+
+-- an escaped text has at most `growth` bytes for each
+pub growth-most : (k : Escaping) (t : List ℕ) → length (escaped (byteOf k) t) ≤ growth k * length t
+growth-most Canonical = length-most canonicalByte canonical-escaping
+growth-most Nson = length-most nsonByte nson-escaping
 
 -- a text is read back from the canonical text
 pub canonical-plain : (t : List ℕ) → plain (escaped canonicalByte t) ≡ t

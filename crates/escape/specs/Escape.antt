@@ -1,23 +1,35 @@
--- The two escapings of texts: in the canonical text and in NSON (document 01). Assumes nothing.
+-- The escapings of texts: in the canonical text and in NSON (document 01). Assumes nothing.
 use Prim.Native.Nat.{ℕ, _+_, _≤_}
 use mathlib.Core.Bool.{Bool, true, false}
 use mathlib.Core.List.{List, [], _∷_, _++_}
 use lib.Dec.{ltb, eqb}
 use Rattle.scan.specs.Choice.{pick}
+use Rattle.escape.specs.declared.Escaping.{Escaping}
+use Rattle.escape.specs.declared.Escaping.the-variants.{Canonical, Nson}
 
 -- a backslash and a letter
-abbrev pub behind : ℕ → List ℕ
-behind c = 0x5C ∷ c ∷ []
+abbrev pub backslashed : ℕ → List ℕ
+backslashed c = 0x5C ∷ c ∷ []
 
 -- NSON: 0A 22 5C become \n \" \\, and every other byte stands as it is
 unfoldable pub nsonByte : ℕ → List ℕ
-nsonByte b = pick (eqb b 0x0A) (behind 0x6E) (pick (eqb b 0x22) (behind 0x22) (pick (eqb b 0x5C) (behind 0x5C) (b ∷ [])))
+nsonByte b = pick (eqb b 0x0A) (backslashed 0x6E) (pick (eqb b 0x22) (backslashed 0x22) (pick (eqb b 0x5C) (backslashed 0x5C) (b ∷ [])))
 
 -- canonical text: also 0D 09 08 0C become \r \t \b \f, and every other byte stands as it is, 01 and 7F included
 unfoldable pub canonicalByte : ℕ → List ℕ
 canonicalByte b =
-    pick (eqb b 0x0D) (behind 0x72)
-    (pick (eqb b 0x09) (behind 0x74) (pick (eqb b 0x08) (behind 0x62) (pick (eqb b 0x0C) (behind 0x66) (nsonByte b))))
+    pick (eqb b 0x0D) (backslashed 0x72)
+    (pick (eqb b 0x09) (backslashed 0x74) (pick (eqb b 0x08) (backslashed 0x62) (pick (eqb b 0x0C) (backslashed 0x66) (nsonByte b))))
+
+-- what a byte becomes, by which escaping it is
+abbrev pub byteOf : Escaping → ℕ → List ℕ
+byteOf Canonical = canonicalByte
+byteOf Nson = nsonByte
+
+-- the most bytes that one becomes
+abbrev pub growth : Escaping → ℕ
+growth Canonical = 2
+growth Nson = 2
 
 -- a text, byte after byte
 unfoldable pub escaped : (ℕ → List ℕ) → List ℕ → List ℕ
@@ -45,12 +57,12 @@ pub data Carried : ℕ → Type 0 where
   other : {b : ℕ} → 0x20 ≤ b → Carried b
 
 -- 1 for a byte that NSON can't carry
-unfoldable pub isControl : ℕ → ℕ
-isControl b = pick (ltb b 0x20) (pick (eqb b 0x0A) 0 1) 0
+unfoldable pub isUncarried : ℕ → ℕ
+isUncarried b = pick (ltb b 0x20) (pick (eqb b 0x0A) 0 1) 0
 
 unfoldable pub controls : List ℕ → ℕ
 controls [] = 0
-controls (b ∷ t) = isControl b + controls t
+controls (b ∷ t) = isUncarried b + controls t
 
 -- whether NSON can carry the text
 unfoldable pub nsonText : List ℕ → Bool

@@ -1,11 +1,27 @@
-// The two escapings of texts: in the canonical text and in NSON. `all` says which: true is the canonical text's.
-ghost use Prim.Native.Nat.{_+_, _*_, _≤_, min};
+// The escapings of texts, in the canonical text and in NSON: how long an escaped text is, and the text.
+ghost use Prim.Native.Nat.{_+_, _*_, _≤_};
 ghost use mathlib.Core.Path.{_≡_};
 ghost use lib.ListN.{length};
 ghost use Rattle.scan.specs.Choice.{pick};
-ghost use Rattle.store.specs.Store.{Wrote};
-ghost use Rattle.escape.specs.Escape.{nsonByte, escaped, isControl, controls, nsonText};
-ghost use Rattle.escape.specs.Block.{byteOf, isEscaped, letterOf, runOf};
+ghost use Rattle.buffer.specs.Store.{Wrote};
+ghost use Rattle.escape.specs.Escape.{nsonByte, byteOf, growth, escaped, isUncarried, controls, nsonText};
+ghost use Rattle.escape.specs.Block.{byteBy, isEscaped, escapeLetter, runOf};
+
+// Which escaping.
+pub enum Escaping {
+    Canonical,
+    Nson,
+}
+
+// Which of the two that make two bytes of one: `all` below is true for the canonical text's, false for NSON's.
+fn is_canonical(k: Escaping) -> bool
+    ensures { λ r. ⌜ byteBy r ≡ byteOf k ⌝ }
+{
+    match k {
+        Escaping::Canonical => true,
+        Escaping::Nson => false,
+    }
+}
 
 // Whether the byte becomes two.
 fn is_escaped(all: bool, b: u8) -> bool
@@ -30,8 +46,8 @@ fn is_escaped(all: bool, b: u8) -> bool
 }
 
 // The letter behind the backslash, of a byte that becomes two.
-fn letter_of(b: u8) -> u8
-    ensures { λ r. ⌜ r ≡ letterOf b ⌝ }
+fn escape_letter(b: u8) -> u8
+    ensures { λ r. ⌜ r ≡ escapeLetter b ⌝ }
 {
     if b == b'\n' {
         return b'n';
@@ -63,7 +79,7 @@ fn one_if(t: bool) -> u8
 // How many bytes of a block become two. No exit on the way, and a sum in a byte: a loop for vectors.
 fn escapes(all: bool, block: &[u8]) -> u8
     requires { ⌜ length (now block) ≤ 128 ⌝ }
-    ensures { λ r. ⌜ r + length (now (block .entry)) ≡ length (escaped (byteOf all) (now (block .entry))) ⌝ }
+    ensures { λ r. ⌜ r + length (now (block .entry)) ≡ length (escaped (byteBy all) (now (block .entry))) ⌝ }
 {
     let mut i = 0;
     let mut n: u8 = 0;
@@ -74,10 +90,9 @@ fn escapes(all: bool, block: &[u8]) -> u8
     n
 }
 
-// The length of a text with either escaping.
-pub fn escaped_len(all: bool, s: &[u8]) -> usize
-    ensures { λ r. ⌜ r ≡ length (escaped (byteOf all) (now (s .entry))) ⌝ }
-    ensures { λ r. ⌜ r ≤ 2 * length (now (s .entry)) ⌝ }
+// The length of a text, block by block.
+fn escaped_len_by(all: bool, s: &[u8]) -> usize
+    ensures { λ r. ⌜ r ≡ length (escaped (byteBy all) (now (s .entry))) ⌝ }
 {
     let mut i = 0;
     let mut n = 0;
@@ -89,21 +104,29 @@ pub fn escaped_len(all: bool, s: &[u8]) -> usize
     n + (s.len() - i) + escapes(all, &s[i..]) as usize
 }
 
+// The length of an escaped text.
+pub fn escaped_len(k: Escaping, s: &[u8]) -> usize
+    ensures { λ r. ⌜ r ≡ length (escaped (byteOf k) (now (s .entry))) ⌝ }
+    ensures { λ r. ⌜ r ≤ growth k * length (now (s .entry)) ⌝ }
+{
+    escaped_len_by(is_canonical(k), s)
+}
+
 // ---- the text
 
 // One byte, as one or as two.
 fn put_one(all: bool, out: &mut [u8], at: usize, b: u8) -> usize
-    ensures { λ r. ⌜ Wrote (now (out .entry)) at (byteOf all b) (now (out .exit)) r ⌝ }
+    ensures { λ r. ⌜ Wrote (now (out .entry)) at (byteBy all b) (now (out .exit)) r ⌝ }
 {
     if is_escaped(all, b) {
-        let o = store::put_byte(out, at, b'\\');
-        return store::put_byte(out, o, letter_of(b));
+        let o = buffer::put_byte(out, at, b'\\');
+        return buffer::put_byte(out, o, escape_letter(b));
     }
-    store::put_byte(out, at, b)
+    buffer::put_byte(out, at, b)
 }
 
 fn put_each(all: bool, out: &mut [u8], at: usize, s: &[u8]) -> usize
-    ensures { λ r. ⌜ Wrote (now (out .entry)) at (escaped (byteOf all) (now (s .entry))) (now (out .exit)) r ⌝ }
+    ensures { λ r. ⌜ Wrote (now (out .entry)) at (escaped (byteBy all) (now (s .entry))) (now (out .exit)) r ⌝ }
 {
     let mut i = 0;
     let mut o = at;
@@ -114,20 +137,9 @@ fn put_each(all: bool, out: &mut [u8], at: usize, s: &[u8]) -> usize
     o
 }
 
-fn place_if(t: bool, i: u8, n: u8) -> u8
-    ensures { λ r. ⌜ r ≡ pick t i n ⌝ }
-{
-    if t { i } else { n }
-}
-
-fn lesser(a: u8, b: u8) -> u8
-    ensures { λ r. ⌜ r ≡ min a b ⌝ }
-{
-    if a < b { a } else { b }
-}
-
-// How many bytes of a block stand before the first that becomes two. No exit on the way, and a minimum of bytes: a loop for vectors.
-fn plain_run(all: bool, block: &[u8]) -> u8
+// How many bytes of a block stand before the first that becomes two. No exit on the way, and a minimum of bytes: a loop
+// for vectors.
+fn bare_run(all: bool, block: &[u8]) -> u8
     requires { ⌜ length (now block) ≤ 64 ⌝ }
     ensures { λ r. ⌜ r ≡ runOf all (now (block .entry)) ⌝ }
     ensures { λ r. ⌜ r ≤ 64 ⌝ }
@@ -136,7 +148,7 @@ fn plain_run(all: bool, block: &[u8]) -> u8
     let mut i = 0;
     let mut m = n;
     while i < block.len() {
-        m = lesser(place_if(is_escaped(all, block[i]), i as u8, n), m);
+        m = scan::lesser(scan::pick_byte(is_escaped(all, block[i]), i as u8, n), m);
         i += 1;
     }
     m
@@ -144,19 +156,19 @@ fn plain_run(all: bool, block: &[u8]) -> u8
 
 // A text of any length; one of a block or less that needs no escape goes whole.
 fn put_rest(all: bool, out: &mut [u8], at: usize, s: &[u8]) -> usize
-    ensures { λ r. ⌜ Wrote (now (out .entry)) at (escaped (byteOf all) (now (s .entry))) (now (out .exit)) r ⌝ }
+    ensures { λ r. ⌜ Wrote (now (out .entry)) at (escaped (byteBy all) (now (s .entry))) (now (out .exit)) r ⌝ }
 {
     if s.len() <= 64 {
         if escapes(all, s) == 0 {
-            return store::put_bytes(out, at, s);
+            return buffer::put_bytes(out, at, s);
         }
     }
     put_each(all, out, at, s)
 }
 
-// A text with either escaping, block by block. A block is copied whole; what stands behind its first escape is then written over.
-pub fn put_escaped(all: bool, out: &mut [u8], at: usize, s: &[u8]) -> usize
-    ensures { λ r. ⌜ Wrote (now (out .entry)) at (escaped (byteOf all) (now (s .entry))) (now (out .exit)) r ⌝ }
+// A text, block by block. A block is copied whole; what stands behind its first escape is then written over.
+fn put_escaped_by(all: bool, out: &mut [u8], at: usize, s: &[u8]) -> usize
+    ensures { λ r. ⌜ Wrote (now (out .entry)) at (escaped (byteBy all) (now (s .entry))) (now (out .exit)) r ⌝ }
 {
     if out.len() <= at {
         return at;
@@ -169,8 +181,8 @@ pub fn put_escaped(all: bool, out: &mut [u8], at: usize, s: &[u8]) -> usize
             return put_rest(all, out, o, &s[i..]);
         }
         let e = i + 64;
-        store::put_bytes(out, o, &s[i..e]);
-        let m = plain_run(all, &s[i..e]) as usize;
+        buffer::put_bytes(out, o, &s[i..e]);
+        let m = bare_run(all, &s[i..e]) as usize;
         if m == 64 {
             i = e;
             o += 64;
@@ -179,18 +191,25 @@ pub fn put_escaped(all: bool, out: &mut [u8], at: usize, s: &[u8]) -> usize
         i += m;
         o += m;
         out[o] = b'\\';
-        out[o + 1] = letter_of(s[i]);
+        out[o + 1] = escape_letter(s[i]);
         i += 1;
         o += 2;
     }
     put_rest(all, out, o, &s[i..])
 }
 
+// An escaped text.
+pub fn put_escaped(k: Escaping, out: &mut [u8], at: usize, s: &[u8]) -> usize
+    ensures { λ r. ⌜ Wrote (now (out .entry)) at (escaped (byteOf k) (now (s .entry))) (now (out .exit)) r ⌝ }
+{
+    put_escaped_by(is_canonical(k), out, at, s)
+}
+
 // ---- what NSON can carry
 
 // 1 for a byte that NSON can't carry.
-fn is_control(b: u8) -> u8
-    ensures { λ r. ⌜ r ≡ isControl b ⌝ }
+fn is_uncarried(b: u8) -> u8
+    ensures { λ r. ⌜ r ≡ isUncarried b ⌝ }
     ensures { λ r. ⌜ r ≤ 1 ⌝ }
 {
     if b < 0x20 {
@@ -219,7 +238,7 @@ fn count_block(block: &[u8]) -> Sums
     let mut m: u8 = 0;
     while i < block.len() {
         n += one_if(is_escaped(false, block[i]));
-        m += is_control(block[i]);
+        m += is_uncarried(block[i]);
         i += 1;
     }
     Sums {

@@ -1,36 +1,13 @@
--- The laws of the model: texts are decided byte for byte, two events with equal fields are equal, C's two numbers tell every answer apart.
+-- The laws of the model: two events with equal fields are equal, C's two numbers tell every answer apart.
 -- And each limit of document 01 rules something out: one past it is not valid.
 use Prim.Native.Nat.{ℕ, _≤_, _<_}
-use mathlib.Core.Path.{_≡_, refl, sym, ap, _∙_}
-use mathlib.Core.Bool.{Bool, true, false}
-use mathlib.Core.List.{List, [], _∷_}
+use mathlib.Core.Path.{_≡_, ap}
+use mathlib.Core.List.{[]}
 use native.Mathlib.Omega.{arith}
-use lib.ListN.{length, replicate, length-replicate}
-use lib.Dec.{eqb}
-use borrow.Author.Tests.{eq-eqb, eqb-true}
+use lib.ListN.{length}
 use Rattle.scan.specs.Choice.{Answer, shown, refused}
-use Rattle.scan.specs.Span.{All, none, also}
-use Rattle.scan.proofs.Step.{pick-true, false-true}
-use Rattle.event.specs.Event.{Text, Tag, Event, ValidTag, Valid, sameText}
+use Rattle.event.specs.Event.{Text, Tag, Event, ValidTag, Valid}
 use Rattle.event.specs.Answers.{twoNumbers}
-
--- equal texts are found equal
-pub same-text : (a : Text) → sameText a a ≡ true
-unfolding sameText
-same-text [] = refl
-same-text (b ∷ l) = rw (eq-eqb b b refl) (same-text l)
-
--- texts that are found equal are equal
-pub text-same : (a b : Text) → sameText a b ≡ true → a ≡ b
-unfolding sameText
-text-same [] [] h = refl
-text-same [] (b ∷ l) h = absurd (false-true h)
-text-same (a ∷ k) [] h = absurd (false-true h)
-text-same (a ∷ k) (b ∷ l) h =
-    let t = pick-true (eqb a b) (sameText k l) h in
-    let e = eqb-true a b (t .0) in
-    let f = text-same k l (t .1) in
-    cc
 
 -- two events are equal when all seven are equal
 pub all-seven : {d e : Event} → d .id ≡ e .id → d .pubkey ≡ e .pubkey → d .sig ≡ e .sig → d .createdAt ≡ e .createdAt → d .kind ≡ e .kind

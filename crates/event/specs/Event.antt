@@ -1,11 +1,8 @@
 -- What an event is (document 01, "The event"), and when it is valid. Assumes nothing.
 use Prim.Native.Nat.{ℕ, _≤_}
 use mathlib.Core.Path.{_≡_}
-use mathlib.Core.Bool.{Bool, true, false}
-use mathlib.Core.List.{List, [], _∷_}
+use mathlib.Core.List.{List}
 use lib.ListN.{length}
-use lib.Dec.{eqb}
-use Rattle.scan.specs.Choice.{pick}
 use Rattle.scan.specs.Span.{All, IsBytes}
 use Rattle.utf8.specs.Utf8.{Utf8}
 
@@ -47,9 +44,4 @@ pub record Valid (e : Event) : Type 0 where
   pub each : All ValidTag (e .tags)
   pub text : Utf8 (e .content)
 
--- Equality of events is `≡`. Texts are compared as text, byte for byte: the decision.
-unfoldable pub sameText : Text → Text → Bool
-sameText [] [] = true
-sameText [] (b ∷ l) = false
-sameText (a ∷ k) [] = false
-sameText (a ∷ k) (b ∷ l) = pick (eqb a b) (sameText k l) false
+-- Equality of events is `≡`; texts are compared as text, byte for byte (`sameBytes` of crate scan decides it).

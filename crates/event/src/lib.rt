@@ -6,6 +6,12 @@ pub struct Refusal {
     pub place: usize,
 }
 
+// The answer of a function that writes into a lent buffer: the length written, or the refusal.
+pub enum Writing {
+    Written(usize),
+    Refused(Refusal),
+}
+
 // The numbers of refusal, as document 01's table has them.
 
 // input over 65,536 bytes

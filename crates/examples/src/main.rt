@@ -71,7 +71,7 @@ fn element(label: &[u8], text: &[u8]) {
     say(text);
     say(b"' is");
     let mut bytes = [0u8; 16];
-    let k = strict::put_text(&mut bytes, 0, text);
+    let k = strict::put_packed_text(&mut bytes, 0, text);
     say_bytes(scan::part(&bytes, 0, k));
     say(b"\n");
 }

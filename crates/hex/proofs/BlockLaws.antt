@@ -11,16 +11,9 @@ use lib.ListN.{length, getD, take, drop, take-append-drop}
 use lib.Seq.{drop-drop}
 use lib.Dec.{eqb}
 use borrow.Author.Tests.{lt-ltb, le-ltb, eq-eqb, ne-eqb}
-use Rattle.scan.proofs.Step.{rest-none, rest-more}
+use Rattle.scan.proofs.Step.{rest-none, rest-more, rest-block}
 use Rattle.hex.specs.Hex.{valueOf, allDigits}
 use Rattle.hex.specs.Block.{isOther, othersOf}
-
--- general: the text from i on is the block from i to e and the text from e on
-rest-block : (t : List ℕ) (i e : ℕ) → i ≤ e → drop i t ≡ take (e - i) (drop i t) ++ drop e t
-rest-block t i e h =
-    let j : i + (e - i) ≡ e = omega arith in
-    let d = drop-drop (e - i) i t ∙ ap (λ (k : ℕ). drop k t) j in
-    sym (take-append-drop (e - i) (drop i t)) ∙ ap (λ (r : List ℕ). take (e - i) (drop i t) ++ r) d
 
 -- ---- the count
 

@@ -10,7 +10,7 @@ use lib.Dec.{leb}
 use borrow.Author.Tests.{lt-ltb, le-ltb, le-leb, lt-leb, leb-true}
 use Rattle.scan.specs.Place.{within}
 use Rattle.scan.proofs.Step.{pick-true, pick-by}
-use Rattle.hex.specs.Hex.{Digit, number, letter, valueOf, digitOf}
+use Rattle.hex.specs.Hex.{LowerHex, number, letter, valueOf, digitOf}
 
 -- what passes the test of a range is in it
 pub in-range : (low high b : ℕ) → within low high b ≡ true → (low ≤ b) × (b ≤ high)
@@ -35,21 +35,21 @@ value-most b =
     (λ f. pick-by (λ (v : ℕ). v ≤ 16) (within 97 102 b) (λ t. let r = in-range 97 102 b t in omega arith) (λ g. omega arith))
 
 -- a digit has a value below 16
-pub digit-value : {b : ℕ} → Digit b → valueOf b < 16
+pub digit-value : {b : ℕ} → LowerHex b → valueOf b < 16
 digit-value {b} (number l h) = omega (arith, value-number b l h)
 digit-value {b} (letter l h) = omega (arith, value-letter b l h)
 
 -- only a digit has a value below 16
-pub value-digit : (b : ℕ) → valueOf b < 16 → Digit b
+pub value-digit : (b : ℕ) → valueOf b < 16 → LowerHex b
 unfolding valueOf
 value-digit b =
-    pick-by (λ (v : ℕ). v < 16 → Digit b) (within 48 57 b) (λ t h. let r = in-range 48 57 b t in number (r .0) (r .1))
+    pick-by (λ (v : ℕ). v < 16 → LowerHex b) (within 48 57 b) (λ t h. let r = in-range 48 57 b t in number (r .0) (r .1))
     (λ f.
-    pick-by (λ (v : ℕ). v < 16 → Digit b) (within 97 102 b) (λ t h. let r = in-range 97 102 b t in letter (r .0) (r .1))
+    pick-by (λ (v : ℕ). v < 16 → LowerHex b) (within 97 102 b) (λ t h. let r = in-range 97 102 b t in letter (r .0) (r .1))
     (λ g h. absurd (omega arith)))
 
 -- the digit of a value below 16 is a digit
-pub digit-written : (v : ℕ) → v < 16 → Digit (digitOf v)
+pub digit-written : (v : ℕ) → v < 16 → LowerHex (digitOf v)
 digit-written v h =
     dite (decLt v 10) (λ p. rw (lt-ltb v 10 p) (number {b = 48 + v} (omega arith) (omega arith)))
     (λ q. rw (le-ltb v 10 (omega (arith, q))) (letter {b = 87 + v} (omega (arith, q)) (omega arith)))
@@ -64,11 +64,11 @@ value-of-digit v h =
 pub digit-of-value : (b : ℕ) → valueOf b < 16 → digitOf (valueOf b) ≡ b
 digit-of-value b h = go (value-digit b h)
   where
-    go : Digit b → digitOf (valueOf b) ≡ b
+    go : LowerHex b → digitOf (valueOf b) ≡ b
     go (number l k) = rw (value-number b l k, lt-ltb (b - 48) 10 (omega arith)) (omega arith)
     go (letter l k) = rw (value-letter b l k, le-ltb (b - 87) 10 (omega arith)) (omega arith)
 
 -- a digit is ASCII
-pub digit-ascii : {b : ℕ} → Digit b → b < 128
+pub digit-ascii : {b : ℕ} → LowerHex b → b < 128
 digit-ascii (number l h) = omega arith
 digit-ascii (letter l h) = omega arith

@@ -8,22 +8,12 @@ use native.Mathlib.Omega.{arith}
 use lib.ListN.{length, getD, take, drop, length-take, length-drop, take-append-drop}
 use lib.Seq.{drop-drop, take-all}
 use Rattle.scan.proofs.Step.{rest-none, rest-more}
-use Rattle.store.specs.Store.{Buffer, Wrote}
-use Rattle.store.proofs.Laws.{puts-eq, Left, part, also, finish, kept}
+use Rattle.buffer.specs.Store.{Wrote}
+use Rattle.buffer.proofs.Laws.{Left, part, also, finish, kept}
+use Rattle.buffer.proofs.Places.{ends-behind}
 use Rattle.hex.specs.Hex.{valueOf, unhex}
 use Rattle.hex.specs.Block.{valuesOf, pairsOf}
 use Rattle.hex.proofs.Texts.{unhex-append, length-unhex}
-
--- general: a writer with room ends behind its text
-pub ends-behind : {d : List ℕ} {at : ℕ} {vs d′ : List ℕ} {r : ℕ} → at + length vs ≤ length d → Wrote d at vs d′ r → r ≡ at + length vs
-ends-behind {d} {at} {vs} h w = ap (λ (b : Buffer). b .1) (w .is ∙ puts-eq d at vs h)
-
--- general: a text as long as the buffer is all that is in it
-pub all-over : {d vs d′ : List ℕ} {r : ℕ} → length vs ≡ length d → Wrote d 0 vs d′ r → d′ ≡ vs
-all-over {d} {vs} h w =
-    let e = ap (λ (b : Buffer). b .0) (w .is ∙ puts-eq d 0 vs (omega arith)) in
-    let n : drop (0 + length vs) d ≡ [] = rest-none d (0 + length vs) (omega arith) in
-    e ∙ ap (λ (l : List ℕ). vs ++ l) n ∙ append-nil vs
 
 -- ---- values
 

@@ -11,7 +11,7 @@ use borrow.Author.Tests.{lt-ltb, ltb-true, eq-eqb, ne-eqb, eqb-true, eqb-false}
 use Rattle.scan.specs.Choice.{pick}
 use Rattle.scan.specs.Span.{All, none, also, IsBytes}
 use Rattle.scan.proofs.Step.{pick-true, false-true}
-use Rattle.hex.specs.Hex.{Digit, valueOf, digitOf, hexes, unhex, allDigits, goesAsBytes}
+use Rattle.hex.specs.Hex.{LowerHex, valueOf, digitOf, hexes, unhex, allDigits, goesAsBytes}
 use Rattle.hex.proofs.Digits.{digit-value, value-digit, digit-written, value-of-digit, digit-of-value, digit-ascii}
 
 -- ---- bytes as digits
@@ -22,7 +22,7 @@ length-hexes [] = refl
 length-hexes (b ∷ l) = omega (arith, length-hexes l)
 
 -- bytes are written as digits alone
-pub hexes-digits : {l : List ℕ} → IsBytes l → All Digit (hexes l)
+pub hexes-digits : {l : List ℕ} → IsBytes l → All LowerHex (hexes l)
 hexes-digits none = none
 hexes-digits (also {b = b} h r) = also (digit-written (b / 16) (omega arith)) (also (digit-written (b % 16) (omega arith)) (hexes-digits r))
 
@@ -69,7 +69,7 @@ unhex-append (a ∷ []) u h = absurd (omega arith)
 unhex-append (a ∷ b ∷ t) u h = rw (unhex-append t u (omega arith))
 
 -- digits of even length are what is written for their bytes
-pub hexes-unhex : {t : List ℕ} → All Digit t → length t % 2 ≡ 0 → hexes (unhex t) ≡ t
+pub hexes-unhex : {t : List ℕ} → All LowerHex t → length t % 2 ≡ 0 → hexes (unhex t) ≡ t
 unfolding unhex
 hexes-unhex none h = refl
 hexes-unhex (also p none) h = absurd (omega arith)
@@ -82,25 +82,25 @@ hexes-unhex (also {b = a} p (also {b = b} q r)) h =
     rw (high, low, digit-of-value a x, digit-of-value b y, hexes-unhex r (omega arith))
 
 -- two texts of digits of even length never have the same bytes
-pub unhex-injective : {t u : List ℕ} → All Digit t → length t % 2 ≡ 0 → All Digit u → length u % 2 ≡ 0 → unhex t ≡ unhex u → t ≡ u
+pub unhex-injective : {t u : List ℕ} → All LowerHex t → length t % 2 ≡ 0 → All LowerHex u → length u % 2 ≡ 0 → unhex t ≡ unhex u → t ≡ u
 unhex-injective p h q k e = sym (hexes-unhex p h) ∙ ap hexes e ∙ hexes-unhex q k
 
 -- ---- the tests
 
 -- a text of digits passes
-pub digits-pass : {t : List ℕ} → All Digit t → allDigits t ≡ true
+pub digits-pass : {t : List ℕ} → All LowerHex t → allDigits t ≡ true
 unfolding allDigits
 digits-pass none = refl
 digits-pass (also {b = b} p r) = rw (lt-ltb (valueOf b) 16 (digit-value p)) (digits-pass r)
 
 -- only a text of digits passes
-pub pass-digits : (t : List ℕ) → allDigits t ≡ true → All Digit t
+pub pass-digits : (t : List ℕ) → allDigits t ≡ true → All LowerHex t
 unfolding allDigits
 pass-digits [] h = none
 pass-digits (b ∷ t) h = let u = pick-true (ltb (valueOf b) 16) (allDigits t) h in also (value-digit b (ltb-true (valueOf b) 16 (u .0))) (pass-digits t (u .1))
 
 -- digits of even length, and at least one, go as bytes
-pub digits-go : {t : List ℕ} → 0 < length t → length t % 2 ≡ 0 → All Digit t → goesAsBytes t ≡ true
+pub digits-go : {t : List ℕ} → 0 < length t → length t % 2 ≡ 0 → All LowerHex t → goesAsBytes t ≡ true
 unfolding goesAsBytes
 digits-go {t} some even all = rw (ne-eqb (length t) 0 (λ e. omega arith), eq-eqb (length t % 2) 0 even) (digits-pass all)
 
@@ -109,7 +109,7 @@ not-first true x h = absurd (false-true h)
 not-first false x h = (refl, h)
 
 -- only digits of even length, and at least one, go as bytes
-pub go-digits : (t : List ℕ) → goesAsBytes t ≡ true → (0 < length t) × (length t % 2 ≡ 0) × All Digit t
+pub go-digits : (t : List ℕ) → goesAsBytes t ≡ true → (0 < length t) × (length t % 2 ≡ 0) × All LowerHex t
 unfolding goesAsBytes
 go-digits t h =
     let u = not-first (eqb (length t) 0) (pick (eqb (length t % 2) 0) (allDigits t) false) h in
@@ -122,6 +122,16 @@ pub hexes-go : {l : List ℕ} → 0 < length l → IsBytes l → goesAsBytes (he
 hexes-go {l} some all = let n = length-hexes l in digits-go (omega arith) (omega arith) (hexes-digits all)
 
 -- a text of digits is ASCII
-pub digits-ascii : {t : List ℕ} → All Digit t → All (λ (b : ℕ). b < 128) t
+pub digits-ascii : {t : List ℕ} → All LowerHex t → All (λ (b : ℕ). b < 128) t
 digits-ascii none = none
 digits-ascii (also p r) = also (digit-ascii p) (digits-ascii r)
+
+-- digits in parts
+pub digits-append : (a b : List ℕ) → allDigits (a ++ b) ≡ pick (allDigits a) (allDigits b) false
+unfolding allDigits
+digits-append [] b = refl
+digits-append (x ∷ a) b = go (digits-append a b) (ltb (valueOf x) 16)
+  where
+    go : allDigits (a ++ b) ≡ pick (allDigits a) (allDigits b) false → (t : Bool) → pick t (allDigits (a ++ b)) false ≡ pick (pick t (allDigits a) false) (allDigits b) false
+    go e true = e
+    go e false = refl

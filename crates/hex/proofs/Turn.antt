@@ -9,8 +9,9 @@ use lib.ListN.{length, getD, set, take, drop, length-set, length-take, length-dr
 use lib.Seq.{take-append-le, append-snoc}
 use Rattle.scan.specs.Place.{within}
 use Rattle.scan.proofs.Step.{rest-more}
-use Rattle.store.specs.Store.{puts, Wrote}
-use Rattle.store.proofs.Laws.{Left, byte, then, cut}
+use Rattle.buffer.specs.Store.{Wrote}
+use Rattle.buffer.proofs.Laws.{then}
+use Rattle.buffer.proofs.Places.{past}
 use Rattle.hex.specs.Hex.{valueOf, digitOf, hexes, unhex}
 use Rattle.hex.proofs.Digits.{in-range}
 use Rattle.hex.proofs.Texts.{hexes-append, length-hexes, unhex-append, length-unhex}
@@ -18,23 +19,6 @@ use Rattle.hex.proofs.Texts.{hexes-append, length-hexes, unhex-append, 
 -- a byte that passed the test of a range is at least its lower end
 pub low-enough : (low high b : ℕ) {t : Bool} → t ≡ within low high b → t ≡ true → low ≤ b
 low-enough low high b e k = in-range low high b (sym e ∙ k) .0
-
--- ---- what the writers share
-
--- general: two bytes stored where there is room for both
-pub two-bytes : {d : List ℕ} {at : ℕ} {all d′ : List ℕ} {o v w : ℕ} {left : List ℕ}
-    → o + 1 < length d′ → Left d at all d′ o (v ∷ w ∷ left) → Left d at all (set (set d′ o v) (o + 1) w) (o + 2) left
-two-bytes {d′ = d′} {o = o} {v = v} h l =
-    let two : o + 1 + 1 ≡ o + 2 = omega arith in
-    rw two at (byte (simp length-set h) (byte (omega arith) l))
-
--- general: a full buffer leaves out what comes behind
-pub past : {d : List ℕ} {at : ℕ} {x d′ : List ℕ} {r : ℕ} (y : List ℕ) → length d ≤ at + length x → Wrote d at x d′ r → Wrote d at (x ++ y) d′ r
-past {d} {at} {x} y h w =
-    let n = length d - at in
-    let e = take-append-le n x y (omega arith) in
-    let u : puts (d, at) (take n x) ≡ puts (d, at) x = cut {d = d} {at = at} {vs = x} (record { is = refl }) .is in
-    cut (record { is = w .is ∙ sym u ∙ ap (λ (vs : List ℕ). puts (d, at) vs) (sym e) })
 
 -- ---- too little room
 

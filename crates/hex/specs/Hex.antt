@@ -8,9 +8,9 @@ use Rattle.scan.specs.Choice.{pick}
 use Rattle.scan.specs.Place.{within}
 
 -- 0-9 a-f, and no other byte
-pub data Digit : ℕ → Type 0 where
-  number : {b : ℕ} → 48 ≤ b → b ≤ 57 → Digit b
-  letter : {b : ℕ} → 97 ≤ b → b ≤ 102 → Digit b
+pub data LowerHex : ℕ → Type 0 where
+  number : {b : ℕ} → 48 ≤ b → b ≤ 57 → LowerHex b
+  letter : {b : ℕ} → 97 ≤ b → b ≤ 102 → LowerHex b
 
 -- a digit's value; 16 where the byte is no digit
 unfoldable pub valueOf : ℕ → ℕ

@@ -2,7 +2,7 @@
 ghost use Prim.Native.Nat.{_+_, _*_, _/_, _%_, _≤_};
 ghost use mathlib.Core.Path.{_≡_};
 ghost use lib.ListN.{length};
-ghost use Rattle.store.specs.Store.{Wrote};
+ghost use Rattle.buffer.specs.Store.{Wrote};
 ghost use Rattle.hex.specs.Hex.{valueOf, digitOf, hexes, unhex, allDigits, goesAsBytes};
 ghost use Rattle.hex.specs.Block.{isOther, othersOf, valuesOf, pairsOf};
 
@@ -56,7 +56,7 @@ pub fn put_hex(out: &mut [u8], at: usize, s: &[u8]) -> usize
     }
     // one digit more where the room is odd; behind it the buffer is full
     let o = hex_all(out, at, &s[..room]);
-    store::put_byte(out, o, digit_of(s[room] / 16))
+    buffer::put_byte(out, o, digit_of(s[room] / 16))
 }
 
 // The value of each byte as a digit.

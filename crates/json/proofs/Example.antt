@@ -9,9 +9,11 @@ use Rattle.scan.specs.Place.{begins, standsAt, within, run, runAt}
 use Rattle.utf8.specs.Encode.{encode}
 use Rattle.utf8.specs.Width.{widthAt}
 use Rattle.hex.specs.Hex.{valueOf, unhex, allDigits}
-use Rattle.event.specs.Event.{Event, sameText}
-use Rattle.jsontext.specs.Escape.{hexValue, unitOf, unitAt, letterOf, letterEscape, pairOf, unicodeAt, escapeAt, orItself, unescaped, unescape}
-use Rattle.jsontext.specs.Token.{isSpace, spaceAt, wordAt, isDigit, digitsOr, minusAt, signAt, intAt, fracAt, isE, expAt, numberFrom, unsignedFrom, numberAt}
+use Rattle.scan.specs.Compare.{sameBytes}
+use Rattle.event.specs.Event.{Event}
+use Rattle.jsontext.specs.Escape.{hexValue, unitOf, unitAt, unescapedLetter, letterEscape, pairOf, unicodeAt, escapeAt, orItself, unescaped, unescape}
+use Rattle.jsontext.specs.Token.{isSpace, spaceAt, wordAt, digitsOr, minusAt, signAt, intAt, fracAt, isE, expAt, numberFrom, unsignedFrom, skipNumber}
+use Rattle.decimal.specs.Decimal.{isDigit}
 use Rattle.jsontext.specs.Text.{charsAt, stringAt}
 use Rattle.jsontext.specs.Value as value
 use Rattle.json.specs.Meaning.{idName, pubkeyName, sigName, createdAtName, tagsName, contentName}
@@ -65,7 +67,7 @@ event =
     }
 
 pub example-read : object.readJson text ≡ shown event
-unfolding object.readJson object.wholeAt object.objectAt object.insideAt object.membersAt object.afterMember object.closeAt object.memberAt object.colonAt fieldAt fieldOf indexIn tagsAt tagAt oneOrMore arrayAt insideAt itemsAt afterItem wholeAt wholeOf digitsOnly hexAt isHexOf textAt value.valueAt value.walkAt value.walkBy value.valueBy value.insideAt value.itemsAt value.afterItem value.itemAt value.memberAt value.colonAt charsAt stringAt isSpace spaceAt wordAt isDigit digitsOr minusAt signAt intAt fracAt isE expAt numberFrom unsignedFrom numberAt hexValue unitOf unitAt letterOf letterEscape pairOf unicodeAt escapeAt orItself unescaped unescape sameText valueOf unhex allDigits widthAt within run runAt standsAt begins encode
+unfolding object.readJson object.wholeAt object.objectAt object.insideAt object.membersAt object.afterMember object.closeAt object.memberAt object.colonAt fieldAt fieldOf indexIn tagsAt tagAt oneOrMore arrayAt insideAt itemsAt afterItem wholeAt wholeOf digitsOnly hexAt isHexOf textAt value.valueAt value.skipWalk value.skipWalkBy value.skipValueBy value.skipInside value.skipItems value.skipAfter value.skipItem value.skipMember value.skipColon charsAt stringAt isSpace spaceAt wordAt digitsOr minusAt signAt intAt fracAt isE expAt numberFrom unsignedFrom skipNumber hexValue unitOf unitAt unescapedLetter letterEscape pairOf unicodeAt escapeAt orItself unescaped unescape sameBytes valueOf unhex allDigits widthAt within run runAt standsAt begins encode
 example-read = refl
 
 pub example-shows : Shows text event

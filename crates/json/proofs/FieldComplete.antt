@@ -14,7 +14,7 @@ use Rattle.scan.specs.Span as span
 use Rattle.scan.proofs.SpanLaws.{cut, close-span}
 use Rattle.hex.specs.Hex.{hexes}
 use Rattle.hex.proofs.Texts.{length-hexes, hexes-digits, unhex-hexes, digits-pass}
-use Rattle.decimal.specs.Decimal.{numberOf}
+use Rattle.decimal.specs.Decimal.{DecimalDigit, digit, numberOf}
 use Rattle.event.specs.Event.{Text, Tag, Bytes, ValidTag}
 use Rattle.jsontext.specs.Grammar as json
 use Rattle.jsontext.specs.Token.{spaceAt}
@@ -31,7 +31,7 @@ use Rattle.json.proofs.FieldSound.{Within, within, span-part}
 -- ---- texts
 
 -- a string of the grammar is read as its text
-pub quoted-accepts : {s l t q : List ℕ} {a c : ℕ} → json.Quoted l q → json.Chars l t → Span s a q c → textAt s a ≡ read t c
+pub quoted-accepts : {s l t q : List ℕ} {a c : ℕ} → json.QuotedChars l q → json.Chars l t → Span s a q c → textAt s a ≡ read t c
 unfolding textAt
 quoted-accepts g t r = rw (string-accepts g r, quoted-part g r, unescape-chars t)
 
@@ -50,10 +50,10 @@ hex-accepts {n} {c = c} p (is-hex t) (json.is-string g) r = rw (quoted-accepts g
 
 -- ---- numbers
 
-pub digits-only : {l : List ℕ} → All json.Digit l → digitsOnly l ≡ true
+pub digits-only : {l : List ℕ} → All DecimalDigit l → digitsOnly l ≡ true
 unfolding digitsOnly place.within
 digits-only span.none = refl
-digits-only (span.also {b = b} (json.digit l h) r) = rw (le-leb 48 b l, le-leb b 57 h) (digits-only r)
+digits-only (span.also {b = b} (digit l h) r) = rw (le-leb 48 b l, le-leb b 57 h) (digits-only r)
 
 pub whole-accepts : (max refusal : ℕ) {n : ℕ} {v : json.Json} {s l : List ℕ} {a c : ℕ} → n ≤ max → IsNumber v n → json.Spells v l → Span s a l c → Stop (getD s c 0)
     → wholeAt max refusal s a ≡ read n c

@@ -13,13 +13,13 @@ use Rattle.scan.specs.Choice.{pick, Answer, refused, Read, read}
 use Rattle.scan.specs.Span.{Span, here, All}
 use Rattle.scan.specs.Span as span
 use Rattle.scan.proofs.Step.{pick-true}
-use Rattle.scan.proofs.SpanLaws.{join, bite, span-length, from-span}
+use Rattle.scan.proofs.SpanLaws.{join, bite, span-length, part-of-span}
 use Rattle.scan.proofs.Reading.{Reads, reads, fails, pick-reads, then-reads, from-reads}
 use Rattle.utf8.specs.Utf8.{Utf8}
 use Rattle.hex.specs.Hex.{hexes, unhex, allDigits}
 use Rattle.hex.proofs.Digits.{in-range}
 use Rattle.hex.proofs.Texts.{hexes-unhex, pass-digits, length-unhex, unhex-bytes}
-use Rattle.decimal.specs.Decimal.{numberOf, isDigit}
+use Rattle.decimal.specs.Decimal.{DecimalDigit, digit, numberOf, isDigit}
 use Rattle.event.specs.Event.{Text, Tag, Bytes, ValidTag}
 use Rattle.jsontext.specs.declared.Spelled.{Spelled}
 use Rattle.jsontext.specs.Grammar as json
@@ -45,7 +45,7 @@ pub data Within {A : Type 0} (Is : json.Json → A → Type 0) (P : A → Type 0
 
 -- a quoted string and the text that it stands for
 pub data Quotes : Text → List ℕ → Type 0 where
-  quotes : {l t q : List ℕ} → json.Quoted l q → json.Chars l t → Quotes t q
+  quotes : {l t q : List ℕ} → json.QuotedChars l q → json.Chars l t → Quotes t q
 
 pub text-consumes : (s : List ℕ) (a : ℕ) → Reads Quotes s a (textAt s a)
 unfolding textAt
@@ -81,17 +81,17 @@ hex-says n s a = then-reads _ (text-consumes s a) (λ t q e g r. told g r)
 
 -- ---- numbers
 
-pub only-digits : (l : List ℕ) → digitsOnly l ≡ true → All json.Digit l
+pub only-digits : (l : List ℕ) → digitsOnly l ≡ true → All DecimalDigit l
 unfolding digitsOnly
 only-digits [] h = span.none
 only-digits (b ∷ l) h =
     let t = pick-true (isDigit b) (digitsOnly l) h in
     let r = in-range 48 57 b (t .0) in
-    span.also (json.digit (r .0) (r .1)) (only-digits l (t .1))
+    span.also (digit (r .0) (r .1)) (only-digits l (t .1))
 
--- general: belongs to crate scan. The bytes of a span, taken from the input.
+-- the bytes of a span, taken from the input by its two places
 pub span-part : {s l : List ℕ} {a e : ℕ} → Span s a l e → take (e - a) (drop a s) ≡ l
-span-part {s} {l} {a} {e} r = let n : length l ≡ e - a = omega (arith, span-length r) in rw (from-span r) (take-at l (drop e s) (e - a) n)
+span-part {l = l} {a = a} {e = e} r = part-of-span (e - a) (omega (arith, span-length r)) r
 
 pub whole-says : (max refusal : ℕ) (s : List ℕ) (a : ℕ) → Reads (Saying (Within IsNumber (λ (n : ℕ). n ≤ max))) s a (wholeAt max refusal s a)
 unfolding wholeAt wholeOf

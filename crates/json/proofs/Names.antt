@@ -6,8 +6,9 @@ use mathlib.Core.List.{List, [], _∷_}
 use native.Mathlib.Omega.{arith}
 use lib.ListN.{length, getD}
 use Rattle.scan.proofs.Step.{pick-by}
-use Rattle.event.specs.Event.{Text, sameText}
-use Rattle.event.proofs.Laws.{same-text, text-same}
+use Rattle.scan.specs.Compare.{sameBytes}
+use Rattle.event.specs.Event.{Text}
+use Rattle.scan.proofs.CompareLaws.{same-same, bytes-same}
 use Rattle.json.specs.Meaning.{names, OneOf, first, later}
 use Rattle.json.specs.Field.{indexIn, fieldOf}
 
@@ -22,21 +23,21 @@ index-there : (l : List Text) (t : Text) → indexIn l t < length l → getD l (
 unfolding indexIn
 index-there [] t h = absurd (omega arith)
 index-there (n ∷ l) t h =
-    pick-by (λ (i : ℕ). i < suc (length l) → getD (n ∷ l) i [] ≡ t) (sameText t n) (λ e k. sym (text-same t n e)) (λ e k. index-there l t (omega arith)) h
+    pick-by (λ (i : ℕ). i < suc (length l) → getD (n ∷ l) i [] ≡ t) (sameBytes t n) (λ e k. sym (bytes-same t n e)) (λ e k. index-there l t (omega arith)) h
 
 -- and is one of the list
 index-one : (l : List Text) (t : Text) → indexIn l t < length l → OneOf l t
 unfolding indexIn
 index-one [] t h = absurd (omega arith)
 index-one (n ∷ l) t h =
-    pick-by (λ (i : ℕ). i < suc (length l) → OneOf (n ∷ l) t) (sameText t n) (λ e k. rw (text-same t n e) first) (λ e k. later (index-one l t (omega arith))) h
+    pick-by (λ (i : ℕ). i < suc (length l) → OneOf (n ∷ l) t) (sameBytes t n) (λ e k. rw (bytes-same t n e) first) (λ e k. later (index-one l t (omega arith))) h
 
 -- one of the list is found
 one-index : {l : List Text} {t : Text} → OneOf l t → indexIn l t < length l
 unfolding indexIn
-one-index (first {t = t} {l = l}) = rw (same-text t) (omega arith)
+one-index (first {t = t} {l = l}) = rw (same-same t) (omega arith)
 one-index (later {t = t} {u = u} {l = l} o) =
-    pick-by (λ (i : ℕ). i < suc (length l)) (sameText t u) (λ e. omega arith) (λ e. omega (arith, one-index o))
+    pick-by (λ (i : ℕ). i < suc (length l)) (sameBytes t u) (λ e. omega arith) (λ e. omega (arith, one-index o))
 
 -- ---- the seven
 
@@ -68,5 +69,5 @@ by-seven P a b c d e f g (suc (suc (suc (suc (suc (suc (suc k))))))) h = absurd 
 
 -- the name of field k has the number k
 pub name-number : (k : ℕ) → k < 7 → fieldOf (name k) ≡ k
-unfolding fieldOf indexIn sameText
+unfolding fieldOf indexIn sameBytes
 name-number = by-seven (λ (k : ℕ). fieldOf (name k) ≡ k) refl refl refl refl refl refl refl

@@ -15,7 +15,7 @@ use Rattle.jsontext.specs.Grammar as json
 use Rattle.jsontext.specs.Token.{spaceAt}
 use Rattle.jsontext.proofs.TokenLaws.{Stop, stop-brace, space-accepts}
 use Rattle.jsontext.proofs.FirstByte.{first-at, begins-value, begins-members}
-use Rattle.jsontext.proofs.ValueComplete.{ws-stop, not-space, separator-accepts, separator-stop, comma-solid, colon-solid, brace-solid}
+use Rattle.jsontext.proofs.ValueComplete.{ws-stop, not-space, separator-accepts, separator-stop, comma-solid, colon-solid, brace-solid, separator-some}
 use Rattle.json.specs.Meaning.{IsEvent, is-event}
 use Rattle.json.specs.Field.{Value, fieldOf}
 use Rattle.json.specs.Object.{Fields, isMissing, field, colonAt, memberAt, closeAt, afterMember, membersAt, insideAt, objectAt}
@@ -48,10 +48,6 @@ module _ (s : List ℕ) (f g : Fields) where
   unfolding membersAt afterMember
   member-more X zero n a b c d h e i j o r = absurd (omega arith)
   member-more X (suc k) n a b c d h e i j o r = rw (e, i, j, o) (r k (omega arith))
-
--- general: crate jsontext has it for itself
-separator-some : {k : ℕ} {l : List ℕ} → json.Separator k l → 1 ≤ length l
-separator-some (json.separator {w = w} {x = x} g h) = simp length-append (omega arith)
 
 -- members that are tracked are read up to the closing brace, where the fields that they leave decide
 pub members-accept : {m : json.Members} {f g : Fields} {X : Answer (Read Event)} {s l : List ℕ} {a b c : ℕ} (k : ℕ) → json.SpellsMembers m l → Tracks f m g

@@ -34,7 +34,7 @@ member-consumes : (f : Fields) (s : List ℕ) (a : ℕ) → Reads (MemberTo f) s
 unfolding memberAt colonAt
 member-consumes f s a = then-reads _ (text-consumes s a) (λ t q e g r. named g r)
   where
-    valued : {n t q c l : List ℕ} {x : Value} {e : ℕ} → json.Quoted n q → json.Chars n t → json.Separator 0x3A c → isMissing (field f (fieldOf t)) ≡ true
+    valued : {n t q c l : List ℕ} {x : Value} {e : ℕ} → json.QuotedChars n q → json.Chars n t → json.Separator 0x3A c → isMissing (field f (fieldOf t)) ≡ true
         → Saying (FieldSays (fieldOf t)) x l → Span s a (q ++ (c ++ l)) e → Reads (MemberTo f) s a (read (set f (fieldOf t) x) e)
     valued g z k i (saying v y) r = reads (member-to (json.is-member g k v) z i y) r
 

@@ -16,34 +16,8 @@ use Rattle.jsontext.specs.Token.{spaceAt}
 use Rattle.jsontext.proofs.TokenLaws.{Stop, stop-end, space-accepts}
 use Rattle.jsontext.proofs.FirstByte.{first-at, begins-value}
 use Rattle.jsontext.proofs.ValueComplete.{ws-stop}
-use Rattle.jsontext.proofs.Unambiguous.{one-at}
+use Rattle.jsontext.proofs.OneValue.{chars-one, one-value}
 use Rattle.json.specs.Meaning.{Values, no-value, named, other, IsText, is-text, IsHex, is-hex, IsNumber, is-number, Each, none, also, IsArray, is-array, Once, once, IsEvent, is-event}
-use Rattle.json.proofs.Tracks.{chars-one}
-
--- ---- a text is one value
-
--- general: belongs to crate jsontext. The value of a text stands where the white space before it ends, and nothing behind it could lengthen a number.
-pub data ValueIn (s : List ℕ) (v : json.Json) : Type 0 where
-  value-in : {l : List ℕ} {e : ℕ} → json.Spells v l → Span s (spaceAt s 0) l e → Stop (getD s e 0) → ValueIn s v
-
--- general: belongs to crate jsontext. The end of the input stops a number.
-pub end-stops : (s : List ℕ) → Stop (getD s (length s) 0)
-end-stops s = rw (byte-none s (length s) (omega arith)) stop-end
-
--- general: belongs to crate jsontext
-pub text-value : {v : json.Json} {s : List ℕ} → json.Text v s → ValueIn s v
-text-value {v} {s} (json.text {w = w} {l = l} {x = x} g h k) =
-    let u = cut w (input-span s) in
-    let y = cut l (u .2) in
-    let e = space-accepts g (u .1) (first-at (begins-value h) (y .1) .solid) in
-    value-in {e = y .0} h (rw e (y .1)) (ws-stop k (y .2) (end-stops s))
-
--- THE unambiguity of a text, general: belongs to crate jsontext. A JSON text spells at most one value.
-pub one-value : {v w : json.Json} {s : List ℕ} → json.Text v s → json.Text w s → v ≡ w
-one-value g h = go (text-value g) (text-value h)
-  where
-    go : {s : List ℕ} {v w : json.Json} → ValueIn s v → ValueIn s w → v ≡ w
-    go (value-in g p st) (value-in h q su) = one-at g p st h q su .0
 
 -- ---- a value is one event
 
@@ -95,5 +69,5 @@ event-one (is-event a p x) (is-event b q y) =
     (once-one (λ v. text-one) (a .content) (b .content))
 
 -- THE two together: a text has at most one event
-pub one-event : {v w : json.Json} {s : List ℕ} {d e : Event} → json.Text v s → IsEvent v d → json.Text w s → IsEvent w e → d ≡ e
+pub one-event : {v w : json.Json} {s : List ℕ} {d e : Event} → json.JsonText v s → IsEvent v d → json.JsonText w s → IsEvent w e → d ≡ e
 one-event {v} {w} {e = e} g p h q = event-one p (rw (one-value g h) q)

@@ -12,7 +12,7 @@ use Rattle.scan.specs.Span.{Span, step, All}
 use Rattle.scan.proofs.Step.{false-true}
 use Rattle.scan.proofs.SpanLaws.{cut, span-length, span-fits}
 use Rattle.utf8.specs.Width.{widthAt}
-use Rattle.decimal.specs.Decimal.{numberOf}
+use Rattle.decimal.specs.Decimal.{DecimalDigit, numberOf}
 use Rattle.event.specs.Event.{Text, Tag, Event, ValidTag}
 use Rattle.jsontext.specs.Grammar as json
 use Rattle.jsontext.specs.Token.{isSpace, spaceAt}
@@ -44,23 +44,23 @@ unfolding textAt
 text-ill-formed g r h w = rw (string-ill-formed g r h w)
 
 -- 12 at the opening quote: a string that is no lowercase hex of its length
-pub not-hex : (n : ℕ) {s l t q : List ℕ} {a c : ℕ} → json.Quoted l q → json.Chars l t → Span s a q c → isHexOf n t ≡ false → hexAt n s a ≡ refused 12 a
+pub not-hex : (n : ℕ) {s l t q : List ℕ} {a c : ℕ} → json.QuotedChars l q → json.Chars l t → Span s a q c → isHexOf n t ≡ false → hexAt n s a ≡ refused 12 a
 unfolding hexAt
 not-hex n g t r f = rw (quoted-accepts g t r, f)
 
 -- at the number: one above the maximum
-number-over : (max refusal : ℕ) {s l : List ℕ} {a c : ℕ} → json.Number l → All json.Digit l → max < numberOf l → Span s a l c → Stop (getD s c 0)
+number-over : (max refusal : ℕ) {s l : List ℕ} {a c : ℕ} → json.Number l → All DecimalDigit l → max < numberOf l → Span s a l c → Stop (getD s c 0)
     → wholeAt max refusal s a ≡ refused refusal a
 unfolding wholeAt wholeOf
 number-over max refusal {l = l} g y h r st = rw (number-accepts g r st, span-part r, digits-only y, lt-leb (numberOf l) max h)
 
 -- 6: a kind above 65,535
-pub kind-over : {s l : List ℕ} {a c : ℕ} → json.Number l → All json.Digit l → 65_535 < numberOf l → Span s a l c → Stop (getD s c 0) → fieldAt 4 s a ≡ refused 6 a
+pub kind-over : {s l : List ℕ} {a c : ℕ} → json.Number l → All DecimalDigit l → 65_535 < numberOf l → Span s a l c → Stop (getD s c 0) → fieldAt 4 s a ≡ refused 6 a
 unfolding fieldAt
 kind-over g y h r st = rw (number-over 65_535 6 g y h r st)
 
 -- 7: a created_at above its maximum
-pub time-over : {s l : List ℕ} {a c : ℕ} → json.Number l → All json.Digit l → 9_223_372_036_854_775 < numberOf l → Span s a l c → Stop (getD s c 0)
+pub time-over : {s l : List ℕ} {a c : ℕ} → json.Number l → All DecimalDigit l → 9_223_372_036_854_775 < numberOf l → Span s a l c → Stop (getD s c 0)
     → fieldAt 3 s a ≡ refused 7 a
 unfolding fieldAt
 time-over g y h r st = rw (number-over 9_223_372_036_854_775 7 g y h r st)
@@ -128,7 +128,7 @@ tag-empty {s = s} g r =
 -- ---- the object
 
 -- 16 at the second name
-pub name-twice : (f : Fields) {s n t q : List ℕ} {a c : ℕ} → json.Quoted n q → json.Chars n t → Span s a q c → isMissing (field f (fieldOf t)) ≡ false
+pub name-twice : (f : Fields) {s n t q : List ℕ} {a c : ℕ} → json.QuotedChars n q → json.Chars n t → Span s a q c → isMissing (field f (fieldOf t)) ≡ false
     → memberAt f s a ≡ refused 16 a
 unfolding memberAt
 name-twice f g t r i = rw (quoted-accepts g t r, i)

@@ -15,7 +15,7 @@ use Rattle.event.specs.Tells.{among, Tells, value, refusal}
 use Rattle.event.proofs.TellsLaws.{Inside, then-tells, pick-tells, wider}
 use Rattle.jsontext.specs.Token.{spaceAt}
 use Rattle.jsontext.specs.Value.{valueNumbers}
-use Rattle.jsontext.proofs.Walk.{space-inside}
+use Rattle.jsontext.proofs.TokenLaws.{space-inside}
 use Rattle.jsontext.proofs.Telling.{byte-inside, space-behind, number-tells, string-tells, value-tells}
 use Rattle.json.specs.Field.{textAt, isHexOf, hexAt, digitsOnly, wholeOf, wholeAt, afterItem, itemsAt, insideAt, arrayAt, oneOrMore, tagAt, tagsAt, under, fieldOf, fieldAt}
 use Rattle.json.specs.Object.{Fields, noFields, isMissing, field, colonAt, memberAt, afterMember, membersAt, objectAt, readJson, jsonNumbers}

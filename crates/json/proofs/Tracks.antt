@@ -12,6 +12,7 @@ use lib.Seq.{ext-getD, getD-set-same, getD-set-other}
 use Rattle.scan.proofs.Step.{false-true}
 use Rattle.event.specs.Event.{Text, Event}
 use Rattle.jsontext.specs.Grammar as json
+use Rattle.jsontext.proofs.OneValue.{chars-one}
 use Rattle.jsontext.proofs.Meaning.{unescape-chars}
 use Rattle.json.specs.Meaning.{Values, no-value, named, other, Once, once, Shallow, no-member, known, ignored, IsEvent, is-event}
 use Rattle.json.specs.Field.{Value, missing, fieldOf}
@@ -31,10 +32,6 @@ pub data Found (k : ℕ) (f : Fields) (m : json.Members) (g : Fields) : Type 0 w
   came : isMissing (field f k) ≡ true → Once m (name k) (FieldSays k) (field g k) → Found k f m g
 
 -- ---- the values of a name in a member and in those behind it
-
--- general: belongs to crate jsontext. Characters as they are spelled stand for one text.
-pub chars-one : {n t u : List ℕ} → json.Chars n t → json.Chars n u → t ≡ u
-chars-one c d = sym (unescape-chars c) ∙ unescape-chars d
 
 -- where there is no member, there is no value
 values-none : {t : Text} {v : json.Json} {l : List json.Json} → Values t json.no-member (v ∷ l) → ⊥

@@ -17,6 +17,7 @@ use Rattle.scan.proofs.Reading.{Gives, gives, lacks, shown-gives, pick-gives, r
 use Rattle.event.specs.Event.{Event}
 use Rattle.jsontext.specs.Grammar as json
 use Rattle.jsontext.specs.Token.{isSpace, spaceAt}
+use Rattle.jsontext.proofs.OneValue.{end-solid}
 use Rattle.jsontext.proofs.TokenLaws.{bind, space-consumes, space-accepts}
 use Rattle.jsontext.proofs.FirstByte.{first-at, begins-value}
 use Rattle.json.specs.Meaning.{IsEvent}
@@ -28,7 +29,7 @@ use Rattle.json.proofs.ObjectComplete.{object-accepts}
 -- s is a JSON text that is the event e, and is not too long
 pub record Shows (s : List ℕ) (e : Event) : Type 0 where
   pub value : json.Json
-  pub text : json.Text value s
+  pub text : json.JsonText value s
   pub event : IsEvent value e
   pub short : length s ≤ 65_536
 
@@ -38,7 +39,7 @@ shows : {s l w x : List ℕ} {e : Event} {a c : ℕ} → json.Ws w → Span s 0 
     → Shows s e
 shows {s} {l} {w} {x} g p (saying {v = v} h y) q k r n =
     let e : s ≡ w ++ (l ++ x) = whole-span (join p (join q r)) in
-    let t : json.Text v s = rw e (json.text g h k) in
+    let t : json.JsonText v s = rw e (json.text g h k) in
     record { value = v; text = t; event = y; short = n }
 
 read-shows : (s : List ℕ) → Gives (Shows s) (readJson s)
@@ -63,13 +64,8 @@ sound {s} f = shown-gives (rw f at (read-shows s))
 
 -- ---- complete
 
--- general: belongs to crate jsontext. No white space stands behind the end.
-end-solid : (s : List ℕ) → isSpace (getD s (length s) 0) ≡ false
-unfolding isSpace
-end-solid s = rw (byte-none s (length s) (omega arith))
-
 -- THE completeness: a JSON text within 65,536 bytes whose tree is an event is shown as that event
-pub complete : {v : json.Json} {s : List ℕ} {e : Event} → json.Text v s → IsEvent v e → length s ≤ 65_536 → readJson s ≡ shown e
+pub complete : {v : json.Json} {s : List ℕ} {e : Event} → json.JsonText v s → IsEvent v e → length s ≤ 65_536 → readJson s ≡ shown e
 unfolding readJson wholeAt
 complete {v} {s} {e} (json.text {w = w} {l = l} {x = x} g h k) y n =
     let u = cut w (input-span s) in

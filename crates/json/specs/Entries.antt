@@ -4,7 +4,7 @@ use Prim.Native.Nat.{ℕ}
 use mathlib.Core.List.{List}
 use lib.ListN.{length}
 use Rattle.scan.specs.Choice.{Answer, shown, andThen}
-use Rattle.store.specs.Entry.{writes, leaves}
+use Rattle.buffer.specs.Entry.{writes, leaves}
 use Rattle.notepack.specs.Strict.{pack}
 use Rattle.json.specs.Object.{readJson}
 

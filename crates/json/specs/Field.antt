@@ -8,10 +8,11 @@ use Rattle.scan.specs.Choice.{pick, Answer, shown, refused, Read, read, andThen
 use Rattle.scan.specs.Place.{byteAt}
 use Rattle.hex.specs.Hex.{unhex, allDigits}
 use Rattle.decimal.specs.Decimal.{numberOf, isDigit}
-use Rattle.event.specs.Event.{Text, Tag, sameText}
+use Rattle.scan.specs.Compare.{sameBytes}
+use Rattle.event.specs.Event.{Text, Tag}
 use Rattle.jsontext.specs.declared.Spelled.{Spelled}
 use Rattle.jsontext.specs.Escape.{unescape}
-use Rattle.jsontext.specs.Token.{spaceAt, numberAt}
+use Rattle.jsontext.specs.Token.{spaceAt, skipNumber}
 use Rattle.jsontext.specs.Text.{stringAt}
 use Rattle.jsontext.specs.Value.{valueAt}
 use Rattle.json.specs.Meaning.{names}
@@ -42,7 +43,7 @@ wholeOf max number l at next =
     pick (digitsOnly l) (pick (leb (numberOf l) max) (read (numberOf l) next) (refused number at)) (refused 14 at)
 
 unfoldable pub wholeAt : ℕ → ℕ → List ℕ → ℕ → Answer (Read ℕ)
-wholeAt max number s at = andThen (numberAt s at) λ r. wholeOf max number (take (r .next - at) (drop at s)) at (r .next)
+wholeAt max number s at = andThen (skipNumber s at) λ r. wholeOf max number (take (r .next - at) (drop at s)) at (r .next)
 
 -- ---- arrays of up to 1 + left items, each read by `item`
 
@@ -89,7 +90,7 @@ pub data Value : Type 0 where
 -- the place of a name in a list; the list's length where it is none of them
 unfoldable pub indexIn : List Text → Text → ℕ
 indexIn [] t = 0
-indexIn (n ∷ l) t = pick (sameText t n) 0 (suc (indexIn l t))
+indexIn (n ∷ l) t = pick (sameBytes t n) 0 (suc (indexIn l t))
 
 -- the number of the field that has a name: 0 to 6, and 7 for a name that is ignored
 unfoldable pub fieldOf : Text → ℕ

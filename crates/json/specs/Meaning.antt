@@ -5,7 +5,7 @@ use mathlib.Core.List.{List, [], _∷_}
 use Rattle.scan.specs.Ascii.{ascii}
 use Rattle.scan.specs.Span.{All}
 use Rattle.hex.specs.Hex.{hexes}
-use Rattle.decimal.specs.Decimal.{numberOf}
+use Rattle.decimal.specs.Decimal.{DecimalDigit, numberOf}
 use Rattle.event.specs.Event.{Text, Tag, Event, Valid}
 use Rattle.jsontext.specs.Grammar as json
 
@@ -54,7 +54,7 @@ pub data IsHex : json.Json → List ℕ → Type 0 where
 
 -- digits alone: no sign, fraction or exponent
 pub data IsNumber : json.Json → ℕ → Type 0 where
-  is-number : {l : List ℕ} → All json.Digit l → IsNumber (json.number l) (numberOf l)
+  is-number : {l : List ℕ} → All DecimalDigit l → IsNumber (json.number l) (numberOf l)
 
 -- an array, item by item
 pub data Each {A : Type 0} (Is : json.Json → A → Type 0) : json.Items → List A → Type 0 where

@@ -1,17 +1,15 @@
 -- What the second pass writes of texts and tags, turn by turn; and that it is their strict form where the first pass read them.
 -- Along the items as they were taken apart; the byte behind each is there, so that the second pass comes to the same places.
 use Prim.Native.Nat.{ℕ, zero, suc, _+_, _-_, _≤_, _<_}
-use mathlib.Core.Path.{_≡_, refl, sym, ap, _∙_}
-use mathlib.Core.Bool.{Bool, true, false}
+use mathlib.Core.Path.{_≡_, refl, sym, ap, _∙_, subst}
 use mathlib.Core.List.{List, [], _∷_, _++_, append-assoc}
 use native.Mathlib.Omega.{arith}
 use native.Mathlib.Numerals.{sub-one}
 use lib.ListN.{length, getD}
 use lib.Dec.{eqb}
-use borrow.Author.Tests.{eq-eqb, ne-eqb, eqb-true, eqb-false, lt-ltb}
+use borrow.Author.Tests.{eq-eqb, ne-eqb, lt-ltb}
 use Rattle.scan.specs.Choice.{pick, Answer, shown, refused, Read, read}
-use Rattle.scan.proofs.Many.{then-shown}
-use Rattle.scan.proofs.Reading.{read-same}
+use Rattle.buffer.specs.Store.{Wrote}
 use Rattle.varint.specs.Uleb.{uleb}
 use Rattle.event.specs.Event.{Tag}
 use Rattle.notepack.specs.Strict.{packElement, packElements, packTags}
@@ -19,51 +17,52 @@ use Rattle.notepack.proofs.Lengths.{tag-form}
 use Rattle.jsontext.specs.declared.Spelled.{Spelled}
 use Rattle.jsontext.specs.Token.{spaceAt}
 use Rattle.jsontext.specs.Text.{stringAt}
-use Rattle.jsontext.proofs.Fits.{byte-positive}
-use Rattle.json.specs.Field.{textOf, textAt, itemsAt, insideAt, arrayAt, oneOrMore, tagAt}
-use Rattle.jsonread.specs.Copy.{behindAt, nextAt, textEnd, countTexts, textsText, textsEnd, tagText, tagsText}
-use Rattle.jsonread.proofs.Strings.{string-ends, text-string}
-use Rattle.jsonread.proofs.Items.{never-shown, Took, last, more, items-took}
+use Rattle.scan.proofs.Fits.{byte-positive}
+use Rattle.json.specs.Field.{textOf, textAt, tagAt}
+use Rattle.jsonread.specs.Copy.{behindAt, nextAt, textEnd, countTexts, textsText, jsonTextsEnd, jsonTagText, jsonTagsText}
+use Rattle.jsonfields.proofs.Strings.{string-ends, text-string}
+use Rattle.jsonfields.proofs.Values.{tag-took}
+use Rattle.jsonfields.proofs.Items.{Took, last, more}
 
 -- ---- the turns of the loops
 
 module _ (s : List ℕ) where
   pub texts-turn : (left at : ℕ) {p : Spelled} {e : ℕ} → 0 < left → stringAt s at ≡ read p e
-      → (textsText left s at ≡ packElement (textOf s p) ++ textsText (left - 1) s (nextAt s e)) × (textsEnd left s at ≡ textsEnd (left - 1) s (nextAt s e))
-  unfolding textsText textsEnd
+      → (textsText left s at ≡ packElement (textOf s p) ++ textsText (left - 1) s (nextAt s e)) × (jsonTextsEnd left s at ≡ jsonTextsEnd (left - 1) s (nextAt s e))
+  unfolding textsText jsonTextsEnd
   texts-turn zero at h r = absurd (omega arith)
   texts-turn (suc left) at h r = (rw (r, sub-one), rw (r, sub-one))
 
-  pub texts-stop : (left at : ℕ) {n q : ℕ} → 0 < left → stringAt s at ≡ refused n q → (textsText left s at ≡ []) × (textsEnd left s at ≡ at)
-  unfolding textsText textsEnd
+  pub texts-stop : (left at : ℕ) {n q : ℕ} → 0 < left → stringAt s at ≡ refused n q → (textsText left s at ≡ []) × (jsonTextsEnd left s at ≡ at)
+  unfolding textsText jsonTextsEnd
   texts-stop zero at h r = absurd (omega arith)
   texts-stop (suc left) at h r = (rw r, rw r)
 
-  pub texts-left : (left at : ℕ) → left ≤ 0 → (textsText left s at ≡ []) × (textsEnd left s at ≡ at)
-  unfolding textsText textsEnd
+  pub texts-left : (left at : ℕ) → left ≤ 0 → (textsText left s at ≡ []) × (jsonTextsEnd left s at ≡ at)
+  unfolding textsText jsonTextsEnd
   texts-left zero at h = (refl, refl)
   texts-left (suc left) at h = absurd (omega arith)
 
   pub tags-turn : (left at : ℕ) → 0 < left
-      → tagsText left s at ≡ tagText s (behindAt s at) ++ tagsText (left - 1) s (behindAt s (textsEnd (countTexts 255 s (behindAt s at)) s (behindAt s at)))
-  unfolding tagsText
+      → jsonTagsText left s at ≡ jsonTagText s (behindAt s at) ++ jsonTagsText (left - 1) s (behindAt s (jsonTextsEnd (countTexts 255 s (behindAt s at)) s (behindAt s at)))
+  unfolding jsonTagsText
   tags-turn zero at h = absurd (omega arith)
   tags-turn (suc left) at h = rw sub-one
 
   -- a tag more: its count and its texts are written, and the others are left
-  pub tags-again : (left at : ℕ) → 0 < left → {first n end next : ℕ} → first ≡ behindAt s at → n ≡ countTexts 255 s first → end ≡ textsEnd n s first → next ≡ behindAt s end
-      → tagsText left s at ≡ uleb n ++ (textsText n s first ++ tagsText (left - 1) s next)
-  unfolding tagText
+  pub tags-again : (left at : ℕ) → 0 < left → {first n end next : ℕ} → first ≡ behindAt s at → n ≡ countTexts 255 s first → end ≡ jsonTextsEnd n s first → next ≡ behindAt s end
+      → jsonTagsText left s at ≡ uleb n ++ (textsText n s first ++ jsonTagsText (left - 1) s next)
+  unfolding jsonTagText
   tags-again left at h {first} {n} {end} {next} e f g k =
-      tags-turn left at h ∙ rw (← e, ← f, ← g, ← k) (append-assoc (uleb n) (textsText n s first) (tagsText (left - 1) s next))
+      tags-turn left at h ∙ rw (← e, ← f, ← g, ← k) (append-assoc (uleb n) (textsText n s first) (jsonTagsText (left - 1) s next))
 
   -- behind a text
   pub next-place : (e : ℕ) {p j : ℕ} → p ≡ spaceAt s e → j ≡ behindAt s p → nextAt s e ≡ j
   unfolding nextAt
   next-place e f g = sym (g ∙ ap (behindAt s) f)
 
-  pub tags-left : (left at : ℕ) → left ≤ 0 → tagsText left s at ≡ []
-  unfolding tagsText
+  pub tags-left : (left at : ℕ) → left ≤ 0 → jsonTagsText left s at ≡ []
+  unfolding jsonTagsText
   tags-left zero at h = refl
   tags-left (suc left) at h = absurd (omega arith)
 
@@ -133,10 +132,10 @@ module _ (s : List ℕ) where
   pub record TextsWritten (left at : ℕ) (l : Tag) (c : ℕ) : Type 0 where
     pub count : countTexts (suc left) s at ≡ length l
     pub text : textsText (length l) s at ≡ packElements l
-    pub end : textsEnd (length l) s at ≡ spaceAt s c
+    pub end : jsonTextsEnd (length l) s at ≡ spaceAt s c
 
   pub texts-written : {left at : ℕ} {l : Tag} {c : ℕ} → Took (textAt s) s left at l c → TextsWritten left at l c
-  unfolding countTexts textsText textsEnd nextAt
+  unfolding countTexts textsText jsonTextsEnd nextAt
   texts-written (last {i = i} {e = e} {x = x} f b) =
       let g = text-string s i f in
       let n = behind-there (spaceAt s e) 0x5D b (omega arith) in
@@ -155,39 +154,23 @@ module _ (s : List ℕ) where
         end = rw (g .1, n) (u .end);
       }
 
-  -- a tag that was read, taken apart
-  pub tag-took : (i : ℕ) {t : Tag} {e : ℕ} → tagAt s i ≡ read t e → (getD s i 0 ≡ 0x5B) × Took (textAt s) s 254 (spaceAt s (i + 1)) t e
-  unfolding tagAt arrayAt insideAt oneOrMore
-  tag-took i {t} {e} h = let g = then-shown (arrayAt (textAt s) 254 s i) _ _ h in go (g .0) (eqb (getD s i 0) 0x5B) refl (g .1) (eqb (length (g .0 .value)) 0) refl (g .2)
-    where
-      inside : (v : Read Tag) (c : Bool) → eqb (getD s (spaceAt s (i + 1)) 0) 0x5D ≡ c
-          → pick c (read [] (spaceAt s (i + 1) + 1)) (itemsAt (textAt s) 254 s (spaceAt s (i + 1))) ≡ shown v → eqb (length (v .value)) 0 ≡ false
-          → Took (textAt s) s 254 (spaceAt s (i + 1)) (v .value) (v .next)
-      inside v true b k z = let y = read-same k in absurd (eqb-false (length (v .value)) 0 z (ap length (sym (y .0))))
-      inside v false b k z = items-took (textAt s) s 254 (spaceAt s (i + 1)) v k
-
-      go : (v : Read Tag) (b : Bool) → eqb (getD s i 0) 0x5B ≡ b
-          → pick b (insideAt (textAt s) 254 s (spaceAt s (i + 1))) (refused 14 i) ≡ shown v → (z : Bool) → eqb (length (v .value)) 0 ≡ z
-          → pick z (refused 9 i) (shown v) ≡ read t e → (getD s i 0 ≡ 0x5B) × Took (textAt s) s 254 (spaceAt s (i + 1)) t e
-      go v b q k true y m = never-shown m
-      go v false q k false y m = never-shown k
-      go v true q k false y m =
-          let w = read-same m in
-          (eqb-true (getD s i 0) 0x5B q, rw (← w .0, ← w .1) (inside v (eqb (getD s (spaceAt s (i + 1)) 0) 0x5D) refl k y))
-
   -- a tag and those behind it
-  one-tag : (at n : ℕ) {x : Tag} {e : ℕ} (ts : List Tag) → tagAt s at ≡ read x e → tagsText n s (behindAt s (spaceAt s e)) ≡ packTags ts
-      → tagsText (suc n) s at ≡ packTags (x ∷ ts)
-  unfolding tagsText tagText
+  one-tag : (at n : ℕ) {x : Tag} {e : ℕ} (ts : List Tag) → tagAt s at ≡ read x e → jsonTagsText n s (behindAt s (spaceAt s e)) ≡ packTags ts
+      → jsonTagsText (suc n) s at ≡ packTags (x ∷ ts)
+  unfolding jsonTagsText jsonTagText
   one-tag at n {x} {e} ts f h =
-      let g = tag-took at f in
+      let g = tag-took s at f in
       let first = spaceAt s (at + 1) in
       let u = texts-written (g .1) in
       let b : behindAt s at ≡ first = behind-there at 0x5B (g .0) (omega arith) in
       rw (b, u .count, u .text, u .end, h) (ap (λ (l : List ℕ). l ++ packTags ts) (sym (tag-form x)))
 
   -- tags that were read are written in strict form
-  pub tags-written : {left at : ℕ} {l : List Tag} {c : ℕ} → Took (tagAt s) s left at l c → tagsText (length l) s at ≡ packTags l
+  pub tags-written : {left at : ℕ} {l : List Tag} {c : ℕ} → Took (tagAt s) s left at l c → jsonTagsText (length l) s at ≡ packTags l
   tags-written (last {i = i} {e = e} f b) = one-tag i 0 [] f (tags-left 0 (behindAt s (spaceAt s e)) (omega arith))
   tags-written (more {i = i} {e = e} {l = l} f b r) =
       one-tag i (length l) l f (rw (behind-there (spaceAt s e) 0x2C b (omega arith)) (tags-written r))
+
+-- a plain string, which is its own text, as a strict element
+pub same-wrote : {d d′ : List ℕ} {o r : ℕ} {l t u : List ℕ} → Wrote d o (packElement l) d′ r → l ≡ t → u ≡ t → Wrote d o (packElement u) d′ r
+same-wrote {d} {d′} {o} {r} w f g = subst (λ (x : List ℕ). Wrote d o (packElement x) d′ r) (f ∙ sym g) w

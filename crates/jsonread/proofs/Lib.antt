@@ -1,10 +1,3 @@
-pub mod Strings
-pub mod Items
 pub mod Copying
-pub mod Weights
-pub mod Naming
-pub mod Known
-pub mod Members
+pub mod Writing
 pub mod Whole
-pub mod Plain
-pub mod Runs

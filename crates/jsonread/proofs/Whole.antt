@@ -1,103 +1,115 @@
 -- The whole text and the entry: what is answered and what is left in the lent buffer, for each outcome of the first pass.
--- By the definitions' steps; the room was measured, so that what is written is the strict form and the rest is unchanged.
-use Prim.Native.Nat.{ℕ, _≤_, _<_, _^_}
-use mathlib.Core.Path.{_≡_, sym, ap, _∙_, subst}
-use mathlib.Core.List.{List, []}
+-- The spots say the event that the reading shows; the room was measured, so that what is written is the strict form and the rest is unchanged.
+use Prim.Native.Nat.{ℕ, _≤_, _<_}
+use mathlib.Core.Path.{_≡_, refl, sym, ap, _∙_, subst}
+use mathlib.Core.Bool.{Bool, true, false}
+use mathlib.Core.List.{List}
 use native.Mathlib.Omega.{arith}
 use lib.ListN.{length}
 use lib.Dec.{eqb}
-use borrow.Author.Tests.{eq-eqb, ne-eqb, le-leb, lt-leb}
+use borrow.Author.Tests.{le-leb, lt-leb}
 use Rattle.scan.specs.Choice.{pick, Answer, shown, refused, Read, andThen}
-use Rattle.store.specs.Store.{Wrote}
-use Rattle.store.specs.Entry.{writes, leaves}
-use Rattle.store.proofs.EntryLaws.{short, fitted}
-use Rattle.event.specs.declared.Refusal.{Refusal}
-use Rattle.event.specs.Answers.{told}
-use Rattle.event.specs.Event.{Event}
+use Rattle.scan.proofs.Many.{then-shown}
+use Rattle.buffer.specs.Store.{Wrote}
+use Rattle.buffer.specs.Entry.{writes, leaves}
+use Rattle.buffer.proofs.EntryLaws.{short, fitted}
 use Rattle.notepack.specs.Strict.{pack}
 use Rattle.jsontext.specs.Token.{spaceAt}
-use Rattle.json.specs.Object.{objectAt, wholeAt, readJson}
-use Rattle.jsonread.specs.declared.Cursor.{Cursor}
-use Rattle.jsonread.specs.declared.Fields.{Fields}
-use Rattle.jsonread.specs.declared.FieldsRead.{FieldsRead}
-use Rattle.jsonread.specs.declared.FieldsRead.the-variants as fields-by
-use Rattle.jsonread.specs.Copy.{fieldsText, measured}
-use Rattle.jsonread.specs.Found.{eventBy, Packs, ObjectGood, packs}
-use Rattle.jsonread.specs.Answers.{objectRead, wholeRead}
+use Rattle.json.specs.Field.{under}
+use Rattle.json.specs.Object.{wholeAt, readJson}
+use Rattle.jsonfields.proofs.Items.{never-shown}
+use Rattle.jsonobject.specs.Spotted.{Object, objectSpotsAt}
+use Rattle.jsonobject.proofs.Tells.{eventIn, object-said, object-len}
+use Rattle.jsonread.specs.Copy.{fieldsText}
+use Rattle.jsonread.specs.Whole.{wholeSpotsAt}
+use Rattle.jsonread.proofs.Writing.{object-written}
 
--- ---- the object, and nothing but white space around it
+module _ (s : List ℕ) (l : length s ≤ 65_536) where
+  -- the reading shows the event that the spots say, or both refuse alike
+  whole-said : readJson s ≡ andThen (wholeSpotsAt s) (λ o. shown (eventIn s o))
+  unfolding readJson wholeAt wholeSpotsAt
+  whole-said = rw (le-leb (length s) 65_536 l, object-said s (omega arith) (spaceAt s 0)) (go (objectSpotsAt s (spaceAt s 0)))
+    where
+      by : (o : Read Object) (b : Bool) → pick b (shown (eventIn s (o .value))) (refused 10 (spaceAt s (o .next)))
+          ≡ andThen (pick b (shown (o .value)) (refused 10 (spaceAt s (o .next)))) (λ o. shown (eventIn s o))
+      by o true = refl
+      by o false = refl
 
-module _ (s : List ℕ) {first : ℕ} (g : first ≡ spaceAt s 0) (r : FieldsRead) (e : objectRead s r ≡ objectAt s first) where
-  whole-open : wholeAt s ≡ andThen (objectRead s r) (λ x. pick (eqb (spaceAt s (x .next)) (length s)) (shown (x .value)) (refused 10 (spaceAt s (x .next))))
-  unfolding wholeAt
-  whole-open =
-      ap (λ (a : Answer (Read Event)). andThen a (λ x. pick (eqb (spaceAt s (x .next)) (length s)) (shown (x .value)) (refused 10 (spaceAt s (x .next)))))
-      (ap (objectAt s) (sym g) ∙ sym e)
+      go : (r : Answer (Read Object))
+          → andThen (under (eventIn s) r) (λ e. pick (eqb (spaceAt s (e .next)) (length s)) (shown (e .value)) (refused 10 (spaceAt s (e .next))))
+          ≡ andThen (andThen r (λ o. pick (eqb (spaceAt s (o .next)) (length s)) (shown (o .value)) (refused 10 (spaceAt s (o .next))))) (λ o. shown (eventIn s o))
+      go (shown o) = by o (eqb (spaceAt s (o .next)) (length s))
+      go (refused n p) = refl
 
-  pub whole-refused : {why : Refusal} → r ≡ fields-by.Refused why → told why ≡ wholeAt s
-  whole-refused z = sym (whole-open ∙ rw z)
+  -- what is shown, its length, and what is written of it
+  record Shows (o : Object) : Type 0 where
+    is : readJson s ≡ shown (eventIn s o)
+    len : o .len ≡ length (pack (eventIn s o))
+    text : fieldsText s (o .fields) ≡ pack (eventIn s o)
 
-  module _ {f : Fields} {c : Cursor} (z : r ≡ fields-by.Found f c) {p : ℕ} (q : p ≡ spaceAt s (c .at)) where
-    pub whole-taken : p ≡ length s → shown (eventBy s f) ≡ wholeAt s
-    whole-taken h = sym (whole-open ∙ rw (z, eq-eqb (spaceAt s (c .at)) (length s) (sym q ∙ h)))
+  whole-shows : {r : Answer Object} {o : Object} → r ≡ wholeSpotsAt s → r ≡ shown o → Shows o
+  unfolding wholeSpotsAt
+  whole-shows {r} {o} e z =
+      let at = spaceAt s 0 in
+      let u = then-shown (objectSpotsAt s at) _ _ (sym e ∙ z) in
+      go (u .0) (u .1) (eqb (spaceAt s (u .0 .next)) (length s)) (u .2)
+    where
+      is : readJson s ≡ shown (eventIn s o)
+      is = whole-said ∙ rw (sym e ∙ z)
 
-    pub whole-after : (p ≡ length s → ⊥) → refused 10 p ≡ wholeAt s
-    whole-after h =
-        sym (whole-open ∙ rw (z, ne-eqb (spaceAt s (c .at)) (length s) (λ y. h (q ∙ y))) (ap (λ (i : ℕ). refused 10 i) (sym q)))
+      go : (x : Read Object) → objectSpotsAt s (spaceAt s 0) ≡ shown x → (b : Bool) → pick b (shown (x .value)) (refused 10 (spaceAt s (x .next))) ≡ shown o → Shows o
+      go x f false i = never-shown i
+      go x f true i =
+          let same : x .value ≡ o = shown-is i in
+          let at = spaceAt s 0 in
+          record {
+            is = is;
+            len = subst (λ (o : Object). o .len ≡ length (pack (eventIn s o))) same (object-len s at (omega arith) f);
+            text = subst (λ (o : Object). fieldsText s (o .fields) ≡ pack (eventIn s o)) same (object-written s at f);
+          }
+        where
+          shown-is : {a b : Object} → shown a ≡ shown b → a ≡ b
+          shown-is e = cc
 
--- what was measured of it
-pub object-packs : {s : List ℕ} {r : FieldsRead} {f : Fields} {c : Cursor} → ObjectGood s r → r ≡ fields-by.Found f c → Packs s f
-object-packs {s} {f = f} {c = c} w z = go (rw z at w)
-  where
-    go : ObjectGood s (fields-by.Found f c) → Packs s f
-    go (packs y) = y
+  whole-refuses : {r : Answer Object} {n q : ℕ} → r ≡ wholeSpotsAt s → r ≡ refused n q → readJson s ≡ refused n q
+  whole-refuses e z = whole-said ∙ rw (sym e ∙ z)
 
--- ---- the entry
+  -- ---- the entry
 
-module _ (s d : List ℕ) where
-  pub json-long : 65_536 < length s → (refused 1 0 ≡ writes pack (readJson s) d) × (d ≡ leaves pack (readJson s) d)
+  module _ (d : List ℕ) {r : Answer Object} (e : r ≡ wholeSpotsAt s) where
+    pub json-refused : {n q : ℕ} → r ≡ refused n q → (refused n q ≡ writes pack (readJson s) d) × (d ≡ leaves pack (readJson s) d)
+    json-refused z = let u = whole-refuses e z in (rw u, rw u)
+
+    pub json-short : {o : Object} → r ≡ shown o → length d < o .len → (refused 11 (o .len) ≡ writes pack (readJson s) d) × (d ≡ leaves pack (readJson s) d)
+    json-short {o} z i =
+        let w = whole-shows e z in
+        let u = short (pack (eventIn s o)) d (w .len) i in
+        (rw (w .is) (u .0), rw (w .is) (u .1))
+
+    pub json-fitted : {o : Object} {k : ℕ} {d′ : List ℕ} → r ≡ shown o → o .len ≤ length d → Wrote d 0 (fieldsText s (o .fields)) d′ k
+        → (shown k ≡ writes pack (readJson s) d) × (d′ ≡ leaves pack (readJson s) d)
+    json-fitted {o} {k} {d′} z i y =
+        let w = whole-shows e z in
+        let u = fitted (w .len) i (subst (λ (t : List ℕ). Wrote d 0 t d′ k) (w .text) y) in
+        (rw (w .is) (u .0), rw (w .is) (u .1))
+
+  -- ---- the length alone
+
+  module _ {r : Answer Object} (e : r ≡ wholeSpotsAt s) where
+    pub len-refused : {n q : ℕ} → r ≡ refused n q → refused n q ≡ andThen (readJson s) (λ x. shown (length (pack x)))
+    len-refused z = let u = whole-refuses e z in rw u
+
+    pub len-shown : {o : Object} → r ≡ shown o → shown (o .len) ≡ andThen (readJson s) (λ x. shown (length (pack x)))
+    len-shown z = let w = whole-shows e z in rw (w .is) (ap (λ (i : ℕ). shown i) (w .len))
+
+-- a text that is too long
+module _ (s : List ℕ) (h : 65_536 < length s) where
+  long : readJson s ≡ refused 1 0
   unfolding readJson
-  json-long h = let u = lt-leb (length s) 65_536 h in (rw u, rw u)
+  long = rw (lt-leb (length s) 65_536 h)
 
-  module _ (l : length s ≤ 65_536) (r : FieldsRead) (e : wholeRead s r ≡ wholeAt s) where
-    read-whole : readJson s ≡ wholeRead s r
-    unfolding readJson
-    read-whole = rw (le-leb (length s) 65_536 l) (sym e)
+  pub json-long : (d : List ℕ) → (refused 1 0 ≡ writes pack (readJson s) d) × (d ≡ leaves pack (readJson s) d)
+  json-long d = (rw long, rw long)
 
-    pub json-refused : {why : Refusal} → r ≡ fields-by.Refused why → (told why ≡ writes pack (readJson s) d) × (d ≡ leaves pack (readJson s) d)
-    json-refused z = let u = read-whole ∙ ap (wholeRead s) z in (rw u, rw u)
-
-    module _ {f : Fields} {c : Cursor} (z : r ≡ fields-by.Found f c) (w : ObjectGood s r) where
-      json-shown : readJson s ≡ shown (eventBy s f)
-      json-shown = read-whole ∙ ap (wholeRead s) z
-
-      -- the sum of the lengths fits
-      pub json-small : measured f < 2 ^ 64
-      json-small = omega (arith, object-packs w z .most)
-
-      pub json-short : {n : ℕ} → n ≡ measured f → length d < n → (refused 11 n ≡ writes pack (readJson s) d) × (d ≡ leaves pack (readJson s) d)
-      json-short {n} h i =
-          let u = short (pack (eventBy s f)) d (h ∙ object-packs w z .len) i in
-          (rw json-shown (u .0), rw json-shown (u .1))
-
-      pub json-fitted : {n k : ℕ} {d′ : List ℕ} → n ≡ measured f → n ≤ length d → Wrote d 0 (fieldsText s f) d′ k
-          → (shown k ≡ writes pack (readJson s) d) × (d′ ≡ leaves pack (readJson s) d)
-      json-fitted {n} {k} {d′} h i y =
-          let o = object-packs w z in
-          let u = fitted (h ∙ o .len) i (subst (λ (t : List ℕ). Wrote d 0 t d′ k) (o .writes) y) in
-          (rw json-shown (u .0), rw json-shown (u .1))
-
--- ---- the length alone
-
-module _ (s : List ℕ) where
-  pub len-long : 65_536 < length s → refused 1 0 ≡ andThen (readJson s) (λ x. shown (length (pack x)))
-  unfolding readJson
-  len-long h = let u = lt-leb (length s) 65_536 h in rw u
-
-  module _ (l : length s ≤ 65_536) (r : FieldsRead) (e : wholeRead s r ≡ wholeAt s) where
-    pub len-refused : {why : Refusal} → r ≡ fields-by.Refused why → told why ≡ andThen (readJson s) (λ x. shown (length (pack x)))
-    len-refused z = let u = read-whole s [] l r e ∙ ap (wholeRead s) z in rw u
-
-    pub len-shown : {f : Fields} {c : Cursor} → r ≡ fields-by.Found f c → ObjectGood s r → {n : ℕ} → n ≡ measured f
-        → shown n ≡ andThen (readJson s) (λ x. shown (length (pack x)))
-    len-shown z w h = rw (json-shown s [] l r e z w) (ap (λ (i : ℕ). shown i) (h ∙ object-packs w z .len))
+  pub len-long : refused 1 0 ≡ andThen (readJson s) (λ x. shown (length (pack x)))
+  len-long = rw long

@@ -3,18 +3,17 @@ use Prim.Native.Nat.{ℕ, zero, suc, _+_}
 use mathlib.Core.List.{List, [], _++_}
 use lib.ListN.{length, take, drop}
 use lib.Dec.{ltb, eqb}
-use Rattle.scan.specs.Choice.{pick}
+use Rattle.scan.specs.Choice.{pick, orElse}
 use Rattle.scan.specs.Place.{byteAt}
 use Rattle.varint.specs.Uleb.{uleb}
 use Rattle.hex.specs.Hex.{unhex}
 use Rattle.notepack.specs.Strict.{packElement}
-use Rattle.strict.specs.Copy.{orElse}
-use Rattle.jsontext.specs.declared.Spelled.{Spelled}
 use Rattle.jsontext.specs.Token.{spaceAt}
 use Rattle.jsontext.specs.Text.{stringAt}
 use Rattle.json.specs.Field.{textOf}
-use Rattle.jsonread.specs.declared.Spot.{Spot}
-use Rattle.jsonread.specs.declared.Fields.{Fields}
+use Rattle.jsonfields.specs.declared.Spot.{Spot}
+use Rattle.jsonfields.specs.Spots.{spelledOf}
+use Rattle.jsonobject.specs.declared.Fields.{Fields}
 
 -- behind the byte at a place and white space; the end stays
 unfoldable pub behindAt : List ℕ → ℕ → ℕ
@@ -40,49 +39,30 @@ unfoldable pub textsText : ℕ → List ℕ → ℕ → List ℕ
 textsText zero s at = []
 textsText (suc n) s at = orElse [] (stringAt s at) λ r. packElement (textOf s (r .value)) ++ textsText n s (nextAt s (r .next))
 
-unfoldable pub textsEnd : ℕ → List ℕ → ℕ → ℕ
-textsEnd zero s at = at
-textsEnd (suc n) s at = orElse at (stringAt s at) λ r. textsEnd n s (nextAt s (r .next))
+unfoldable pub jsonTextsEnd : ℕ → List ℕ → ℕ → ℕ
+jsonTextsEnd zero s at = at
+jsonTextsEnd (suc n) s at = orElse at (stringAt s at) λ r. jsonTextsEnd n s (nextAt s (r .next))
 
 -- n tags: the first text of each stands behind its bracket
-unfoldable pub tagText : List ℕ → ℕ → List ℕ
-tagText s first = uleb (countTexts 255 s first) ++ textsText (countTexts 255 s first) s first
+unfoldable pub jsonTagText : List ℕ → ℕ → List ℕ
+jsonTagText s first = uleb (countTexts 255 s first) ++ textsText (countTexts 255 s first) s first
 
-unfoldable pub tagsText : ℕ → List ℕ → ℕ → List ℕ
-tagsText zero s at = []
-tagsText (suc n) s at =
-    tagText s (behindAt s at) ++ tagsText n s (behindAt s (textsEnd (countTexts 255 s (behindAt s at)) s (behindAt s at)))
-
--- the bytes of a string between its quotes
-abbrev pub partOf : Spot → Spelled
-partOf p = record { from = p .from; count = p .count }
+unfoldable pub jsonTagsText : ℕ → List ℕ → ℕ → List ℕ
+jsonTagsText zero s at = []
+jsonTagsText (suc n) s at =
+    jsonTagText s (behindAt s at) ++ jsonTagsText n s (behindAt s (jsonTextsEnd (countTexts 255 s (behindAt s at)) s (behindAt s at)))
 
 -- the content: where it is as long as it is spelled, its bytes as they are
-unfoldable pub contentText : List ℕ → Spot → List ℕ
-contentText s p = pick (eqb (p .number) (p .count)) (take (p .count) (drop (p .from) s)) (textOf s (partOf p))
-
--- a field by its number
-unfoldable pub spotText : ℕ → List ℕ → Spot → List ℕ
-spotText k s p =
-    pick (eqb k 0) (unhex (textOf s (partOf p)))
-    (pick (eqb k 1) (unhex (textOf s (partOf p)))
-    (pick (eqb k 2) (unhex (textOf s (partOf p)))
-    (pick (eqb k 3) (uleb (p .number))
-    (pick (eqb k 4) (uleb (p .number))
-    (pick (eqb k 5) (uleb (p .number) ++ tagsText (p .number) s (p .from))
-    (pick (eqb k 6) (uleb (p .number) ++ contentText s p) []))))))
+unfoldable pub spotContent : List ℕ → Spot → List ℕ
+spotContent s p = pick (eqb (p .number) (p .count)) (take (p .count) (drop (p .from) s)) (textOf s (spelledOf p))
 
 -- the seven fields, in the order of the strict form
 unfoldable pub fieldsText : List ℕ → Fields → List ℕ
 fieldsText s f =
-    spotText 0 s (f .id)
-    ++ spotText 1 s (f .pubkey)
-    ++ spotText 2 s (f .sig)
-    ++ spotText 3 s (f .«created_at»)
-    ++ spotText 4 s (f .kind)
-    ++ spotText 6 s (f .content)
-    ++ spotText 5 s (f .tags)
-
--- their length as it was measured
-unfoldable pub measured : Fields → ℕ
-measured f = f .id .len + f .pubkey .len + f .sig .len + f .«created_at» .len + f .kind .len + f .content .len + f .tags .len
+    unhex (textOf s (spelledOf (f .id)))
+    ++ unhex (textOf s (spelledOf (f .pubkey)))
+    ++ unhex (textOf s (spelledOf (f .sig)))
+    ++ uleb (f .«created_at» .number)
+    ++ uleb (f .kind .number)
+    ++ (uleb (f .content .number) ++ spotContent s (f .content))
+    ++ (uleb (f .tags .number) ++ jsonTagsText (f .tags .number) s (f .tags .from))

@@ -1,5 +1,2 @@
-pub mod Size
 pub mod Copy
-pub mod Found
-pub mod Answers
-pub mod Run
+pub mod Whole

@@ -13,16 +13,16 @@ use borrow.Author.Tests.{lt-ltb, le-ltb, le-leb, lt-leb, eq-eqb, ne-eqb, ltb-tru
 use Rattle.scan.specs.Choice.{pick}
 use Rattle.scan.specs.Place.{within}
 use Rattle.scan.specs.Span.{Span, here, step}
-use Rattle.scan.proofs.Step.{pick-by}
+use Rattle.scan.proofs.Step.{pick-by, byte-none}
 use Rattle.scan.proofs.SpanLaws.{join, cut-at, nth, seen, span-fits}
 use Rattle.utf8.specs.Utf8.{octet}
 use Rattle.utf8.specs.Encode.{Scalar, below, above, encode}
 use Rattle.utf8.proofs.EncodeLaws.{encode-one, encode-length}
-use Rattle.hex.specs.Hex.{Digit, number, letter, valueOf}
+use Rattle.hex.specs.Hex.{LowerHex, number, letter, valueOf}
 use Rattle.hex.proofs.Digits.{in-range, value-digit, value-of-digit}
 use Rattle.jsontext.specs.declared.Escape.{Escape}
 use Rattle.jsontext.specs.Grammar as json
-use Rattle.jsontext.specs.Escape.{hexValue, unitOf, unitAt, escape, noEscape, letterOf, letterEscape, pairOf, unicodeAt, escapeAt}
+use Rattle.jsontext.specs.Escape.{hexValue, unitOf, unitAt, escape, noEscape, unescapedLetter, letterEscape, pairOf, unicodeAt, escapeAt}
 
 -- ---- a hex digit and its value
 
@@ -50,7 +50,7 @@ value-hex b =
     pick-by (λ (v : ℕ). v < 16 → json.HexDigit b v) (within 0x41 0x46 b) (λ t h. let r = in-range 0x41 0x46 b t in json.HexDigit.capital (r .0) (r .1))
     (λ f h. lower (value-digit b h))
   where
-    lower : Digit b → json.HexDigit b (valueOf b)
+    lower : LowerHex b → json.HexDigit b (valueOf b)
     lower (number l h) = rw (value-number b l h) (json.HexDigit.number l h)
     lower (letter l h) = rw (value-letter b l h) (json.HexDigit.small l h)
 
@@ -165,8 +165,8 @@ pub data LetterOf (c : ℕ) : ℕ → Type 0 where
   letter-is : {b : ℕ} → json.Letter c b → LetterOf c b
   no-letter : LetterOf c 0
 
-pub of-letter : (c : ℕ) → LetterOf c (letterOf c)
-unfolding letterOf
+pub of-letter : (c : ℕ) → LetterOf c (unescapedLetter c)
+unfolding unescapedLetter
 of-letter c =
     key 0x22 (λ e. rw e (letter-is json.Letter.quotation-mark))
     (key 0x5C (λ e. rw e (letter-is json.Letter.reverse-solidus))
@@ -179,8 +179,8 @@ of-letter c =
     key : {x y : ℕ} (k : ℕ) → (c ≡ k → LetterOf c x) → LetterOf c y → LetterOf c (pick (eqb c k) x y)
     key k f g = pick-by (LetterOf c) (eqb c k) (λ t. f (eqb-true c k t)) (λ n. g)
 
-letter-of : {c b : ℕ} → json.Letter c b → letterOf c ≡ b
-unfolding letterOf
+letter-of : {c b : ℕ} → json.Letter c b → unescapedLetter c ≡ b
+unfolding unescapedLetter
 letter-of json.Letter.quotation-mark = refl
 letter-of json.Letter.reverse-solidus = refl
 letter-of json.Letter.solidus = refl
@@ -205,7 +205,7 @@ letter-small json.Letter.tab = (omega arith, omega arith, omega arith, omega ari
 
 -- what the answer says: a character of the grammar stands there, in w bytes that are no fewer than its own; or none
 pub data EscapeAt (s : List ℕ) (a : ℕ) : Escape → Type 0 where
-  escape-is : {l : List ℕ} {w n : ℕ} → json.Char l (encode n) → Scalar n → Span s a l (a + w) → length l ≡ w → 1 ≤ w → w ≤ 12 → length (encode n) ≤ w
+  escape-is : {l : List ℕ} {w n : ℕ} → json.SpelledChar l (encode n) → Scalar n → Span s a l (a + w) → length l ≡ w → 1 ≤ w → w ≤ 12 → length (encode n) ≤ w
       → EscapeAt s a (escape w n)
   no-escape : EscapeAt s a noEscape
 
@@ -253,7 +253,7 @@ letter-at s a b e no-letter = no-escape
 letter-at s a b e (letter-is g) =
     let h = letter-small g in
     let o = encode-one b (h .1) in
-    let c : json.Char (0x5C ∷ getD s (a + 1) 0 ∷ []) (encode b) = rw o (json.letter g) in
+    let c : json.SpelledChar (0x5C ∷ getD s (a + 1) 0 ∷ []) (encode b) = rw o (json.letter g) in
     pick-escape (eqb b 0) (λ t. no-escape)
     (λ f.
     escape-is c (below (omega arith))
@@ -265,7 +265,7 @@ pub escape-at : (s : List ℕ) (a : ℕ) → getD s a 0 ≡ 0x5C → EscapeAt s 
 unfolding escapeAt
 escape-at s a e =
     pick-escape (eqb (getD s (a + 1) 0) 0x75) (λ t. unicode-at s a (unitAt s a) (unit-at s a))
-    (λ f. letter-at s a (letterOf (getD s (a + 1) 0)) e (of-letter (getD s (a + 1) 0)))
+    (λ f. letter-at s a (unescapedLetter (getD s (a + 1) 0)) e (of-letter (getD s (a + 1) 0)))
 
 -- accepts: each of the grammar's characters that begin with a backslash is found
 pub escape-letter : {s : List ℕ} {a e c b : ℕ} → json.Letter c b → Span s a (0x5C ∷ c ∷ []) e → escapeAt s a ≡ escape 2 b
@@ -310,3 +310,8 @@ escape-within s a e h = go (escape-at s a e)
 
 pub width-fits : (s : List ℕ) (i : ℕ) {e : Escape} → length s < 2 ^ 64 → i < length s → getD s i 0 ≡ 0x5C → e ≡ escapeAt s i → Fits w64 (i + e .width)
 width-fits s i l h q e = let w = escape-within s i q h in rw e (omega arith)
+
+-- past the end there is none
+pub escape-none : (s : List ℕ) (a : ℕ) → length s ≤ a → escapeAt s a ≡ noEscape
+unfolding escapeAt letterEscape unescapedLetter
+escape-none s a h = rw (byte-none s (a + 1) (omega arith))

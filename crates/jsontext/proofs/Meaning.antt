@@ -4,7 +4,9 @@ use Prim.Native.Nat.{ℕ, zero, suc, _+_, _-_, _<_, _≤_}
 use mathlib.Core.Path.{_≡_, refl, sym, ap, _∙_}
 use mathlib.Core.List.{List, [], _∷_, _++_, append-assoc, append-nil}
 use native.Mathlib.Nat.{add-zero, add-assoc, zero-add}
+use mathlib.Core.Logic.{dite}
 use native.Mathlib.Omega.{arith}
+use native.Mathlib.Decide.{decLt}
 use lib.ListN.{length, getD, drop, length-append}
 use lib.Seq.{getD-drop, drop-drop, drop-append-seam}
 use lib.Dec.{eqb}
@@ -21,7 +23,7 @@ use Rattle.jsontext.specs.declared.Escape.{Escape}
 use Rattle.jsontext.specs.Grammar as json
 use Rattle.jsontext.specs.Escape.{unitAt, escape, unicodeAt, escapeAt, orItself, unescaped, unescape}
 use Rattle.jsontext.proofs.EscapeLaws.{escape-letter, escape-unicode, escape-pair, unit-length, letter-small, pair-scalar}
-use Rattle.jsontext.proofs.TextLaws.{high-bytes, Kind, narrow, wide, kind}
+use Rattle.jsontext.proofs.TextLaws.{to-ascii, high-bytes, Kind, narrow, wide, kind}
 
 -- ---- one step at a place
 
@@ -116,7 +118,7 @@ slash : {s l : List ℕ} {a c u : ℕ} → json.Unit l u → Span s a l c → ge
 slash (json.unit p q r t) (step h e x) = e
 
 -- over ++ of whole characters: a character of the grammar in front gives the bytes that it stands for
-pub unescape-char : {c t : List ℕ} → json.Char c t → (l : List ℕ) → unescape (c ++ l) ≡ t ++ unescape l
+pub unescape-char : {c t : List ℕ} → json.SpelledChar c t → (l : List ℕ) → unescape (c ++ l) ≡ t ++ unescape l
 unescape-char (json.unescaped g) l = unescape-plain (unescaped-plain g) l
 unescape-char {c} (json.letter {b = b} g) l =
     escape-front c l 2 b (omega arith) refl refl (escape-letter g (to-span (c ++ l) c l 0 refl)) ∙ ap (λ (m : List ℕ). m ++ unescape l) (encode-one b (letter-small g .1))
@@ -156,7 +158,7 @@ unescaped-char (json.to-5B {b = b} (utf8.octet p q)) = utf8.one (utf8.octet {b =
 unescaped-char (json.to-7F {b = b} (utf8.octet p q)) = utf8.one (utf8.octet {b = b} (omega arith) (omega arith))
 unescaped-char (json.Unescaped.above g) = g
 
-char-utf8 : {c t : List ℕ} → json.Char c t → utf8.Utf8 t
+char-utf8 : {c t : List ℕ} → json.SpelledChar c t → utf8.Utf8 t
 char-utf8 (json.unescaped g) = utf8-char (unescaped-char g)
 char-utf8 (json.letter {b = b} g) = let h = letter-small g in utf8-char (utf8.one (utf8.octet {b = b} (omega arith) (omega arith)))
 char-utf8 (json.unicode g n) = encode-utf8 n
@@ -173,7 +175,7 @@ unescape-utf8 g = rw (unescape-chars g) (chars-utf8 g)
 -- ---- a text is no longer than it is spelled
 
 -- a character of the grammar is no longer than it is spelled, and as long only where it stands for itself
-char-same : {c t : List ℕ} → json.Char c t → (length t ≤ length c) × (length t ≡ length c → t ≡ c)
+char-same : {c t : List ℕ} → json.SpelledChar c t → (length t ≤ length c) × (length t ≡ length c → t ≡ c)
 char-same (json.unescaped g) = (omega arith, λ e. refl)
 char-same (json.letter g) = (omega arith, λ e. absurd (omega arith))
 char-same (json.unicode {u = u} p g) = let n = encode-length g in let k = unit-length p in (omega arith, λ e. absurd (omega arith))
@@ -221,18 +223,22 @@ unescape-back f escaped s z k (b ∷ t) =
 -- how a byte of a text may be spelled in a string of the grammar
 pub data Written : ℕ → List ℕ → Type 0 where
   high : {b : ℕ} → 0x80 ≤ b → Written b (b ∷ [])
-  ascii : {b : ℕ} → b < 0x80 → json.Unescaped (b ∷ []) → Written b (b ∷ [])
-  lettered : {c b : ℕ} → json.Letter c b → Written b (0x5C ∷ c ∷ [])
+  ascii : {b : ℕ} {l : List ℕ} → b < 0x80 → json.SpelledChar l (b ∷ []) → Written b l
+
+-- by itself, or by a letter
+pub by-itself : (b : ℕ) → 0x20 ≤ b → (b ≡ 0x22 → ⊥) → (b ≡ 0x5C → ⊥) → Written b (b ∷ [])
+by-itself b h q s = dite (decLt b 0x80) (λ a. ascii a (json.unescaped (to-ascii b h a q s))) (λ a. high (omega (arith, a)))
+
+pub by-letter : {c b : ℕ} → json.Letter c b → Written b (0x5C ∷ c ∷ [])
+by-letter g = ascii (letter-small g .1) (json.letter g)
 
 written-high : {b : ℕ} {l : List ℕ} → 0x80 ≤ b → Written b l → l ≡ b ∷ []
 written-high h (high k) = refl
-written-high h (ascii k g) = refl
-written-high h (Written.lettered g) = absurd (omega (arith, letter-small g))
+written-high h (ascii k g) = absurd (omega arith)
 
-written-ascii : {b : ℕ} {l : List ℕ} → b < 0x80 → Written b l → json.Char l (b ∷ [])
+written-ascii : {b : ℕ} {l : List ℕ} → b < 0x80 → Written b l → json.SpelledChar l (b ∷ [])
 written-ascii h (high k) = absurd (omega arith)
-written-ascii h (ascii k g) = json.unescaped g
-written-ascii h (Written.lettered g) = json.letter g
+written-ascii h (ascii k g) = g
 
 module _ (f : ℕ → List ℕ) (escaped : List ℕ → List ℕ) (z : escaped [] ≡ []) (k : (b : ℕ) (t : List ℕ) → escaped (b ∷ t) ≡ f b ++ escaped t) where
   -- bytes above ASCII stand as they are

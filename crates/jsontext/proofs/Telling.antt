@@ -16,11 +16,10 @@ use Rattle.utf8.specs.Width.{widthAt}
 use Rattle.event.specs.Tells.{Tells, value, refusal}
 use Rattle.event.proofs.TellsLaws.{Inside, then-tells, pick-tells}
 use Rattle.jsontext.specs.Escape.{escapeAt}
-use Rattle.jsontext.specs.Token.{Skipped, spaceAt, wordAt, minusAt, intAt, numberFrom, unsignedFrom, numberAt}
+use Rattle.jsontext.specs.Token.{Skipped, spaceAt, wordAt, minusAt, intAt, numberFrom, unsignedFrom, skipNumber}
 use Rattle.jsontext.specs.Text.{charsAt, stringAt}
-use Rattle.jsontext.specs.Value.{valueNumbers, falseWord, nullWord, trueWord, colonAt, memberAt, itemAt, afterItem, itemsAt, insideAt, valueBy, walkBy, valueAt}
-use Rattle.jsontext.proofs.TokenLaws.{word-consumes, number-consumes}
-use Rattle.jsontext.proofs.Walk.{space-inside}
+use Rattle.jsontext.specs.Value.{valueNumbers, falseWord, nullWord, trueWord, skipColon, skipMember, skipItem, skipAfter, skipItems, skipInside, skipValueBy, skipWalkBy, valueAt}
+use Rattle.jsontext.proofs.TokenLaws.{word-consumes, number-consumes, space-inside}
 
 -- ---- places within the input
 
@@ -46,10 +45,10 @@ word-tells w s a h =
     let t : Tells valueNumbers (length s) (λ (r : Read _). Unit {0}) (wordAt w s a) = pick-tells (standsAt w s a) (λ t. value tt) (λ f. refusal refl h) in
     reads-inside h (word-consumes w s a) t
 
-pub number-tells : (s : List ℕ) (a : ℕ) → a ≤ length s → Inside valueNumbers (length s) (numberAt s a)
-unfolding numberAt unsignedFrom numberFrom
+pub number-tells : (s : List ℕ) (a : ℕ) → a ≤ length s → Inside valueNumbers (length s) (skipNumber s a)
+unfolding skipNumber unsignedFrom numberFrom
 number-tells s a h =
-    let t : Tells valueNumbers (length s) (λ (r : Read _). Unit {0}) (numberAt s a) =
+    let t : Tells valueNumbers (length s) (λ (r : Read _). Unit {0}) (skipNumber s a) =
     pick-tells (eqb (intAt s (minusAt s a)) (minusAt s a)) (λ t. refusal refl h) (λ f. value tt) in
     reads-inside h (number-consumes s a) t
 
@@ -78,23 +77,23 @@ string-tells s a h =
 
 module _ (s : List ℕ) where
   colon-tells : (val : ℕ → Skipped) → ((a : ℕ) → a ≤ length s → Inside valueNumbers (length s) (val a)) → (p : ℕ) → p ≤ length s
-      → Inside valueNumbers (length s) (colonAt val s p)
-  unfolding colonAt
+      → Inside valueNumbers (length s) (skipColon val s p)
+  unfolding skipColon
   colon-tells val g p h = pick-tells (eqb (getD s p 0) 0x3A) (λ t. g (spaceAt s (p + 1)) (space-behind s p 0x3A refl t)) (λ f. refusal refl h)
 
   member-tells : (val : ℕ → Skipped) → ((a : ℕ) → a ≤ length s → Inside valueNumbers (length s) (val a)) → (a : ℕ) → a ≤ length s
-      → Inside valueNumbers (length s) (memberAt val s a)
-  unfolding memberAt
+      → Inside valueNumbers (length s) (skipMember val s a)
+  unfolding skipMember
   member-tells val g a h = then-tells _ (string-tells s a h) (λ n e. colon-tells val g (spaceAt s (n .next)) (space-inside s (n .next) e))
 
   item-tells : (close : ℕ) (val : ℕ → Skipped) → ((a : ℕ) → a ≤ length s → Inside valueNumbers (length s) (val a)) → (a : ℕ) → a ≤ length s
-      → Inside valueNumbers (length s) (itemAt close val s a)
-  unfolding itemAt
+      → Inside valueNumbers (length s) (skipItem close val s a)
+  unfolding skipItem
   item-tells close val g a h = pick-tells (eqb close 0x7D) (λ t. member-tells val g a h) (λ f. g a h)
 
   module _ (close : ℕ) (z : eqb 0 close ≡ false) (item : ℕ → Skipped) (g : (a : ℕ) → a ≤ length s → Inside valueNumbers (length s) (item a)) where
-    items-tell : (fuel a : ℕ) → a ≤ length s → Inside valueNumbers (length s) (itemsAt close item fuel s a)
-    unfolding itemsAt afterItem
+    items-tell : (fuel a : ℕ) → a ≤ length s → Inside valueNumbers (length s) (skipItems close item fuel s a)
+    unfolding skipItems skipAfter
     items-tell zero a h = refusal refl h
     items-tell (suc fuel) a h =
         then-tells _ (g a h)
@@ -105,14 +104,14 @@ module _ (s : List ℕ) where
         pick-tells (eqb (getD s p 0) 0x2C) (λ t. items-tell fuel (spaceAt s (p + 1)) (space-behind s p 0x2C refl t))
         (λ n. refusal refl (space-inside s (r .next) e))))
 
-    inside-tells : (p : ℕ) → p ≤ length s → Inside valueNumbers (length s) (insideAt close item s p)
-    unfolding insideAt
+    inside-tells : (p : ℕ) → p ≤ length s → Inside valueNumbers (length s) (skipInside close item s p)
+    unfolding skipInside
     inside-tells p h =
         pick-tells (eqb (getD s p 0) close) (λ t. let n = byte-inside s p close z t in value (omega arith)) (λ f. items-tell (length s) p h)
 
   by-tells : (walk : ℕ → ℕ → Skipped) → ((close a : ℕ) → eqb 0 close ≡ false → a < length s → Inside valueNumbers (length s) (walk close a)) → (a : ℕ) → a ≤ length s
-      → Inside valueNumbers (length s) (valueBy walk s a)
-  unfolding valueBy
+      → Inside valueNumbers (length s) (skipValueBy walk s a)
+  unfolding skipValueBy
   by-tells walk g a h =
       pick-tells (eqb (getD s a 0) 0x22) (λ t. then-tells _ (string-tells s a h) (λ r e. value e))
       (λ f.
@@ -127,11 +126,11 @@ module _ (s : List ℕ) where
 
   -- THE law of a value's reading
   pub value-tells : (depth a : ℕ) → a ≤ length s → Inside valueNumbers (length s) (valueAt depth s a)
-  unfolding valueAt walkBy
+  unfolding valueAt skipWalkBy
   value-tells zero a h = by-tells _ (λ close p z k. refusal {p = p} refl (omega arith)) a h
   value-tells (suc depth) a h =
       by-tells _
       (λ close p z k.
-      inside-tells close z (itemAt close (valueAt depth s) s) (item-tells close (valueAt depth s) (value-tells depth)) (spaceAt s (p + 1)) (space-inside s (p + 1) (omega arith)))
+      inside-tells close z (skipItem close (valueAt depth s) s) (item-tells close (valueAt depth s) (value-tells depth)) (spaceAt s (p + 1)) (space-inside s (p + 1) (omega arith)))
       a
       h

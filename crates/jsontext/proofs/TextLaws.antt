@@ -28,7 +28,7 @@ use Rattle.jsontext.proofs.EscapeLaws.{EscapeAt, escape-is, no-escape, 
 -- ---- unescaped characters by their first byte
 
 -- one byte
-to-ascii : (b : ℕ) → 0x20 ≤ b → b < 0x80 → (b ≡ 0x22 → ⊥) → (b ≡ 0x5C → ⊥) → json.Unescaped (b ∷ [])
+pub to-ascii : (b : ℕ) → 0x20 ≤ b → b < 0x80 → (b ≡ 0x22 → ⊥) → (b ≡ 0x5C → ⊥) → json.Unescaped (b ∷ [])
 to-ascii b l h p q =
     dite (decLt b 0x22) (λ k. json.to-21 (utf8.octet l (omega arith)))
     (λ m.
@@ -82,7 +82,7 @@ data Rest (start i : ℕ) : Spelled → List ℕ → Type 0 where
   rest : {l t : List ℕ} {n : ℕ} → json.Chars l t → n ≡ i + length l - (start + 1) → Rest start i (record { from = start + 1; count = n }) (l ++ (0x22 ∷ []))
 
 -- one character more in front
-further : {s c t l : List ℕ} {start i j e : ℕ} {x : Spelled} → json.Char c t → Span s i c j → Rest start j x l → Span s j l e
+further : {s c t l : List ℕ} {start i j e : ℕ} {x : Spelled} → json.SpelledChar c t → Span s i c j → Rest start j x l → Span s j l e
     → Reads (Rest start i) s i (read x e)
 further {c = c} {start = start} {i = i} {e = e} g r (rest {l = m} {n = n} h q) p =
     let k = span-length r in
@@ -121,7 +121,7 @@ chars-consume (suc k) s start i =
 
 -- the string that starts at a: its spelled bytes stand behind the quote
 pub data StringAt (a : ℕ) : Spelled → List ℕ → Type 0 where
-  string-is : {l q : List ℕ} {n : ℕ} → json.Quoted l q → n ≡ length l → StringAt a (record { from = a + 1; count = n }) q
+  string-is : {l q : List ℕ} {n : ℕ} → json.QuotedChars l q → n ≡ length l → StringAt a (record { from = a + 1; count = n }) q
 
 -- consumes: what is read as a string is one
 pub string-consumes : (s : List ℕ) (a : ℕ) → Reads (StringAt a) s a (stringAt s a)
@@ -168,7 +168,7 @@ slash : {s l : List ℕ} {a c u : ℕ} → json.Unit l u → Span s a l c → ge
 slash (json.unit p q r t) (step h e x) = e
 
 -- each character is passed
-char-step : {s c t : List ℕ} {i j : ℕ} (k start : ℕ) → json.Char c t → Span s i c j → charsAt (suc k) s start i ≡ charsAt k s start j
+char-step : {s c t : List ℕ} {i j : ℕ} (k start : ℕ) → json.SpelledChar c t → Span s i c j → charsAt (suc k) s start i ≡ charsAt k s start j
 char-step {s} {i = i} {j = j} k start (json.unescaped (json.to-21 {b = b} (utf8.octet l h))) (step p e here) =
     ascii-step s i k start b e l (omega arith) (λ x. omega arith) (λ x. omega arith)
 char-step {s} {i = i} {j = j} k start (json.unescaped (json.to-5B {b = b} (utf8.octet l h))) (step p e here) =
@@ -184,7 +184,7 @@ char-step {s} {i = i} {j = j} k start (json.pair {l = l} {m = m} {u = u} {v = v}
     (omega (arith, span-length r, length-append l m, unit-length p, unit-length q))
 
 -- a character has a byte
-char-some : {c t : List ℕ} → json.Char c t → 1 ≤ length c
+char-some : {c t : List ℕ} → json.SpelledChar c t → 1 ≤ length c
 char-some (json.unescaped (json.to-21 g)) = omega arith
 char-some (json.unescaped (json.to-5B g)) = omega arith
 char-some (json.unescaped (json.to-7F g)) = omega arith
@@ -203,7 +203,7 @@ chars-accept (suc k) start (json.char {c = c} {l = l} g f) r h e =
     char-step k start g (u .1) ∙ chars-accept k start f (u .2) (omega (arith, length-append c l, char-some g)) e
 
 -- accepts: a string of the grammar is read, and its spelled bytes are told
-pub string-accepts : {s l q : List ℕ} {a c : ℕ} → json.Quoted l q → Span s a q c → stringAt s a ≡ read (record { from = a + 1; count = length l }) c
+pub string-accepts : {s l q : List ℕ} {a c : ℕ} → json.QuotedChars l q → Span s a q c → stringAt s a ≡ read (record { from = a + 1; count = length l }) c
 unfolding stringAt
 string-accepts {s} {a = a} {c = c} (json.quoted {l = l} g) (step h e r) =
     let u = cut l r in
@@ -251,15 +251,15 @@ string-no-escape g r e w = string-open g r .1 ∙ rw (e, w)
 -- ---- the bytes between the quotes
 
 -- the spelled bytes are the part of the input that is told
-pub quoted-part : {s l q : List ℕ} {a c : ℕ} → json.Quoted l q → Span s a q c → take (length l) (drop (a + 1) s) ≡ l
+pub quoted-part : {s l q : List ℕ} {a c : ℕ} → json.QuotedChars l q → Span s a q c → take (length l) (drop (a + 1) s) ≡ l
 quoted-part {s} (json.quoted {l = l} g) (step h e r) = let u = cut l r in rw (from-span (u .1)) (take-at l (drop (u .0) s) (length l) refl)
 
 -- what is read: the spelled bytes stand behind the quote, they are characters of the grammar, and the closing quote follows
 pub string-reads : {s : List ℕ} {a : ℕ} {x : Spelled} {e : ℕ} → stringAt s a ≡ read x e
-    → (l : List ℕ) × (q : List ℕ) × json.Quoted l q × Span s a q e × (x ≡ record { from = a + 1; count = length l }) × (take (x .count) (drop (x .from) s) ≡ l)
+    → (l : List ℕ) × (q : List ℕ) × json.QuotedChars l q × Span s a q e × (x ≡ record { from = a + 1; count = length l }) × (take (x .count) (drop (x .from) s) ≡ l)
 string-reads {s} {a} f = go (rw f at (string-consumes s a))
   where
     go : {x : Spelled} {e : ℕ} → Reads (StringAt a) s a (read x e)
-        → (l : List ℕ) × (q : List ℕ) × json.Quoted l q × Span s a q e × (x ≡ record { from = a + 1; count = length l }) × (take (x .count) (drop (x .from) s) ≡ l)
+        → (l : List ℕ) × (q : List ℕ) × json.QuotedChars l q × Span s a q e × (x ≡ record { from = a + 1; count = length l }) × (take (x .count) (drop (x .from) s) ≡ l)
     go (reads (string-is {l = l} {q = q} {n = n} g h) r) =
         (l, q, g, r, ap (λ (m : ℕ). record { from = a + 1; count = m }) h, rw h (quoted-part g r))

@@ -12,12 +12,13 @@ use Rattle.scan.specs.Choice.{pick}
 use Rattle.scan.specs.Place.{within, runAt, standsAt}
 use Rattle.scan.specs.Span.{Span, here, step, also}
 use Rattle.scan.proofs.Step.{pick-by}
-use Rattle.scan.proofs.SpanLaws.{join, cut, bite, seen, span-length}
+use Rattle.scan.proofs.SpanLaws.{join, cut, bite, seen, span-length, span-fits}
 use Rattle.scan.proofs.PlaceLaws.{run-again, run-span, span-run, span-stands, stands-span}
 use Rattle.scan.proofs.Reading.{Reads, reads, fails, pick-reads}
 use Rattle.hex.proofs.Digits.{in-range}
 use Rattle.jsontext.specs.Grammar as json
-use Rattle.jsontext.specs.Token.{Done, done, past, isSpace, spaceAt, wordAt, isDigit, digitsOr, minusAt, signAt, intAt, fracAt, isE, expAt, numberFrom, unsignedFrom, numberAt}
+use Rattle.jsontext.specs.Token.{Done, done, past, isSpace, spaceAt, wordAt, digitsOr, minusAt, signAt, intAt, fracAt, isE, expAt, numberFrom, unsignedFrom, skipNumber}
+use Rattle.decimal.specs.Decimal.{DecimalDigit, digit, isDigit}
 
 -- a piece of G stands from a to e
 pub data Ends (G : List ℕ → Type 0) (s : List ℕ) (a : ℕ) : ℕ → Type 0 where
@@ -54,6 +55,19 @@ pub space-consumes : (s : List ℕ) (a : ℕ) → Ends json.Ws s a (spaceAt s a)
 unfolding spaceAt
 space-consumes s a = let r = run-span isSpace json.Space to-space s a in ends (r .1) (r .2)
 
+-- it goes on, and ends within the input
+pub space-onward : (s : List ℕ) (a : ℕ) → a ≤ spaceAt s a
+space-onward s a = go (space-consumes s a)
+  where
+    go : {G : List ℕ → Type 0} {e : ℕ} → Ends G s a e → a ≤ e
+    go (ends g r) = omega (arith, span-length r)
+
+pub space-inside : (s : List ℕ) (a : ℕ) → a ≤ length s → spaceAt s a ≤ length s
+space-inside s a h = go (space-consumes s a)
+  where
+    go : {G : List ℕ → Type 0} {e : ℕ} → Ends G s a e → e ≤ length s
+    go (ends g r) = omega (arith, span-length r, span-fits r)
+
 -- accepts: white space behind which none follows
 pub space-accepts : {s w : List ℕ} {a c : ℕ} → json.Ws w → Span s a w c → isSpace (getD s c 0) ≡ false → spaceAt s a ≡ c
 unfolding spaceAt
@@ -73,31 +87,30 @@ word-accepts {w} {s} {a} {c} r = rw (span-stands r, ← span-length r)
 
 -- ---- digits
 
-to-digit : (b : ℕ) → within 0x30 0x39 b ≡ true → json.Digit b
-to-digit b t = let r = in-range 0x30 0x39 b t in json.digit (r .0) (r .1)
+to-digit : (b : ℕ) → isDigit b ≡ true → DecimalDigit b
+to-digit b t = let r = in-range 0x30 0x39 b t in digit (r .0) (r .1)
 
-of-digit : (b : ℕ) → json.Digit b → within 0x30 0x39 b ≡ true
+of-digit : (b : ℕ) → DecimalDigit b → isDigit b ≡ true
 unfolding within
-of-digit b (json.digit l h) = simp (le-leb 0x30 b l, le-leb b 0x39 h)
+of-digit b (digit l h) = simp (le-leb 0x30 b l, le-leb b 0x39 h)
 
-digits-consume : (s : List ℕ) (a : ℕ) → isDigit (getD s a 0) ≡ true → Ends json.Digits s a (runAt (within 0x30 0x39) s a)
-unfolding isDigit within
+digits-consume : (s : List ℕ) (a : ℕ) → isDigit (getD s a 0) ≡ true → Ends json.SomeDigits s a (runAt isDigit s a)
+unfolding within
 digits-consume s a t =
-    let h = seen (within 0x30 0x39) s a refl t in
-    let e = run-again (within 0x30 0x39) s a a true refl h (sym t) refl in
-    let r = run-span (within 0x30 0x39) json.Digit to-digit s (a + 1) in
-    rw e (ends {e = runAt (within 0x30 0x39) s (a + 1)} (json.digits (to-digit (getD s a 0) t) (r .1)) (step h refl (r .2)))
+    let h = seen isDigit s a refl t in
+    let e = run-again isDigit s a a true refl h (sym t) refl in
+    let r = run-span isDigit DecimalDigit to-digit s (a + 1) in
+    rw e (ends {e = runAt isDigit s (a + 1)} (json.digits (to-digit (getD s a 0) t) (r .1)) (step h refl (r .2)))
 
-digits-accept : {s l : List ℕ} {a c : ℕ} (other : ℕ) → json.Digits l → Span s a l c → isDigit (getD s c 0) ≡ false
+digits-accept : {s l : List ℕ} {a c : ℕ} (other : ℕ) → json.SomeDigits l → Span s a l c → isDigit (getD s c 0) ≡ false
     → (digitsOr s a other ≡ c) × (isDigit (getD s a 0) ≡ true)
-unfolding digitsOr isDigit
+unfolding digitsOr
 digits-accept {s} {a = a} other (json.digits {b = b} g m) (step h e r) n =
     let t : within 0x30 0x39 (getD s a 0) ≡ true = rw e (of-digit b g) in
-    (rw t (span-run (within 0x30 0x39) json.Digit of-digit s (also g m) (step h e r) (λ k. n)), t)
+    (rw t (span-run isDigit DecimalDigit of-digit s (also g m) (step h e r) (λ k. n)), t)
 
 -- a digit is none of the marks
 digit-range : (b : ℕ) → isDigit b ≡ true → (0x30 ≤ b) × (b ≤ 0x39)
-unfolding isDigit
 digit-range b t = in-range 0x30 0x39 b t
 
 -- ---- the parts of a number, consumed
@@ -111,7 +124,7 @@ int-consumes s a =
     pick-by (λ (e : ℕ). (e ≡ a → ⊥) → Ends json.Int s a e) (isDigit (getD s a 0)) (λ t n. nonzero f t (digits-consume s a t))
     (λ g n. absurd (n refl)))
   where
-    nonzero : {e : ℕ} → eqb (getD s a 0) 0x30 ≡ false → isDigit (getD s a 0) ≡ true → Ends json.Digits s a e → Ends json.Int s a e
+    nonzero : {e : ℕ} → eqb (getD s a 0) 0x30 ≡ false → isDigit (getD s a 0) ≡ true → Ends json.SomeDigits s a e → Ends json.Int s a e
     nonzero f t (ends (json.digits {b = b} g m) (step h q r)) =
         let u = digit-range (getD s a 0) t in
         let n = eqb-false (getD s a 0) 0x30 f in
@@ -154,8 +167,8 @@ exp-consumes s a =
     (λ t. ends json.no-exp here)
 
 -- consumes: what is read as a number is one
-pub number-consumes : (s : List ℕ) (a : ℕ) → Reads (λ (x : Done). json.Number) s a (numberAt s a)
-unfolding numberAt unsignedFrom numberFrom
+pub number-consumes : (s : List ℕ) (a : ℕ) → Reads (λ (x : Done). json.Number) s a (skipNumber s a)
+unfolding skipNumber unsignedFrom numberFrom
 number-consumes s a =
     pick-reads (eqb (intAt s (minusAt s a)) (minusAt s a)) (λ t. fails)
     (λ f.
@@ -177,35 +190,35 @@ pub record Stop (b : ℕ) : Type 0 where
 
 -- the end of the input, and each byte that may stand behind a value
 pub stop-end : Stop 0
-unfolding isDigit within isE
+unfolding within isE
 stop-end = record { no-digit = refl; no-point = refl; no-e = refl }
 
 pub stop-comma : Stop 0x2C
-unfolding isDigit within isE
+unfolding within isE
 stop-comma = record { no-digit = refl; no-point = refl; no-e = refl }
 
 pub stop-bracket : Stop 0x5D
-unfolding isDigit within isE
+unfolding within isE
 stop-bracket = record { no-digit = refl; no-point = refl; no-e = refl }
 
 pub stop-brace : Stop 0x7D
-unfolding isDigit within isE
+unfolding within isE
 stop-brace = record { no-digit = refl; no-point = refl; no-e = refl }
 
 pub stop-space : {b : ℕ} → json.Space b → Stop b
-unfolding isDigit within isE
+unfolding within isE
 stop-space json.blank = record { no-digit = refl; no-point = refl; no-e = refl }
 stop-space json.Space.tab = record { no-digit = refl; no-point = refl; no-e = refl }
 stop-space json.feed = record { no-digit = refl; no-point = refl; no-e = refl }
 stop-space json.return = record { no-digit = refl; no-point = refl; no-e = refl }
 
 mark : {b : ℕ} → json.E b → (isE b ≡ true) × (isDigit b ≡ false) × (eqb b 0x2E ≡ false)
-unfolding isDigit within isE
+unfolding within isE
 mark json.E.small = (refl, refl, refl)
 mark json.E.capital = (refl, refl, refl)
 
 digit-zero : isDigit 0x30 ≡ true
-unfolding isDigit within
+unfolding within
 digit-zero = refl
 
 sign-accepts : {s l : List ℕ} {a c : ℕ} → json.Sign l → Span s a l c → isDigit (getD s c 0) ≡ true → signAt s a ≡ c
@@ -235,7 +248,7 @@ exp-accepts {s} {a = a} (json.exp {b = b} {g = g} e x y) (step h q r) st =
 
 frac-accepts : {s l : List ℕ} {a c : ℕ} → json.Frac l → Span s a l c → isDigit (getD s c 0) ≡ false → eqb (getD s c 0) 0x2E ≡ false
     → (fracAt s a ≡ c) × (isDigit (getD s a 0) ≡ false)
-unfolding fracAt isDigit within
+unfolding fracAt within
 frac-accepts json.no-frac here f g = (rw g, f)
 frac-accepts {s} {a = a} (json.frac d) (step h q r) f g = let u = digits-accept a d r f in (rw q (u .0), rw q)
 
@@ -244,13 +257,13 @@ int-accepts : {s l : List ℕ} {a c : ℕ} → json.Int l → Span s a l c → i
 unfolding intAt
 int-accepts {s} {a = a} json.zero (step h q here) n = (rw q, rw q digit-zero)
 int-accepts {s} {a = a} (json.digit1-9 {b = b} {l = l} p t m) (step h q r) n =
-    let g = json.digit {b = b} (omega arith) t in
+    let g = digit {b = b} (omega arith) t in
     let d = digits-accept a (json.digits g m) (step h q r) n in
     (rw (q, ne-eqb b 0x30 (λ e. omega arith)) (d .0), d .1)
 
 -- accepts: a number behind which nothing stands that can lengthen it
-pub number-accepts : {s l : List ℕ} {a c : ℕ} → json.Number l → Span s a l c → Stop (getD s c 0) → numberAt s a ≡ past c
-unfolding numberAt unsignedFrom numberFrom
+pub number-accepts : {s l : List ℕ} {a c : ℕ} → json.Number l → Span s a l c → Stop (getD s c 0) → skipNumber s a ≡ past c
+unfolding skipNumber unsignedFrom numberFrom
 number-accepts {s} {a = a} (json.Number.number {m = m} {i = i} {f = f} n j g e) r st =
     let u = cut m r in
     let v = cut i (u .2) in

@@ -34,7 +34,7 @@ value-ends {v} {w} g p st h q su =
     next-of (sym (value-accepts n h (omega arith) q (λ k e. su)) ∙ value-accepts n g (omega arith) p (λ k e. st))
 
 -- strings
-string-ends : {s k l q r : List ℕ} {a c d : ℕ} → json.Quoted k q → Span s a q c → json.Quoted l r → Span s a r d → (d ≡ c) × (k ≡ l)
+string-ends : {s k l q r : List ℕ} {a c d : ℕ} → json.QuotedChars k q → Span s a q c → json.QuotedChars l r → Span s a r d → (d ≡ c) × (k ≡ l)
 string-ends {s} {a = a} g p h q =
     let e = sym (string-accepts h q) ∙ string-accepts g p in
     let n = ap (λ (x : Spelled). x .count) (value-of e) in
@@ -64,9 +64,9 @@ item-first {s} (from-items (json.more-items {l = l} {c = c} {i = i} g k is) r st
     items-row {i = i} g (u .1) (separator-stop k (w .1)) (rw (y .1) (y .2)) (rw (y .1, y .3) (from-items is (w .2) st e))
 
 data MemberRow (s : List ℕ) (p : ℕ) : json.Members → Type 0 where
-  member-row : {n q : List ℕ} {f : ℕ} {v : json.Json} {l : List ℕ} {e : ℕ} → json.Quoted n q → Span s p q f → json.Spells v l → Span s (spaceAt s (spaceAt s f + 1)) l e → Stop (getD s e 0)
+  member-row : {n q : List ℕ} {f : ℕ} {v : json.Json} {l : List ℕ} {e : ℕ} → json.QuotedChars n q → Span s p q f → json.Spells v l → Span s (spaceAt s (spaceAt s f + 1)) l e → Stop (getD s e 0)
       → getD s (spaceAt s e) 0 ≡ 0x7D → MemberRow s p (json.member n v json.no-member)
-  members-row : {n q : List ℕ} {f : ℕ} {v : json.Json} {l : List ℕ} {e : ℕ} {m : json.Members} → json.Quoted n q → Span s p q f → json.Spells v l → Span s (spaceAt s (spaceAt s f + 1)) l e → Stop (getD s e 0)
+  members-row : {n q : List ℕ} {f : ℕ} {v : json.Json} {l : List ℕ} {e : ℕ} {m : json.Members} → json.QuotedChars n q → Span s p q f → json.Spells v l → Span s (spaceAt s (spaceAt s f + 1)) l e → Stop (getD s e 0)
       → getD s (spaceAt s e) 0 ≡ 0x2C → MembersFrom s (spaceAt s (spaceAt s e + 1)) m → MemberRow s p (json.member n v m)
 
 member-first : {s : List ℕ} {p : ℕ} {m : json.Members} → MembersFrom s p m → MemberRow s p m
@@ -92,7 +92,7 @@ data View (s : List ℕ) (a c : ℕ) : json.Json → ℕ → Type 0 where
   v-false : View s a c json.Json.false 0x66
   v-null : View s a c json.Json.null 0x6E
   v-true : View s a c json.Json.true 0x74
-  v-string : {l q : List ℕ} → json.Quoted l q → Span s a q c → View s a c (json.Json.string l) 0x22
+  v-string : {l q : List ℕ} → json.QuotedChars l q → Span s a q c → View s a c (json.Json.string l) 0x22
   v-no-item : getD s (spaceAt s (a + 1)) 0 ≡ 0x5D → View s a c (json.Json.array json.no-item) 0x5B
   v-array : {i : json.Items} → First (getD s (spaceAt s (a + 1)) 0) → ItemsFrom s (spaceAt s (a + 1)) i → View s a c (json.Json.array i) 0x5B
   v-no-member : getD s (spaceAt s (a + 1)) 0 ≡ 0x7D → View s a c (json.Json.object json.no-member) 0x7B

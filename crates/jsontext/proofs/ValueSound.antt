@@ -15,7 +15,7 @@ use Rattle.scan.proofs.Reading.{Reads, reads, fails, pick-reads, then-reads, fr
 use Rattle.jsontext.specs.declared.Spelled.{Spelled}
 use Rattle.jsontext.specs.Grammar as json
 use Rattle.jsontext.specs.Token.{Done, done, Skipped, past, spaceAt, wordAt}
-use Rattle.jsontext.specs.Value.{falseWord, nullWord, trueWord, colonAt, memberAt, itemAt, afterItem, itemsAt, insideAt, valueBy, walkBy, valueAt}
+use Rattle.jsontext.specs.Value.{falseWord, nullWord, trueWord, skipColon, skipMember, skipItem, skipAfter, skipItems, skipInside, skipValueBy, skipWalkBy, valueAt}
 use Rattle.jsontext.proofs.TokenLaws.{bind, space-consumes, word-consumes, number-consumes}
 use Rattle.jsontext.proofs.TextLaws.{StringAt, string-is, string-consumes}
 use Rattle.jsontext.proofs.FirstByte.{begins-value, begins-member, some-bytes}
@@ -35,11 +35,11 @@ data Sep (G : Done → List ℕ → Type 0) (close : ℕ) (x : Done) : List ℕ 
   again : {l c m : List ℕ} → G x l → json.Separator 0x2C c → Sep G close x m → Sep G close x (l ++ (c ++ m))
 
 module _ (G : Done → List ℕ → Type 0) (s : List ℕ) (close : ℕ) (z : eqb 0 close ≡ false) (item : ℕ → Skipped) (item-reads : (p : ℕ) → Reads G s p (item p)) where
-  items-consume : (k a : ℕ) → Reads (Sep G close) s a (itemsAt close item k s a)
-  unfolding itemsAt afterItem
+  items-consume : (k a : ℕ) → Reads (Sep G close) s a (skipItems close item k s a)
+  unfolding skipItems skipAfter
   items-consume zero a = fails
   items-consume (suc k) a =
-      then-reads (λ r. afterItem close (itemsAt close item k s) s (spaceAt s (r .next))) (item-reads a)
+      then-reads (λ r. skipAfter close (skipItems close item k s) s (spaceAt s (r .next))) (item-reads a)
       (λ x l e g r.
       bind (space-consumes s e)
       (λ w h q.
@@ -83,10 +83,10 @@ sep-members (again {l = l} {c = c} (some-member {n = n} {v = v} g h) k r) =
 -- ---- arrays and objects over values of depth d
 
 module _ (d : ℕ) (s : List ℕ) (value-reads : (p : ℕ) → Reads (Some d) s p (valueAt d s p)) where
-  member-consumes : (a : ℕ) → Reads (SomeMember d) s a (memberAt (valueAt d s) s a)
-  unfolding memberAt colonAt
+  member-consumes : (a : ℕ) → Reads (SomeMember d) s a (skipMember (valueAt d s) s a)
+  unfolding skipMember skipColon
   member-consumes a =
-      then-reads (λ n. colonAt (valueAt d s) s (spaceAt s (n .next))) (string-consumes s a)
+      then-reads (λ n. skipColon (valueAt d s) s (spaceAt s (n .next))) (string-consumes s a)
       (λ x q e g r.
       bind (space-consumes s e)
       (λ w h p.
@@ -101,8 +101,8 @@ module _ (d : ℕ) (s : List ℕ) (value-reads : (p : ℕ) → Reads (Some d) s 
           → Reads (SomeMember d) s b (read y e)
       named (string-is g n) k (some v h) r = reads (some-member (json.is-member g k v) h) r
 
-  array-consumes : (a : ℕ) → eqb (getD s a 0) 0x5B ≡ true → Reads (Some (suc d)) s a (walkBy 0x5D (valueAt d s) s a)
-  unfolding walkBy insideAt itemAt
+  array-consumes : (a : ℕ) → eqb (getD s a 0) 0x5B ≡ true → Reads (Some (suc d)) s a (skipWalkBy 0x5D (valueAt d s) s a)
+  unfolding skipWalkBy skipInside skipItem
   array-consumes a t =
       bind (space-consumes s (a + 1))
       (λ w h q.
@@ -110,13 +110,13 @@ module _ (d : ℕ) (s : List ℕ) (value-reads : (p : ℕ) → Reads (Some d) s 
       pick-reads (eqb (getD s p 0) 0x5D)
       (λ u. reads {x = done} {e = p + 1} (some (json.empty-array h) (omega arith)) (bite 0x5B refl t (join q (bite 0x5D refl u here))))
       (λ f.
-      from-reads (items-consume (Some d) s 0x5D refl (itemAt 0x5D (valueAt d s) s) value-reads (length s) p)
+      from-reads (items-consume (Some d) s 0x5D refl (skipItem 0x5D (valueAt d s) s) value-reads (length s) p)
       (λ x l e sep r.
       let v = sep-items sep in
       reads (some (json.is-array h (v .3) (v .4)) (omega (arith, v .6))) (bite 0x5B refl t (join q (rw (v .5) at r))))))
 
-  object-consumes : (a : ℕ) → eqb (getD s a 0) 0x7B ≡ true → Reads (Some (suc d)) s a (walkBy 0x7D (valueAt d s) s a)
-  unfolding walkBy insideAt itemAt
+  object-consumes : (a : ℕ) → eqb (getD s a 0) 0x7B ≡ true → Reads (Some (suc d)) s a (skipWalkBy 0x7D (valueAt d s) s a)
+  unfolding skipWalkBy skipInside skipItem
   object-consumes a t =
       bind (space-consumes s (a + 1))
       (λ w h q.
@@ -124,7 +124,7 @@ module _ (d : ℕ) (s : List ℕ) (value-reads : (p : ℕ) → Reads (Some d) s 
       pick-reads (eqb (getD s p 0) 0x7D)
       (λ u. reads {x = done} {e = p + 1} (some (json.empty-object h) (omega arith)) (bite 0x7B refl t (join q (bite 0x7D refl u here))))
       (λ f.
-      from-reads (items-consume (SomeMember d) s 0x7D refl (itemAt 0x7D (valueAt d s) s) member-consumes (length s) p)
+      from-reads (items-consume (SomeMember d) s 0x7D refl (skipItem 0x7D (valueAt d s) s) member-consumes (length s) p)
       (λ x l e sep r.
       let v = sep-members sep in
       reads (some (json.is-object h (v .3) (v .4)) (omega (arith, v .6))) (bite 0x7B refl t (join q (rw (v .5) at r))))))
@@ -139,8 +139,8 @@ module _ (d : ℕ) (s : List ℕ) (a : ℕ) where
   word-value v w g h = from-reads (word-consumes w s a) (λ x l e q r. reads {x = x} {l = l} {e = e} (some {v = v} (rw q g) h) r)
 
   by-consumes : (walk : ℕ → ℕ → Skipped) → (eqb (getD s a 0) 0x7B ≡ true → Reads (Some d) s a (walk 0x7D a))
-      → (eqb (getD s a 0) 0x5B ≡ true → Reads (Some d) s a (walk 0x5D a)) → Reads (Some d) s a (valueBy walk s a)
-  unfolding valueBy
+      → (eqb (getD s a 0) 0x5B ≡ true → Reads (Some d) s a (walk 0x5D a)) → Reads (Some d) s a (skipValueBy walk s a)
+  unfolding skipValueBy
   by-consumes walk f g =
       pick-reads (eqb (getD s a 0) 0x22) (λ t. then-reads (λ r. past (r .next)) (string-consumes s a) (λ x q e h r. string-value h r))
       (λ n₁.
@@ -160,7 +160,7 @@ pub value-consumes : (d : ℕ) (s : List ℕ) (a : ℕ) → Reads (Some d) s a (
 unfolding valueAt
 value-consumes zero s a = by-consumes zero s a (λ close at. refused 18 at) (λ t. fails) (λ t. fails)
 value-consumes (suc d) s a =
-    by-consumes (suc d) s a (λ close. walkBy close (valueAt d s) s) (λ t. object-consumes d s (value-consumes d s) a t)
+    by-consumes (suc d) s a (λ close. skipWalkBy close (valueAt d s) s) (λ t. object-consumes d s (value-consumes d s) a t)
     (λ t. array-consumes d s (value-consumes d s) a t)
 
 -- the same in terms of the answer
@@ -172,8 +172,8 @@ value-reads {d} {s} {a} f = go (rw f at (value-consumes d s a))
     go (reads {l = l} (some {v = v} g h) r) = (v, l, g, r, h)
 
 -- an item that is read over takes a byte or more, and ends within the input
-pub item-some : (close d : ℕ) (s : List ℕ) (a : ℕ) {e : ℕ} → itemAt close (valueAt d s) s a ≡ past e → (a < e) × (e ≤ length s)
-unfolding itemAt
+pub item-some : (close d : ℕ) (s : List ℕ) (a : ℕ) {e : ℕ} → skipItem close (valueAt d s) s a ≡ past e → (a < e) × (e ≤ length s)
+unfolding skipItem
 item-some close d s a {e} f =
     pick-by (λ (x : Skipped). x ≡ past e → (a < e) × (e ≤ length s)) (eqb close 0x7D) (λ t f. member (rw f at (member-consumes d s (value-consumes d s) a)))
     (λ t f. value (rw f at (value-consumes d s a))) f

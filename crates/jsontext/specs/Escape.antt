@@ -1,10 +1,9 @@
 -- Escapes at a place, and the text that a spelled string stands for. Assumes nothing.
 use Prim.Native.Nat.{ℕ, zero, suc, _+_, _*_, _-_}
-use mathlib.Core.Bool.{Bool, true, false}
 use mathlib.Core.List.{List, [], _∷_, _++_}
 use lib.Dec.{ltb, eqb}
 use Rattle.scan.specs.Choice.{pick}
-use Rattle.scan.specs.Place.{byteAt, within, runAt}
+use Rattle.scan.specs.Place.{byteAt, within}
 use Rattle.utf8.specs.Encode.{encode}
 use Rattle.hex.specs.Hex.{valueOf}
 use Rattle.jsontext.specs.declared.Escape.{Escape}
@@ -36,8 +35,8 @@ abbrev pub noEscape : Escape
 noEscape = escape 0 0
 
 -- the character of a letter behind the backslash; 0 where it is none of the eight
-unfoldable pub letterOf : ℕ → ℕ
-letterOf c =
+unfoldable pub unescapedLetter : ℕ → ℕ
+unescapedLetter c =
     pick (eqb c 0x22) 0x22
     (pick (eqb c 0x5C) 0x5C
     (pick (eqb c 0x2F) 0x2F
@@ -58,14 +57,7 @@ unicodeAt s at u =
 -- the escape whose backslash stands at `at`
 unfoldable pub escapeAt : List ℕ → ℕ → Escape
 escapeAt s at =
-    pick (eqb (byteAt s (at + 1)) 0x75) (unicodeAt s at (unitAt s at)) (letterEscape (letterOf (byteAt s (at + 1))))
-
--- the end of the bytes from a place on that are no backslash
-unfoldable pub isPlain : ℕ → Bool
-isPlain b = pick (eqb b 0x5C) false true
-
-unfoldable pub plainAt : List ℕ → ℕ → ℕ
-plainAt s at = runAt isPlain s at
+    pick (eqb (byteAt s (at + 1)) 0x75) (unicodeAt s at (unitAt s at)) (letterEscape (unescapedLetter (byteAt s (at + 1))))
 
 -- a backslash that begins no escape stands for itself
 unfoldable pub orItself : Escape → Escape

@@ -4,6 +4,7 @@ use mathlib.Core.List.{List, [], _∷_, _++_}
 use Rattle.scan.specs.Span.{All}
 use Rattle.utf8.specs.Utf8 as utf8
 use Rattle.utf8.specs.Encode.{Scalar, encode}
+use Rattle.decimal.specs.Decimal.{DecimalDigit}
 
 -- ---- section 2: white space, and structural characters with the white space around them
 
@@ -23,13 +24,9 @@ pub data Separator (b : ℕ) : List ℕ → Type 0 where
 
 -- ---- section 6: numbers
 
--- DIGIT
-pub data Digit : ℕ → Type 0 where
-  digit : {b : ℕ} → 0x30 ≤ b → b ≤ 0x39 → Digit b
-
--- 1*DIGIT
-pub data Digits : List ℕ → Type 0 where
-  digits : {b : ℕ} {l : List ℕ} → Digit b → All Digit l → Digits (b ∷ l)
+-- 1*DIGIT; DIGIT is decimal's
+pub data SomeDigits : List ℕ → Type 0 where
+  digits : {b : ℕ} {l : List ℕ} → DecimalDigit b → All DecimalDigit l → SomeDigits (b ∷ l)
 
 -- [ minus ]
 pub data Minus : List ℕ → Type 0 where
@@ -39,12 +36,12 @@ pub data Minus : List ℕ → Type 0 where
 -- int = zero / ( digit1-9 *DIGIT )
 pub data Int : List ℕ → Type 0 where
   zero : Int (0x30 ∷ [])
-  digit1-9 : {b : ℕ} {l : List ℕ} → 0x31 ≤ b → b ≤ 0x39 → All Digit l → Int (b ∷ l)
+  digit1-9 : {b : ℕ} {l : List ℕ} → 0x31 ≤ b → b ≤ 0x39 → All DecimalDigit l → Int (b ∷ l)
 
 -- [ frac ], frac = decimal-point 1*DIGIT
 pub data Frac : List ℕ → Type 0 where
   no-frac : Frac []
-  frac : {l : List ℕ} → Digits l → Frac (0x2E ∷ l)
+  frac : {l : List ℕ} → SomeDigits l → Frac (0x2E ∷ l)
 
 -- e = %x65 / %x45
 pub data E : ℕ → Type 0 where
@@ -60,7 +57,7 @@ pub data Sign : List ℕ → Type 0 where
 -- [ exp ], exp = e [ minus / plus ] 1*DIGIT
 pub data Exp : List ℕ → Type 0 where
   no-exp : Exp []
-  exp : {b : ℕ} {g l : List ℕ} → E b → Sign g → Digits l → Exp (b ∷ (g ++ l))
+  exp : {b : ℕ} {g l : List ℕ} → E b → Sign g → SomeDigits l → Exp (b ∷ (g ++ l))
 
 -- number = [ minus ] int [ frac ] [ exp ]
 pub data Number : List ℕ → Type 0 where
@@ -102,17 +99,17 @@ abbrev pub paired : ℕ → ℕ → ℕ
 paired high low = 0x10000 + (high - 0xD800) * 0x400 + (low - 0xDC00)
 
 -- char. \uXXXX stands for a scalar value, or two of them for a pair of surrogates: a lone surrogate has no meaning (section 8.2), and document 01 refuses it.
-pub data Char : List ℕ → List ℕ → Type 0 where
-  unescaped : {l : List ℕ} → Unescaped l → Char l l
-  letter : {c b : ℕ} → Letter c b → Char (0x5C ∷ c ∷ []) (b ∷ [])
-  unicode : {l : List ℕ} {u : ℕ} → Unit l u → Scalar u → Char l (encode u)
+pub data SpelledChar : List ℕ → List ℕ → Type 0 where
+  unescaped : {l : List ℕ} → Unescaped l → SpelledChar l l
+  letter : {c b : ℕ} → Letter c b → SpelledChar (0x5C ∷ c ∷ []) (b ∷ [])
+  unicode : {l : List ℕ} {u : ℕ} → Unit l u → Scalar u → SpelledChar l (encode u)
   pair : {l m : List ℕ} {u v : ℕ} → Unit l u → utf8.Octet 0xD800 0xDBFF u → Unit m v → utf8.Octet 0xDC00 0xDFFF v
-      → Char (l ++ m) (encode (paired u v))
+      → SpelledChar (l ++ m) (encode (paired u v))
 
 -- *char
 pub data Chars : List ℕ → List ℕ → Type 0 where
   no-char : Chars [] []
-  char : {c t l r : List ℕ} → Char c t → Chars l r → Chars (c ++ l) (t ++ r)
+  char : {c t l r : List ℕ} → SpelledChar c t → Chars l r → Chars (c ++ l) (t ++ r)
 
 -- ---- sections 3 to 5: values
 
@@ -136,8 +133,8 @@ mutual
     item : Json → Items → Items
 
 -- string = quotation-mark *char quotation-mark
-pub data Quoted : List ℕ → List ℕ → Type 0 where
-  quoted : {l t : List ℕ} → Chars l t → Quoted l (0x22 ∷ (l ++ (0x22 ∷ [])))
+pub data QuotedChars : List ℕ → List ℕ → Type 0 where
+  quoted : {l t : List ℕ} → Chars l t → QuotedChars l (0x22 ∷ (l ++ (0x22 ∷ [])))
 
 mutual
   -- The value v is spelled l, from its first byte to its last. The RFC's white space before an opening bracket and behind a closing one
@@ -153,11 +150,11 @@ mutual
     empty-array : {w : List ℕ} → Ws w → Spells (Json.array no-item) (0x5B ∷ (w ++ (0x5D ∷ [])))
     is-array : {i : Items} {w l x : List ℕ} → Ws w → SpellsItems i l → Ws x → Spells (Json.array i) (0x5B ∷ (w ++ (l ++ (x ++ (0x5D ∷ [])))))
     is-number : {l : List ℕ} → Number l → Spells (Json.number l) l
-    is-string : {l q : List ℕ} → Quoted l q → Spells (Json.string l) q
+    is-string : {l q : List ℕ} → QuotedChars l q → Spells (Json.string l) q
 
   -- member = string name-separator value
   pub data SpellsMember : List ℕ → Json → List ℕ → Type 0 where
-    is-member : {n q c : List ℕ} {v : Json} {l : List ℕ} → Quoted n q → Separator 0x3A c → Spells v l → SpellsMember n v (q ++ (c ++ l))
+    is-member : {n q c : List ℕ} {v : Json} {l : List ℕ} → QuotedChars n q → Separator 0x3A c → Spells v l → SpellsMember n v (q ++ (c ++ l))
 
   -- member *( value-separator member )
   pub data SpellsMembers : Members → List ℕ → Type 0 where
@@ -172,8 +169,8 @@ mutual
         → SpellsItems (item v i) (l ++ (c ++ r))
 
 -- JSON-text = ws value ws
-pub data Text : Json → List ℕ → Type 0 where
-  text : {v : Json} {w l x : List ℕ} → Ws w → Spells v l → Ws x → Text v (w ++ (l ++ x))
+pub data JsonText : Json → List ℕ → Type 0 where
+  text : {v : Json} {w l x : List ℕ} → Ws w → Spells v l → Ws x → JsonText v (w ++ (l ++ x))
 
 -- how many arrays and objects stand inside one another
 abbrev mutual

@@ -1,11 +1,5 @@
 pub mod Grammar
 pub mod Token
 pub mod Escape
-pub mod Half
-pub mod Block
-pub mod Loose
 pub mod Text
 pub mod Value
-pub mod Answers
-pub mod Run
-pub mod Short

@@ -5,7 +5,8 @@ use mathlib.Core.List.{List}
 use lib.ListN.{length}
 use lib.Dec.{eqb}
 use Rattle.scan.specs.Choice.{pick, Answer, refused, Read, read}
-use Rattle.scan.specs.Place.{byteAt, standsAt, within, runAt}
+use Rattle.scan.specs.Place.{byteAt, standsAt, runAt}
+use Rattle.decimal.specs.Decimal.{isDigit}
 
 -- what is read over has no value but the place behind it
 pub data Done : Type 0 where
@@ -30,12 +31,9 @@ wordAt w s at = pick (standsAt w s at) (past (at + length w)) (refused 14 at)
 
 -- ---- numbers: the longest prefix that is one
 
-unfoldable pub isDigit : ℕ → Bool
-isDigit b = within 0x30 0x39 b
-
 -- the end of the digits at a place, or another place where there is none
 unfoldable pub digitsOr : List ℕ → ℕ → ℕ → ℕ
-digitsOr s at other = pick (isDigit (byteAt s at)) (runAt (within 0x30 0x39) s at) other
+digitsOr s at other = pick (isDigit (byteAt s at)) (runAt isDigit s at) other
 
 unfoldable pub minusAt : List ℕ → ℕ → ℕ
 minusAt s at = pick (eqb (byteAt s at) 0x2D) (at + 1) at
@@ -64,5 +62,5 @@ unfoldable pub unsignedFrom : List ℕ → (start i : ℕ) → Skipped
 unsignedFrom s start i = numberFrom s start i (intAt s i)
 
 -- a number at a place: 14 at its start where none stands
-unfoldable pub numberAt : List ℕ → ℕ → Skipped
-numberAt s at = unsignedFrom s at (minusAt s at)
+unfoldable pub skipNumber : List ℕ → ℕ → Skipped
+skipNumber s at = unsignedFrom s at (minusAt s at)

@@ -10,7 +10,7 @@ use lib.ListN.{length}
 use lib.Dec.{leb}
 use borrow.Author.Tests.{leb-false}
 use Rattle.scan.specs.Choice.{pick, Answer, shown, refused, andThen}
-use Rattle.store.specs.Entry.{written, filled, writes, leaves}
+use Rattle.buffer.specs.Entry.{written, filled, writes, leaves}
 use Rattle.event.specs.Event.{Event}
 use Rattle.event.specs.Tells.{among, Tells, value, refusal}
 use Rattle.event.proofs.TellsLaws.{then-tells, pick-tells, wider}
@@ -25,7 +25,7 @@ use Rattle.nson.specs.Entries.{carried}
 use Rattle.nson.proofs.Telling.{nson-tells}
 use Rattle.json.specs.Object.{jsonNumbers, readJson}
 use Rattle.json.proofs.Telling.{json-tells}
-use Rattle.both.specs.Both.{Compared, compared, bothOf, firstOf, secondOf, both, bothFirst, bothSecond}
+use Rattle.bothreaders.specs.Both.{Compared, compared, bothOf, firstOf, secondOf, both, bothFirst, bothSecond}
 use Rattle.nson.specs.Read.{readNson}
 use Rattle.rivals.proofs.Telling.{rivals-tells}
 use Rattle.kezubimoryu.specs.Refusals.{Asks, Fills, too-short, FillsBoth, first-short, second-short, writerNumbers, Refusals}

@@ -4,6 +4,7 @@ use mathlib.Core.Bool.{Bool}
 use Rattle.rivals.specs.declared.Kept.{Kept}
 use Rattle.rivals.specs.declared.Kept.the-variants.{First, Second, NotRivals}
 use Rattle.scan.specs.Choice.{pick, Answer, shown, refused, andThen}
+use Rattle.rivals.specs.Rivals.{Chosen, chosen, first-refused, second-refused}
 
 -- an answer that says nothing but that it is one
 abbrev pub ok : {A : Type 0} → Answer A → Answer ℕ
@@ -14,12 +15,18 @@ abbrev pub yesNo : Answer Bool → Answer ℕ
 yesNo r = andThen r λ b. shown (pick b 1 0)
 
 -- a lent number: what the answer has for it, and on a refusal as it was
-abbrev pub told : {A : Type 0} → Answer A → (A → ℕ) → ℕ → ℕ
-told (shown a) f old = f a
-told (refused n p) f old = old
+abbrev pub lent : {A : Type 0} → Answer A → (A → ℕ) → ℕ → ℕ
+lent (shown a) f old = f a
+lent (refused n p) f old = old
 
 -- not rivals is 0, keep the first 1, keep the second 2
 abbrev pub keptNumber : Kept → ℕ
 keptNumber NotRivals = 0
 keptNumber First = 1
 keptNumber Second = 2
+
+-- which is kept, or the refusal of whichever input is refused
+abbrev pub keptAnswer : Chosen → Answer ℕ
+keptAnswer (chosen k) = shown (keptNumber k)
+keptAnswer (first-refused n p) = refused n p
+keptAnswer (second-refused n p) = refused n p

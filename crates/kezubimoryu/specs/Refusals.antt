@@ -7,7 +7,7 @@ use mathlib.Core.Bool.{true, false}
 use mathlib.Core.List.{List, _∷_}
 use lib.ListN.{length}
 use Rattle.scan.specs.Choice.{Answer, shown, refused, andThen}
-use Rattle.store.specs.Entry.{writes, leaves}
+use Rattle.buffer.specs.Entry.{writes, leaves}
 use Rattle.event.specs.Event.{Event}
 use Rattle.event.specs.Tells.{among, Tells}
 use Rattle.notepack.specs.Unpack.{packedNumbers, unpack}
@@ -19,7 +19,7 @@ use Rattle.nson.specs.Read.{nsonNumbers}
 use Rattle.nson.specs.Entries.{nsonReads, nsonWrites}
 use Rattle.json.specs.Object.{jsonNumbers}
 use Rattle.json.specs.Entries.{jsonReads}
-use Rattle.both.specs.Both.{both, bothFirst, bothSecond}
+use Rattle.bothreaders.specs.Both.{both, bothFirst, bothSecond}
 use Rattle.rivals.specs.Rivals.{rivals}
 use Rattle.rivals.specs.Telling.{RivalsTell}
 use Rattle.kezubimoryu.specs.Entries.{ok, yesNo}

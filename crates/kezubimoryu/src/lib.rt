@@ -1,21 +1,17 @@
 // The C entries: thin and total over the crates below. Each takes numbers and byte buffers and answers two numbers.
-use both::BothRead;
-use canonical::CanonicalWrite;
+use bothreaders::BothRead;
 use event::Refusal;
-use jsonread::JsonRead;
+use event::Writing;
 use notepack::CountRead;
 use notepack::ElementRead;
 use notepack::HeadRead;
-use nsonread::NsonRead;
-use nsonwrite::NsonWrite;
 use rivals::Kept;
 use rivals::RivalsRead;
-use strict::PackWrite;
 use strict::StrictRead;
 ghost use mathlib.Core.Path.{_≡_};
 ghost use Rattle.scan.specs.Choice.{pick, andThen, shown};
-ghost use Rattle.event.specs.Answers.{twoNumbers};
-ghost use Rattle.store.specs.Entry.{writes, leaves};
+ghost use Rattle.event.specs.Answers.{writing, twoNumbers};
+ghost use Rattle.buffer.specs.Entry.{writes, leaves};
 ghost use Rattle.notepack.specs.Strict.{pack};
 ghost use Rattle.notepack.specs.Unpack.{unpack};
 ghost use Rattle.notepack.specs.Views.{numbersOf, textsIn, elementOf};
@@ -23,9 +19,9 @@ ghost use Rattle.strict.specs.Strict.{strict};
 ghost use Rattle.canonical.specs.Canonical.{canonical};
 ghost use Rattle.nson.specs.Entries.{nsonReads, nsonLeaves, nsonWrites, writerLeaves};
 ghost use Rattle.json.specs.Entries.{jsonReads, jsonLeaves};
-ghost use Rattle.both.specs.Both.{both, bothFirst, bothSecond};
+ghost use Rattle.bothreaders.specs.Both.{both, bothFirst, bothSecond};
 ghost use Rattle.rivals.specs.Rivals.{rivals};
-ghost use Rattle.kezubimoryu.specs.Entries.{ok, yesNo, told, keptNumber};
+ghost use Rattle.kezubimoryu.specs.Entries.{ok, yesNo, lent, keptNumber, keptAnswer};
 
 // `kez_answer` of the header: refusal 0 and a value, or the number of refusal and its place.
 #[repr(C)]
@@ -49,6 +45,16 @@ fn shown(value: u64) -> KezAnswer
     KezAnswer { refusal: 0, value }
 }
 
+// The length written, or the refusal.
+fn written(w: Writing) -> KezAnswer
+    ensures { λ a. ⌜ (a .refusal, a .value) ≡ twoNumbers (writing w) ⌝ }
+{
+    match w {
+        Writing::Written(n) => shown(n as u64),
+        Writing::Refused(r) => refused(r),
+    }
+}
+
 // A yes or no as 1 or 0.
 fn bit(b: bool) -> u64
     ensures { λ r. ⌜ r ≡ pick b 1 0 ⌝ }
@@ -66,11 +72,11 @@ pub extern "C" fn kez_notepack_read(
     tag_count: &mut u64,
 ) -> KezAnswer
     ensures { λ a. ⌜ (a .refusal, a .value) ≡ twoNumbers (ok (numbersOf (now (packed .entry)))) ⌝ }
-    ensures { λ _. ⌜ now («created_at» .exit) ≡ told (numbersOf (now (packed .entry))) (λ h. h .«created_at») (now («created_at» .entry)) ⌝ }
-    ensures { λ _. ⌜ now (kind .exit) ≡ told (numbersOf (now (packed .entry))) (λ h. h .kind) (now (kind .entry)) ⌝ }
-    ensures { λ _. ⌜ now («content_at» .exit) ≡ told (numbersOf (now (packed .entry))) (λ h. h .content .at) (now («content_at» .entry)) ⌝ }
-    ensures { λ _. ⌜ now («content_len» .exit) ≡ told (numbersOf (now (packed .entry))) (λ h. h .content .len) (now («content_len» .entry)) ⌝ }
-    ensures { λ _. ⌜ now («tag_count» .exit) ≡ told (numbersOf (now (packed .entry))) (λ h. h .«tag_count») (now («tag_count» .entry)) ⌝ }
+    ensures { λ _. ⌜ now («created_at» .exit) ≡ lent (numbersOf (now (packed .entry))) (λ h. h .«created_at») (now («created_at» .entry)) ⌝ }
+    ensures { λ _. ⌜ now (kind .exit) ≡ lent (numbersOf (now (packed .entry))) (λ h. h .kind) (now (kind .entry)) ⌝ }
+    ensures { λ _. ⌜ now («content_at» .exit) ≡ lent (numbersOf (now (packed .entry))) (λ h. h .content .at) (now («content_at» .entry)) ⌝ }
+    ensures { λ _. ⌜ now («content_len» .exit) ≡ lent (numbersOf (now (packed .entry))) (λ h. h .content .len) (now («content_len» .entry)) ⌝ }
+    ensures { λ _. ⌜ now («tag_count» .exit) ≡ lent (numbersOf (now (packed .entry))) (λ h. h .«tag_count») (now («tag_count» .entry)) ⌝ }
 {
     let found = notepack::read_packed(packed);
     match found {
@@ -103,11 +109,7 @@ pub extern "C" fn kez_notepack_write(packed: &[u8], out: &mut [u8]) -> KezAnswer
     ensures { λ a. ⌜ (a .refusal, a .value) ≡ twoNumbers (writes pack (unpack (now (packed .entry))) (now (out .entry))) ⌝ }
     ensures { λ _. ⌜ now (out .exit) ≡ leaves pack (unpack (now (packed .entry))) (now (out .entry)) ⌝ }
 {
-    let done = strict::write_strict(packed, out);
-    match done {
-        PackWrite::Written(n) => shown(n as u64),
-        PackWrite::Refused(r) => refused(r),
-    }
+    written(strict::write_strict(packed, out))
 }
 
 #[no_mangle]
@@ -131,9 +133,9 @@ pub extern "C" fn kez_notepack_element(
     is_bytes: &mut u64,
 ) -> KezAnswer
     ensures { λ a. ⌜ (a .refusal, a .value) ≡ twoNumbers (ok (elementOf tag element (now (packed .entry)))) ⌝ }
-    ensures { λ _. ⌜ now (at .exit) ≡ told (elementOf tag element (now (packed .entry))) (λ p. p .at) (now (at .entry)) ⌝ }
-    ensures { λ _. ⌜ now (len .exit) ≡ told (elementOf tag element (now (packed .entry))) (λ p. p .len) (now (len .entry)) ⌝ }
-    ensures { λ _. ⌜ now («is_bytes» .exit) ≡ told (elementOf tag element (now (packed .entry))) (λ p. pick (p .raw) 1 0) (now («is_bytes» .entry)) ⌝ }
+    ensures { λ _. ⌜ now (at .exit) ≡ lent (elementOf tag element (now (packed .entry))) (λ p. p .at) (now (at .entry)) ⌝ }
+    ensures { λ _. ⌜ now (len .exit) ≡ lent (elementOf tag element (now (packed .entry))) (λ p. p .len) (now (len .entry)) ⌝ }
+    ensures { λ _. ⌜ now («is_bytes» .exit) ≡ lent (elementOf tag element (now (packed .entry))) (λ p. pick (p .raw) 1 0) (now («is_bytes» .entry)) ⌝ }
 {
     let found = notepack::find_element(packed, tag, element);
     match found {
@@ -152,11 +154,7 @@ pub extern "C" fn kez_canonical_write(packed: &[u8], out: &mut [u8]) -> KezAnswe
     ensures { λ a. ⌜ (a .refusal, a .value) ≡ twoNumbers (writes canonical (unpack (now (packed .entry))) (now (out .entry))) ⌝ }
     ensures { λ _. ⌜ now (out .exit) ≡ leaves canonical (unpack (now (packed .entry))) (now (out .entry)) ⌝ }
 {
-    let done = canonical::write_canonical(packed, out);
-    match done {
-        CanonicalWrite::Written(n) => shown(n as u64),
-        CanonicalWrite::Refused(r) => refused(r),
-    }
+    written(canonical::write_canonical(packed, out))
 }
 
 #[no_mangle]
@@ -164,11 +162,7 @@ pub extern "C" fn kez_nson_write(packed: &[u8], out: &mut [u8]) -> KezAnswer
     ensures { λ a. ⌜ (a .refusal, a .value) ≡ twoNumbers (nsonWrites (now (packed .entry)) (now (out .entry))) ⌝ }
     ensures { λ _. ⌜ now (out .exit) ≡ writerLeaves (now (packed .entry)) (now (out .entry)) ⌝ }
 {
-    let done = nsonwrite::write_nson(packed, out);
-    match done {
-        NsonWrite::Written(n) => shown(n as u64),
-        NsonWrite::Refused(r) => refused(r),
-    }
+    written(nsonwrite::write_nson(packed, out))
 }
 
 #[no_mangle]
@@ -176,11 +170,7 @@ pub extern "C" fn kez_nson_read(text: &[u8], out: &mut [u8]) -> KezAnswer
     ensures { λ a. ⌜ (a .refusal, a .value) ≡ twoNumbers (nsonReads (now (text .entry)) (now (out .entry))) ⌝ }
     ensures { λ _. ⌜ now (out .exit) ≡ nsonLeaves (now (text .entry)) (now (out .entry)) ⌝ }
 {
-    let done = nsonread::read_nson(text, out);
-    match done {
-        NsonRead::Written(n) => shown(n as u64),
-        NsonRead::Refused(r) => refused(r),
-    }
+    written(nsonread::read_nson(text, out))
 }
 
 #[no_mangle]
@@ -188,11 +178,7 @@ pub extern "C" fn kez_json_read(text: &[u8], out: &mut [u8]) -> KezAnswer
     ensures { λ a. ⌜ (a .refusal, a .value) ≡ twoNumbers (jsonReads (now (text .entry)) (now (out .entry))) ⌝ }
     ensures { λ _. ⌜ now (out .exit) ≡ jsonLeaves (now (text .entry)) (now (out .entry)) ⌝ }
 {
-    let done = jsonread::read_json(text, out);
-    match done {
-        JsonRead::Written(n) => shown(n as u64),
-        JsonRead::Refused(r) => refused(r),
-    }
+    written(jsonread::read_json(text, out))
 }
 
 // The plain JSON reader's refusal; else 1 where it alone shows the event, 2 where the NSON reader shows it too.
@@ -204,11 +190,11 @@ pub extern "C" fn kez_read_both(
     written: &mut u64,
 ) -> KezAnswer
     ensures { λ a. ⌜ (a .refusal, a .value) ≡ twoNumbers (andThen (both (now (text .entry)) (now (first .entry)) (now (second .entry))) (λ c. shown (c .which))) ⌝ }
-    ensures { λ _. ⌜ now (written .exit) ≡ told (both (now (text .entry)) (now (first .entry)) (now (second .entry))) (λ c. c .len) (now (written .entry)) ⌝ }
+    ensures { λ _. ⌜ now (written .exit) ≡ lent (both (now (text .entry)) (now (first .entry)) (now (second .entry))) (λ c. c .len) (now (written .entry)) ⌝ }
     ensures { λ _. ⌜ now (first .exit) ≡ bothFirst (now (text .entry)) (now (first .entry)) (now (second .entry)) ⌝ }
     ensures { λ _. ⌜ now (second .exit) ≡ bothSecond (now (text .entry)) (now (first .entry)) (now (second .entry)) ⌝ }
 {
-    let done = both::read_both(text, first, second);
+    let done = bothreaders::read_both(text, first, second);
     match done {
         BothRead::JsonAlone(n) => {
             *written = n as u64;
@@ -235,11 +221,12 @@ fn kept_number(k: Kept) -> u64
 
 #[no_mangle]
 pub extern "C" fn kez_rivals(first: &[u8], second: &[u8]) -> KezAnswer
-    ensures { λ a. ⌜ (a .refusal, a .value) ≡ twoNumbers (andThen (rivals (now (first .entry)) (now (second .entry))) (λ k. shown (keptNumber k))) ⌝ }
+    ensures { λ a. ⌜ (a .refusal, a .value) ≡ twoNumbers (keptAnswer (rivals (now (first .entry)) (now (second .entry)))) ⌝ }
 {
     let found = rivals::compare(first, second);
     match found {
         RivalsRead::Told(k) => shown(kept_number(k)),
-        RivalsRead::Refused(r) => refused(r),
+        RivalsRead::FirstRefused(r) => refused(r),
+        RivalsRead::SecondRefused(r) => refused(r),
     }
 }

@@ -14,8 +14,8 @@ use borrow.Author.Tests.{eqb-true, leb-true}
 use Rattle.scan.specs.Choice.{pick, Answer, shown, refused, andThen}
 use Rattle.scan.proofs.Step.{pick-true, false-true}
 use Rattle.scan.specs.Span.{IsBytes}
-use Rattle.store.specs.Store.{Buffer, puts, Wrote}
-use Rattle.store.proofs.Laws.{puts-eq}
+use Rattle.buffer.specs.Store.{Buffer, puts, Wrote}
+use Rattle.buffer.proofs.Laws.{puts-eq}
 use Rattle.decimal.specs.Decimal.{decimal}
 use Rattle.decimal.proofs.Spelling.{length-most, length-u64, length-u16}
 use Rattle.event.specs.Event.{Event, Valid}

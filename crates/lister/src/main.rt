@@ -7,7 +7,7 @@ use notepack::HeadRead;
 ghost use Prim.Native.Nat.{_≤_};
 ghost use mathlib.Core.Path.{_≡_};
 ghost use lib.ListN.{length, take};
-ghost use Rattle.store.specs.Store.{Wrote};
+ghost use Rattle.buffer.specs.Store.{Wrote};
 ghost use Rattle.notepack.specs.Views.{numbersOf};
 ghost use Rattle.lister.specs.Listing.{numbersText, refusalText, listing};
 
@@ -16,26 +16,26 @@ fn put_numbers(out: &mut [u8], at: usize, h: Head) -> usize
     ensures { λ r. ⌜ Wrote (now (out .entry)) at (numbersText h) (now (out .exit)) r ⌝ }
 {
     let content = h.content;
-    let a = store::put_bytes(out, at, b"created_at ");
+    let a = buffer::put_bytes(out, at, b"created_at ");
     let b = decimal::put_decimal(out, a, h.created_at);
-    let c = store::put_bytes(out, b, b"\nkind ");
+    let c = buffer::put_bytes(out, b, b"\nkind ");
     let d = decimal::put_decimal(out, c, h.kind);
-    let e = store::put_bytes(out, d, b"\ncontent ");
+    let e = buffer::put_bytes(out, d, b"\ncontent ");
     let f = decimal::put_decimal(out, e, content.len as u64);
-    let g = store::put_bytes(out, f, b"\ntags ");
+    let g = buffer::put_bytes(out, f, b"\ntags ");
     let i = decimal::put_decimal(out, g, h.tag_count);
-    store::put_bytes(out, i, b"\n")
+    buffer::put_bytes(out, i, b"\n")
 }
 
 // The line of a refusal.
 fn put_refusal(out: &mut [u8], at: usize, r: Refusal) -> usize
     ensures { λ a. ⌜ Wrote (now (out .entry)) at (refusalText (r .number) (r .place)) (now (out .exit)) a ⌝ }
 {
-    let a = store::put_bytes(out, at, b"refused ");
+    let a = buffer::put_bytes(out, at, b"refused ");
     let b = decimal::put_decimal(out, a, r.number as u64);
-    let c = store::put_bytes(out, b, b" at ");
+    let c = buffer::put_bytes(out, b, b" at ");
     let d = decimal::put_decimal(out, c, r.place as u64);
-    store::put_bytes(out, d, b"\n")
+    buffer::put_bytes(out, d, b"\n")
 }
 
 // What is printed of packed bytes, whole: no text of the lister is longer than 128 bytes.

@@ -1,4 +1,5 @@
--- Whatever lays out a valid event within the limit is read as that event: each definition meets the piece that the layout puts there.
+-- Whatever lays out a valid event within the limit is read as that event: each definition meets the piece that the
+-- layout puts there.
 -- By matching the layout, cutting the span at each `++`, and rewriting each read by what it finds.
 use Prim.Native.Nat.{ℕ, zero, suc, _+_, _*_, _-_, _/_, _%_, _≤_, _<_}
 use mathlib.Core.Path.{_≡_, refl, sym, ap, _∙_}

@@ -6,5 +6,6 @@ pub mod Lengths
 pub mod Passing
 pub mod Walking
 pub mod Viewing
+pub mod Again
 pub mod Seen
 pub mod Telling

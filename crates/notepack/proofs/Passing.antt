@@ -1,4 +1,5 @@
--- The pass over elements and tags: each turn of its loops is one law, and the strict form so far is never longer than what was read.
+-- The pass over elements and tags: each turn of its loops is one law, and the strict form so far is never longer than
+-- what was read.
 -- The premises of a law are what the loop knows; the room follows from the pieces that were read.
 use Prim.Native.Nat.{ℕ, zero, suc, _+_, _*_, _-_, _≤_, _<_}
 use mathlib.Core.Path.{_≡_, refl, sym, ap, _∙_}

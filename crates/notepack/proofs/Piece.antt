@@ -1,4 +1,5 @@
--- A spelling beside the strict one: it is never shorter, and it is the strict one exactly if it is as long and no element of it is hollow.
+-- A spelling beside the strict one: it is never shorter, and it is the strict one exactly if it is as long and no
+-- element of it is hollow.
 -- Pieces compose, so the whole follows from varints, texts and elements.
 use Prim.Native.Nat.{ℕ, zero, suc, _+_, _*_, _/_, _%_, _≤_, _<_, _^_}
 use mathlib.Core.Path.{_≡_, refl, sym, ap, _∙_}
@@ -13,13 +14,13 @@ use lib.Dec.{eqb}
 use borrow.Author.Tests.{eq-eqb, ne-eqb, eqb-true}
 use Rattle.scan.specs.Choice.{pick, either}
 use Rattle.scan.specs.Span.{IsBytes, none, also}
-use Rattle.scan.proofs.Step.{pick-by, false-true}
+use Rattle.scan.proofs.Step.{not-so, pick-by, false-true}
 use Rattle.varint.specs.Uleb.{Spells, uleb}
 use Rattle.varint.proofs.UlebLaws.{uleb-spells, uleb-shortest, uleb-last, length-last, length-more, length-one, spells-one, spells-unique, spells-value}
 use Rattle.hex.specs.Hex.{hexes, unhex, goesAsBytes}
 use Rattle.hex.proofs.Texts.{unhex-hexes, hexes-go, go-digits, length-unhex}
-use Rattle.event.specs.Event.{sameText}
-use Rattle.event.proofs.Laws.{same-text, text-same}
+use Rattle.scan.specs.Compare.{sameBytes}
+use Rattle.scan.proofs.CompareLaws.{same-same, bytes-same}
 use Rattle.notepack.specs.Strict.{packElement}
 
 -- l spells what `strict` spells; `hollow` tells of an element that is raw and empty
@@ -115,16 +116,12 @@ pub bytes-piece : (p : List ℕ) {w : List ℕ} → IsBytes p → Spells (2 * le
 bytes-piece [] b d = bytes-none d
 bytes-piece (x ∷ p) b d = rw (ne-eqb (suc (length p)) 0 (λ e. omega arith)) (bytes-some (x ∷ p) (omega arith) b d)
 
-not-so : (x : Bool) → (x ≡ true → ⊥) → x ≡ false
-not-so true f = absurd (f refl)
-not-so false f = refl
-
 -- whether the bytes are the strict ones
-pub piece-decides : {a l : List ℕ} {h : Bool} → Piece a l h → sameText l a ≡ pick (eqb (length a) (length l)) (not h) false
+pub piece-decides : {a l : List ℕ} {h : Bool} → Piece a l h → sameBytes l a ≡ pick (eqb (length a) (length l)) (not h) false
 piece-decides {a} {l} {h} p =
     dite (ℕ-discrete (length a) (length l)) (λ e. rw (eq-eqb (length a) (length l) e) (by-hollow h p e))
-    (λ n. rw (ne-eqb (length a) (length l) n) (not-so (sameText l a) (λ t. n (ap length (sym (text-same l a t))))))
+    (λ n. rw (ne-eqb (length a) (length l) n) (not-so (sameBytes l a) (λ t. n (ap length (sym (bytes-same l a t))))))
   where
-    by-hollow : (h : Bool) → Piece a l h → length a ≡ length l → sameText l a ≡ not h
-    by-hollow true p e = not-so (sameText l a) (λ t. false-true (sym (p .clear (text-same l a t))))
-    by-hollow false p e = rw (p .same e refl) (same-text a)
+    by-hollow : (h : Bool) → Piece a l h → length a ≡ length l → sameBytes l a ≡ not h
+    by-hollow true p e = not-so (sameBytes l a) (λ t. false-true (sym (p .clear (bytes-same l a t))))
+    by-hollow false p e = rw (p .same e refl) (same-same a)

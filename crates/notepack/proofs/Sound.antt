@@ -298,7 +298,8 @@ module _ (s : List ℕ) (bytes : IsBytes s) where
       (λ f. lacks))))
       (λ f. lacks)
 
--- Sound: the event that packed bytes show is valid, the bytes lay it out within the limit, and its strict form is no longer than they are.
+-- Sound: the event that packed bytes show is valid, the bytes lay it out within the limit, and its strict form is no
+-- longer than they are.
 pub record Shows (s : List ℕ) (e : Event) : Type 0 where
   pub lays : Lays e s
   pub valid : Valid e

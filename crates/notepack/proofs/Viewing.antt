@@ -1,4 +1,5 @@
--- An element that was read among others is read again from its place: walking to tag i and element j finds number j of number i.
+-- An element that was read among others is read again from its place: walking to tag i and element j finds number j of
+-- number i.
 -- By induction on the place in the list, along the reads.
 use Prim.Native.Nat.{ℕ, zero, suc, _+_, _≤_, _<_}
 use mathlib.Core.Path.{_≡_, refl, sym, ap, _∙_, subst}
@@ -11,19 +12,14 @@ use lib.ListN.{length, take, drop}
 use lib.Dec.{ltb, leb, eqb}
 use borrow.Author.Tests.{lt-ltb, le-ltb}
 use Rattle.scan.specs.Choice.{pick, Answer, shown, refused, Read, read, andThen, many}
-use Rattle.scan.proofs.Reading.{read-same}
-use Rattle.scan.proofs.Many.{then-shown, many-at, many-count}
-use Rattle.varint.specs.Uleb.{uleb}
+use Rattle.scan.proofs.Many.{pick-shown, then-shown, many-at, many-count}
 use Rattle.event.specs.Event.{Event}
-use Rattle.scan.specs.Span.{IsBytes}
 use Rattle.notepack.specs.declared.Part.{Part}
 use Rattle.notepack.specs.declared.Head.{Head}
-use Rattle.notepack.specs.Unpack.{elementAt, elementsAt, tagCountAt, tagAt, tagsAt, headAt, Packed, packedAt, bytesOf, textOf, eventOf, unpack}
+use Rattle.notepack.specs.Unpack.{elementAt, elementsAt, tagCountAt, tagAt, tagsAt, headAt, Packed, packedAt, textOf, eventOf, unpack}
 use Rattle.notepack.specs.declared.Tally.{Tally}
 use Rattle.notepack.specs.Tally.{passElements, passTags, tallyOf}
 use Rattle.notepack.specs.Answers.{Walked, walkAt}
-use Rattle.notepack.specs.Strict.{packTags, pack}
-use Rattle.notepack.proofs.Walking.{pack-pieces, walked-packed}
 use Rattle.notepack.specs.Views.{numbersOf, contentOf, nth, tagOf, textsIn, elementOf, tagStart, elementPlace}
 
 -- ---- number i of a list
@@ -50,17 +46,13 @@ walk-nth item i n at v e h =
     let k = many-count item i at (m .0) (m .3) in
     (m .0 .next, m .1 .next, m .1 .value, m .0 .value, m .3, m .4, ap (nth i) (m .5) ∙ nth-behind i (m .0 .value) (m .1 .value) (m .2) k)
 
-pick-shown : {A : Type 0} (t : Bool) (x : Answer A) (n q : ℕ) (a : A) → pick t x (refused n q) ≡ shown a → x ≡ shown a
-pick-shown true x n q a e = e
-pick-shown false x n q a e = let z : _≡_ {A = ℕ} 0 1 = cc in absurd (omega arith)
-
 -- what stands in front of a packed event's tags
 pub packed-head : (s : List ℕ) (p : Packed) → packedAt s ≡ shown p → headAt s ≡ shown (p .head)
 unfolding packedAt
 packed-head s p e =
-    let h = then-shown (headAt s) _ p (pick-shown (leb (length s) 65_536) _ 1 0 p e) in
+    let h = then-shown (headAt s) _ p (pick-shown (leb (length s) 65_536) _ 1 0 p e .1) in
     let t = then-shown (tagsAt (h .0 .«tag_count») s (h .0 .«tags_at»)) _ p (h .2) in
-    let q = pick-shown (eqb (t .0 .next) (length s)) (shown (record { head = h .0; tags = t .0 .value })) 10 (t .0 .next) p (t .2) in
+    let q = pick-shown (eqb (t .0 .next) (length s)) (shown (record { head = h .0; tags = t .0 .value })) 10 (t .0 .next) p (t .2) .1 in
     let f : _≡_ {A = Packed} (record { head = h .0; tags = t .0 .value }) p = cc in
     h .1 ∙ ap (λ (q : Packed). shown (q .head)) f
 
@@ -68,9 +60,9 @@ packed-head s p e =
 pub packed-apart : (s : List ℕ) (p : Packed) → packedAt s ≡ shown p → (e : ℕ) × (tagsAt (p .head .«tag_count») s (p .head .«tags_at») ≡ read (p .tags) e)
 unfolding packedAt
 packed-apart s p e =
-    let h = then-shown (headAt s) _ p (pick-shown (leb (length s) 65_536) _ 1 0 p e) in
+    let h = then-shown (headAt s) _ p (pick-shown (leb (length s) 65_536) _ 1 0 p e .1) in
     let t = then-shown (tagsAt (h .0 .«tag_count») s (h .0 .«tags_at»)) _ p (h .2) in
-    let q = pick-shown (eqb (t .0 .next) (length s)) (shown (record { head = h .0; tags = t .0 .value })) 10 (t .0 .next) p (t .2) in
+    let q = pick-shown (eqb (t .0 .next) (length s)) (shown (record { head = h .0; tags = t .0 .value })) 10 (t .0 .next) p (t .2) .1 in
     let f : _≡_ {A = Packed} (record { head = h .0; tags = t .0 .value }) p = cc in
     go (t .0 .next) f (t .1)
   where
@@ -167,36 +159,6 @@ skip-elements {B} s t j at f g e = ap (λ (r : Answer (Read Tally)). andThen r (
     go : (r : Answer (Read (List Part))) → andThen (andThen r (passElements s t)) (λ (u : Read Tally). g (u .next)) ≡ andThen r (λ (v : Read (List Part)). g (v .next))
     go (shown v) = refl
     go (refused n q) = refl
-
--- the strict form of a walked event, by what stands in the input and its tags as they are read
-pub record Pieces (s : List ℕ) (h : Head) : Type 0 where
-  pub event : Event
-  pub shows : unpack s ≡ shown event
-  pub tags : Read (List (List Part))
-  pub reads : tagsAt (h .«tag_count») s (h .«tags_at») ≡ shown tags
-  pub strict :
-      pack event
-      ≡ take 128 s
-      ++ (uleb (h .«created_at»)
-      ++ (uleb (h .kind) ++ (uleb (h .content .len) ++ (bytesOf s (h .content) ++ (uleb (h .«tag_count») ++ packTags (map (map (textOf s)) (tags .value)))))))
-
-pieces-of : (s : List ℕ) → IsBytes s → (p : Packed) → packedAt s ≡ shown p → Pieces s (p .head)
-unfolding unpack
-pieces-of s bytes p e =
-    let a = packed-apart s p e in
-    let n = many-count (tagAt s) (p .head .«tag_count») (p .head .«tags_at») _ (a .1) in
-    record {
-      event = eventOf s p;
-      shows = rw e;
-      tags = record { value = p .tags; next = a .0 };
-      reads = a .1;
-      strict = pack-pieces s bytes (p .head) (packed-head s p e) (p .tags) n;
-    }
-
-pub walk-pieces : (s : List ℕ) → IsBytes s → (w : Walked) → walkAt s ≡ shown w → Pieces s (w .head)
-walk-pieces s bytes w e =
-    let p = walked-packed s w e in
-    subst (λ (h : Head). Pieces s h) (sym (p .2)) (pieces-of s bytes (p .0) (p .1))
 
 -- ---- the event behind the numbers
 

@@ -1,22 +1,21 @@
--- The walk over a whole input: what stands in front of the tags takes no less room than its strict form, and the tally is the strict form's.
+-- The walk over a whole input: what stands in front of the tags takes no less room than its strict form, and the tally
+-- is the strict form's.
 -- From the pieces of the head and the pass over the tags.
 use Prim.Native.Nat.{ℕ, _+_, _≤_, _<_}
-use mathlib.Core.Path.{_≡_, refl, sym, ap, _∙_, subst}
-use mathlib.Core.Bool.{Bool, true, false}
-use mathlib.Core.List.{List, [], _∷_, _++_, map, append-assoc}
+use mathlib.Core.Path.{_≡_, refl, sym, ap, _∙_}
+use mathlib.Core.Bool.{true, false}
+use mathlib.Core.List.{List, map}
 use native.Mathlib.Omega.{arith}
-use lib.ListN.{length, take, drop, length-append, length-map}
-use lib.Seq.{take-add, drop-drop}
+use lib.ListN.{length, length-append, length-map}
 use lib.Dec.{eqb}
 use borrow.Author.Tests.{le-leb, lt-leb, eq-eqb, ne-eqb}
-use Rattle.scan.specs.Choice.{pick, either, Answer, shown, refused, Read, read, andThen}
-use Rattle.scan.specs.Span.{Span, IsBytes}
+use Rattle.scan.specs.Choice.{pick, Answer, shown, refused, Read, read, andThen}
+use Rattle.scan.specs.Span.{IsBytes}
 use Rattle.scan.proofs.SpanLaws.{span-length, span-fits}
-use Rattle.scan.proofs.Reading.{Reads, shown-reads, shown-gives, read-same}
-use Rattle.varint.specs.Uleb.{uleb}
+use Rattle.scan.proofs.Reading.{shown-reads, shown-gives, read-same}
+use Rattle.scan.proofs.Many.{then-shown}
 use Rattle.varint.proofs.UlebLaws.{uleb-shortest}
 use Rattle.hex.specs.Hex.{hexes}
-use Rattle.event.specs.Event.{Event}
 use Rattle.notepack.specs.declared.Cursor.{Cursor}
 use Rattle.notepack.specs.declared.Part.{Part}
 use Rattle.notepack.specs.declared.Head.{Head}
@@ -27,8 +26,7 @@ use Rattle.notepack.specs.Strict.{packTags, pack}
 use Rattle.notepack.specs.Unpack.{bytesOf, textOf, tagsAt, headAt, Packed, packedAt, eventOf, unpack}
 use Rattle.notepack.specs.Tally.{hollowTags, headLen, more, passTags, tallyOf}
 use Rattle.notepack.specs.Answers.{pass, Walked, walkAt}
-use Rattle.notepack.proofs.Piece.{Piece}
-use Rattle.notepack.proofs.Sound.{Headed, LaidTags, sized-text, head-gives, tags-reads, packed-gives}
+use Rattle.notepack.proofs.Sound.{Headed, sized-text, head-gives, tags-reads}
 
 -- an input over the limit is refused first of all
 pub walk-long : (s : List ℕ) → 65_536 < length s → refused 1 0 ≡ walkAt s
@@ -82,21 +80,6 @@ module _ (s : List ℕ) (bytes : IsBytes s) (h : Head) (found : headAt s ≡ sho
       let c = sized-text (d .content .2) in
       let m : length (map (map (textOf s)) ts) ≡ h .«tag_count» = length-map ts (map (textOf s)) ∙ n in
       simp (length-append, m, c .4) (omega (arith, d .ids, c .4))
-
-  -- the strict form, by what stands in the input
-  pub pack-pieces : (ts : List (List Part)) → length ts ≡ h .«tag_count»
-      → pack (eventOf s (record { head = h; tags = ts }))
-      ≡ take 128 s
-      ++ (uleb (h .«created_at»)
-      ++ (uleb (h .kind) ++ (uleb (h .content .len) ++ (bytesOf s (h .content) ++ (uleb (h .«tag_count») ++ packTags (map (map (textOf s)) ts))))))
-  unfolding pack eventOf
-  pack-pieces ts n =
-      let d = headed in
-      let c = sized-text (d .content .2) in
-      let m : length (map (map (textOf s)) ts) ≡ h .«tag_count» = length-map ts (map (textOf s)) ∙ n in
-      let ids : take 128 s ≡ take 32 s ++ (take 32 (drop 32 s) ++ take 64 (drop 64 s)) =
-      take-add 32 96 s ∙ ap (λ (l : List ℕ). take 32 s ++ l) (take-add 32 64 (drop 32 s) ∙ ap (λ (l : List ℕ). take 32 (drop 32 s) ++ take 64 l) (drop-drop 32 32 s)) in
-      rw (ids, m, c .4, c .5) (sym (simp append-assoc))
 
   -- the tally of what stands in front of the tags
   abbrev front : Tally
@@ -156,36 +139,13 @@ module _ (s : List ℕ) (bytes : IsBytes s) (h : Head) (found : headAt s ≡ sho
 
 -- ---- what a walk says of the event
 
-walked-apart : (s : List ℕ) (w : Walked) (r : Answer Packed) → andThen {B = Walked} r (λ (p : Packed). shown (record { head = p .head; tally = tallyOf s p })) ≡ shown w
-    → (p : Packed) × (r ≡ shown p) × (w .head ≡ p .head) × (w .tally ≡ tallyOf s p)
-walked-apart s w (shown p) e =
-    let f : _≡_ {A = Walked} (record { head = p .head; tally = tallyOf s p }) w = cc in
-    (p, refl, ap (λ (v : Walked). v .head) (sym f), ap (λ (v : Walked). v .tally) (sym f))
-walked-apart s w (refused n q) e = let z : _≡_ {A = ℕ} 0 1 = cc in absurd (omega arith)
-
 -- the packed event behind a walk
-pub walked-packed : (s : List ℕ) (w : Walked) → walkAt s ≡ shown w → (p : Packed) × (packedAt s ≡ shown p) × (w .head ≡ p .head) × (w .tally ≡ tallyOf s p)
+pub walked-packed : (s : List ℕ) (w : Walked) → walkAt s ≡ shown w → (p : Packed) × (packedAt s ≡ shown p) × (w ≡ record { head = p .head; tally = tallyOf s p })
 unfolding walkAt
-walked-packed s w e = walked-apart s w (packedAt s) e
-
--- a walk shows an event, its strict form's length, and how the input stands to that form
-pub record Shown (s : List ℕ) (t : Tally) : Type 0 where
-  pub event : Event
-  pub shows : unpack s ≡ shown event
-  pub len : t .len ≡ length (pack event)
-  pub piece : Piece (pack event) s (t .hollow)
-
-pub walk-shows : (s : List ℕ) → IsBytes s → (w : Walked) → walkAt s ≡ shown w → Shown s (w .tally)
-unfolding unpack
-walk-shows s bytes w e =
-    let p = walked-packed s w e in
-    let g = shown-gives (rw (p .1) at (packed-gives s bytes)) in
-    record {
-      event = eventOf s (p .0);
-      shows = rw (p .1);
-      len = ap (λ (t : Tally). t .len) (p .3);
-      piece = subst (λ (t : Tally). Piece (pack (eventOf s (p .0))) s (t .hollow)) (sym (p .3)) (g .piece);
-    }
+walked-packed s w e =
+    let p = then-shown (packedAt s) _ w e in
+    let f : _≡_ {A = Walked} (record { head = p .0 .head; tally = tallyOf s (p .0) }) w = cc in
+    (p .0, p .1, sym f)
 
 -- a walk that is refused is the reader's refusal
 pub walk-refuses : (s : List ℕ) (n q : ℕ) → walkAt s ≡ refused n q → unpack s ≡ refused n q

@@ -1,4 +1,5 @@
--- The layout of notepack (document 01, "Notepack layout"): which bytes lay out which event, with any spelling of each varint. Says nothing of refusals. Assumes nothing.
+-- The layout of notepack (document 01, "Notepack layout"): which bytes lay out which event, with any spelling of each
+-- varint. Says nothing of refusals. Assumes nothing.
 use Prim.Native.Nat.{ℕ, _+_, _*_}
 use mathlib.Core.List.{List, [], _∷_, _++_}
 use lib.ListN.{length}

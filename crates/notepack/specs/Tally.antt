@@ -1,4 +1,5 @@
--- What one pass over a packed event measures besides: the length of the strict form, and whether an element is hollow. Assumes nothing.
+-- What one pass over a packed event measures besides: the length of the strict form, and whether an element is hollow.
+-- Assumes nothing.
 use Prim.Native.Nat.{ℕ, _+_}
 use mathlib.Core.Bool.{Bool, true, false}
 use mathlib.Core.List.{List, [], _∷_, map}

@@ -1,4 +1,5 @@
--- Reading notepack at places of the input, with document 01's refusals and their places. `proofs/` shows that it is `Lays`. Assumes nothing.
+-- Reading notepack at places of the input, with document 01's refusals and their places. `proofs/` shows that it is
+-- `Lays`. Assumes nothing.
 use Prim.Native.Nat.{ℕ, _+_, _-_, _/_, _%_}
 use mathlib.Core.Bool.{Bool, true, false}
 use mathlib.Core.List.{List, [], _∷_, map}

@@ -1,4 +1,5 @@
--- What is asked of a packed event besides its numbers: the content, a tag's number of texts, an element (document 01, "Views"). Assumes nothing.
+-- What is asked of a packed event besides its numbers: the content, a tag's number of texts, an element (document 01,
+-- "Views"). Assumes nothing.
 use Prim.Native.Nat.{ℕ, zero, suc}
 use mathlib.Core.List.{List, [], _∷_}
 use lib.ListN.{length}

@@ -8,6 +8,7 @@ ghost use Rattle.scan.specs.Choice.{andThen, shown};
 ghost use Rattle.hex.specs.Hex.{hexes};
 ghost use Rattle.notepack.specs.Strict.{packElement};
 ghost use Rattle.notepack.specs.Unpack.{textOf, payloadAt, textAt, numberAt, contentAt, elementAt, elementsAt, tagCountAt, tagAt, tagsAt, numbersAt, headAt};
+ghost use Rattle.notepack.specs.Again.{elementPartAt, partAgain, countAgain};
 ghost use Rattle.notepack.specs.Tally.{headLen, isHollow, more, passElements, passTag, passTags};
 ghost use Rattle.notepack.specs.Views.{numbersOf, textsIn, elementOf, view, contentOf, tagStart, elementPlace};
 ghost use Rattle.notepack.specs.Answers.{countRead, elementRead, partRead, numberRead, pass, headRead, walk, walkAt};
@@ -34,7 +35,8 @@ pub struct Head {
 }
 
 // The strict length of what was read so far, and whether an element was raw and empty.
-// Where one comes from a call it is taken field by field: a copy of the whole, padding and all, waits for the stores before it.
+// Where one comes from a call it is taken field by field: a copy of the whole, padding and all, waits for the stores
+// before it.
 pub struct Tally {
     pub len: usize,
     pub hollow: bool,
@@ -79,6 +81,18 @@ pub enum Pass {
     Refused(Refusal),
 }
 
+// An element's part, read again behind the reader, and the place behind it.
+pub struct PartAgain {
+    pub part: Part,
+    pub next: usize,
+}
+
+// A tag's number of texts, read again behind the reader, and the place behind it.
+pub struct CountAgain {
+    pub count: u64,
+    pub next: usize,
+}
+
 // A whole packed event, with the tally of its strict form; or the refusal.
 pub enum Walk {
     Done(Head, Tally),
@@ -87,7 +101,7 @@ pub enum Walk {
 
 impl Cursor {
     // n bytes. A length beyond the rest is refused at the place of that length.
-    pub fn payload(self, s: &[u8], place: usize, raw: bool, n: u64) -> PartRead
+    fn payload(self, s: &[u8], place: usize, raw: bool, n: u64) -> PartRead
         ensures { λ r. ⌜ partRead r ≡ payloadAt place raw n (now (s .entry)) (self .at) ⌝ }
     {
         let at = self.at;
@@ -102,7 +116,7 @@ impl Cursor {
     }
 
     // n bytes of well-formed text.
-    pub fn text(self, s: &[u8], place: usize, n: u64) -> PartRead
+    fn text(self, s: &[u8], place: usize, n: u64) -> PartRead
         ensures { λ r. ⌜ partRead r ≡ textAt place n (now (s .entry)) (self .at) ⌝ }
     {
         let at = self.at;
@@ -170,7 +184,7 @@ impl Cursor {
     }
 
     // The number of elements of a tag.
-    pub fn tag_count(self, s: &[u8]) -> NumberRead
+    fn tag_count(self, s: &[u8]) -> NumberRead
         ensures { λ r. ⌜ numberRead r ≡ tagCountAt (now (s .entry)) (self .at) ⌝ }
     {
         let at = self.at;
@@ -202,7 +216,7 @@ impl Cursor {
             let found = c.element(s);
             match found {
                 PartRead::Found(p, next) => {
-                    let n = element_len(s, p);
+                    let n = packed_part_len(s, p);
                     sum = sum.more(n, is_hollow(p));
                     c = next;
                     left -= 1;
@@ -282,7 +296,7 @@ fn is_hollow(p: Part) -> bool
 }
 
 // The length of the strict element whose text these bytes are.
-pub fn text_len(t: &[u8]) -> usize
+pub fn packed_text_len(t: &[u8]) -> usize
     ensures { λ r. ⌜ r ≡ length (packElement (now (t .entry))) ⌝ }
     ensures { λ r. ⌜ r ≤ length (now (t .entry)) + 10 ⌝ }
 {
@@ -305,14 +319,14 @@ fn bytes_len(b: &[u8]) -> usize
 }
 
 // The length of the strict element that has a part's text.
-fn element_len(s: &[u8], p: Part) -> usize
+fn packed_part_len(s: &[u8], p: Part) -> usize
     ensures { λ r. ⌜ r ≡ length (packElement (textOf (now (s .entry)) p)) ⌝ }
 {
     let bytes = scan::part(s, p.at, p.len);
     if p.raw {
         return bytes_len(bytes);
     }
-    text_len(bytes)
+    packed_text_len(bytes)
 }
 
 // created_at, kind, the content and the number of tags.
@@ -562,5 +576,57 @@ pub fn element<'a>(s: &'a [u8], i: u64, j: u64) -> &'a [u8]
     match found {
         ElementRead::Found(p) => scan::part(s, p.at, p.len),
         ElementRead::Refused(_) => &s[..0],
+    }
+}
+
+// ---- going over it again
+
+// An element's part, with no second test of its text.
+fn read_part(s: &[u8], at: usize) -> PartRead
+    ensures { λ r. ⌜ partRead r ≡ elementPartAt (now (s .entry)) at ⌝ }
+{
+    let found = varint::Cursor { at }.varint(s);
+    match found {
+        VarintRead::Value(word, behind) => {
+            Cursor { at: behind.at }.payload(s, at, word % 2 == 1, word / 2)
+        }
+        VarintRead::Refused(r) => PartRead::Refused(r),
+    }
+}
+
+// The part at a place; where none is read it is empty and the place stays.
+pub fn part_again(s: &[u8], at: usize) -> PartAgain
+    ensures { λ r. ⌜ r .part ≡ partAgain (now (s .entry)) at .value ⌝ }
+    ensures { λ r. ⌜ r .next ≡ partAgain (now (s .entry)) at .next ⌝ }
+{
+    let found = read_part(s, at);
+    match found {
+        PartRead::Found(part, behind) => PartAgain {
+            part,
+            next: behind.at,
+        },
+        PartRead::Refused(_) => PartAgain {
+            part: Part {
+                at,
+                len: 0,
+                raw: false,
+            },
+            next: at,
+        },
+    }
+}
+
+// A tag's number of texts; 0, and the place stays, where none is read.
+pub fn count_again(s: &[u8], at: usize) -> CountAgain
+    ensures { λ r. ⌜ r .count ≡ countAgain (now (s .entry)) at .value ⌝ }
+    ensures { λ r. ⌜ r .next ≡ countAgain (now (s .entry)) at .next ⌝ }
+{
+    let found = Cursor { at }.number(s, event::MAX_TEXTS, event::TOO_MANY);
+    match found {
+        NumberRead::Number(count, behind) => CountAgain {
+            count,
+            next: behind.at,
+        },
+        NumberRead::Refused(_) => CountAgain { count: 0, next: at },
     }
 }

@@ -6,13 +6,14 @@ use mathlib.Core.Bool.{Bool, true, false}
 use mathlib.Core.List.{List, [], _∷_, _++_, append-nil, map}
 use Rattle.scan.specs.Choice.{Answer, shown, Read, read}
 use Rattle.scan.specs.Span.{Span, here, All, none, also}
-use Rattle.scan.proofs.SpanLaws.{join, cut, none-span}
+use Rattle.scan.proofs.SpanLaws.{join, cut, none-span, respell}
+use Rattle.scan.proofs.Many.{after, shown-same}
 use Rattle.escape.specs.Escape.{nsonByte}
 use Rattle.event.specs.Event.{Tag}
-use Rattle.tagtext.specs.TagText.{quoted, commaed, array, tagText, tagsText}
-use Rattle.nson.specs.Nson.{bytesIn}
+use Rattle.jsontags.specs.TagText.{quoted, commaed, array, tagText, tagsText}
+use Rattle.nson.specs.Nson.{escapedSize}
 use Rattle.nson.specs.Read.{pieceAt, commaAt, itemsAt, arrayAt, itemAt, tagAt, tagsAt}
-use Rattle.nson.proofs.Pieces.{after, shown-same, respell, piece-shown, piece-accepts}
+use Rattle.nson.proofs.Pieces.{piece-shown, piece-accepts}
 use Rattle.nson.proofs.Texts.{Spelled, Good, item-shown, item-accepts}
 
 -- ---- commas: in front of each item but the first
@@ -99,20 +100,20 @@ module _ {N A : Type 0} (f : A → List ℕ) (size : A → N) (Q : A → Type 0)
 
 -- ---- a tag, and the tags
 
-pub tag-shown : (s l : List ℕ) (at : ℕ) (v : Read Tag) → tagAt s l at ≡ shown v → Spelled (tagText nsonByte) (map bytesIn) (All Good) s l at v
+pub tag-shown : (s l : List ℕ) (at : ℕ) (v : Read Tag) → tagAt s l at ≡ shown v → Spelled (tagText nsonByte) (map escapedSize) (All Good) s l at v
 unfolding tagAt tagText
-tag-shown s l at v e = array-shown (quoted nsonByte) bytesIn Good s (itemAt s) (item-shown s) l at v e
+tag-shown s l at v e = array-shown (quoted nsonByte) escapedSize Good s (itemAt s) (item-shown s) l at v e
 
 pub tags-shown : (s : List ℕ) (l : List (List ℕ)) (at : ℕ) (v : Read (List Tag)) → tagsAt l s at ≡ shown v
-    → Spelled (tagsText nsonByte) (map (map bytesIn)) (All (All Good)) s l at v
+    → Spelled (tagsText nsonByte) (map (map escapedSize)) (All (All Good)) s l at v
 unfolding tagsAt tagsText
-tags-shown s l at v e = array-shown (tagText nsonByte) (map bytesIn) (All Good) s (tagAt s) (tag-shown s) l at v e
+tags-shown s l at v e = array-shown (tagText nsonByte) (map escapedSize) (All Good) s (tagAt s) (tag-shown s) l at v e
 
-pub tag-accepts : (s : List ℕ) (t : Tag) (at c : ℕ) → All Good t → Span s at (tagText nsonByte t) c → tagAt s (map bytesIn t) at ≡ read t c
+pub tag-accepts : (s : List ℕ) (t : Tag) (at c : ℕ) → All Good t → Span s at (tagText nsonByte t) c → tagAt s (map escapedSize t) at ≡ read t c
 unfolding tagAt tagText
-tag-accepts s t at c g r = array-accepts (quoted nsonByte) bytesIn Good s (itemAt s) (item-accepts s) t at c g r
+tag-accepts s t at c g r = array-accepts (quoted nsonByte) escapedSize Good s (itemAt s) (item-accepts s) t at c g r
 
 pub tags-accept : (s : List ℕ) (l : List Tag) (at c : ℕ) → All (All Good) l → Span s at (tagsText nsonByte l) c
-    → tagsAt (map (map bytesIn) l) s at ≡ read l c
+    → tagsAt (map (map escapedSize) l) s at ≡ read l c
 unfolding tagsAt tagsText
-tags-accept s l at c g r = array-accepts (tagText nsonByte) (map bytesIn) (All Good) s (tagAt s) (tag-accepts s) l at c g r
+tags-accept s l at c g r = array-accepts (tagText nsonByte) (map escapedSize) (All Good) s (tagAt s) (tag-accepts s) l at c g r

@@ -7,15 +7,16 @@ use lib.ListN.{length}
 use borrow.Author.Tests.{leb-true, le-leb}
 use Rattle.scan.specs.Choice.{shown, Read, read}
 use Rattle.scan.specs.Span.{Span, All}
-use Rattle.scan.proofs.SpanLaws.{join, cut}
+use Rattle.scan.proofs.SpanLaws.{join, cut, respell}
+use Rattle.scan.proofs.Many.{after, pick-shown, shown-same}
 use Rattle.decimal.specs.Decimal.{decimal}
 use Rattle.escape.specs.Escape.{nsonByte, escaped}
 use Rattle.event.specs.Event.{Text, Tag}
 use Rattle.jsontext.specs.Escape.{unescape}
-use Rattle.tagtext.specs.TagText.{tagsText}
-use Rattle.nson.specs.Nson.{kindLabel, contentLabel, tagsLabel, endLabel, Counts, bytesIn}
+use Rattle.jsontags.specs.TagText.{tagsText}
+use Rattle.nson.specs.Nson.{kindLabel, contentLabel, tagsLabel, endLabel, Counts, escapedSize}
 use Rattle.nson.specs.Read.{pieceAt, partAt, decimalAt, textAt, kindAt, tagsAt, kindPartAt, contentPartAt, tagsPartAt, Body, bodyAt}
-use Rattle.nson.proofs.Pieces.{after, pick-shown, shown-same, respell, piece-shown, piece-accepts, decimal-shown, decimal-accepts}
+use Rattle.nson.proofs.Pieces.{piece-shown, piece-accepts, decimal-shown, decimal-accepts}
 use Rattle.nson.proofs.Texts.{Spelled, Good, text-shown, text-accepts}
 use Rattle.nson.proofs.Arrays.{tags-shown, tags-accept}
 
@@ -43,7 +44,7 @@ unfolding kindPartAt
 kind-part-shown n s at v e = after (pieceAt 13 kindLabel s at) _ v e (λ a p e₁. (a, piece-shown 13 kindLabel s at a p, kind-shown n s a v e₁))
 
 content-part-shown : (n : ℕ) (s : List ℕ) (at : ℕ) (v : Read Text) → contentPartAt n s at ≡ shown v
-    → (a : ℕ) × Span s at contentLabel a × Spelled (escaped nsonByte) bytesIn Good s n a v
+    → (a : ℕ) × Span s at contentLabel a × Spelled (escaped nsonByte) escapedSize Good s n a v
 unfolding contentPartAt
 content-part-shown n s at v e =
     after (pieceAt 13 contentLabel s at) _ v e
@@ -54,7 +55,7 @@ content-part-shown n s at v e =
     (a, piece-shown 13 contentLabel s at a p, rw (sym f) (text-shown n s a b q))))
 
 tags-part-shown : (l : List (List ℕ)) (s : List ℕ) (at : ℕ) (v : Read (List Tag)) → tagsPartAt l s at ≡ shown v
-    → (a : ℕ) × (b : ℕ) × Span s at tagsLabel a × Spelled (tagsText nsonByte) (map (map bytesIn)) (All (All Good)) s l a (record { value = v .value; next = b }) × Span s b endLabel (v .next)
+    → (a : ℕ) × (b : ℕ) × Span s at tagsLabel a × Spelled (tagsText nsonByte) (map (map escapedSize)) (All (All Good)) s l a (record { value = v .value; next = b }) × Span s b endLabel (v .next)
 unfolding tagsPartAt
 tags-part-shown l s at v e =
     after (pieceAt 13 tagsLabel s at) _ v e
@@ -72,7 +73,7 @@ abbrev pub bodySpelling : Body → List ℕ
 bodySpelling b = kindLabel ++ decimal (b .kind) ++ contentLabel ++ escaped nsonByte (b .content) ++ tagsLabel ++ tagsText nsonByte (b .tags) ++ endLabel
 
 abbrev pub bodyCounts : Body → Counts
-bodyCounts b = record { kind = digits (b .kind); content = bytesIn (b .content); tags = map (map bytesIn) (b .tags) }
+bodyCounts b = record { kind = digits (b .kind); content = escapedSize (b .content); tags = map (map escapedSize) (b .tags) }
 
 pub record GoodBody (b : Body) : Type 0 where
   pub kind16 : b .kind ≤ 65_535

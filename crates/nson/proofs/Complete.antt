@@ -9,16 +9,17 @@ use lib.ListN.{length}
 use borrow.Author.Tests.{le-leb, eq-eqb}
 use Rattle.scan.specs.Choice.{shown, read}
 use Rattle.scan.specs.Span.{Span}
-use Rattle.scan.proofs.SpanLaws.{cut, cut-at, span-length, input-span}
+use Rattle.scan.proofs.SpanLaws.{cut, cut-at, span-length, input-span, respell, part-of-span}
+use Rattle.scan.proofs.Many.{shown-same}
 use Rattle.hex.specs.Hex.{hexes, unhex}
 use Rattle.hex.proofs.Texts.{length-hexes, hexes-digits, unhex-hexes}
 use Rattle.decimal.specs.Decimal.{decimal}
 use Rattle.decimal.proofs.Spelling.{length-ten}
 use Rattle.event.specs.Event.{Event, Bytes, Valid}
-use Rattle.nson.specs.Nson.{idLabel, pubkeyLabel, sigLabel, timeLabel, nsonLabel, counts, field, headText, bodyText, nson}
+use Rattle.nson.specs.Nson.{idLabel, pubkeyLabel, sigLabel, timeLabel, nsonLabel, counts, nsonField, headText, bodyText, nson}
 use Rattle.nson.specs.Carries.{Carries}
-use Rattle.nson.specs.Read.{hexAt, labelledAt, keysAt, timeAt, headAt, Body, eventOf, eventAt, readNson}
-use Rattle.nson.proofs.Pieces.{shown-same, respell, part-of-span, piece-accepts, hex-accepts, decimal-accepts}
+use Rattle.nson.specs.Read.{hexAt, labelledAt, keysAt, timeAt, headAt, Body, eventRead, eventAt, readNson}
+use Rattle.nson.proofs.Pieces.{piece-accepts, hex-accepts, decimal-accepts}
 use Rattle.nson.proofs.Field.{counts-accept}
 use Rattle.nson.proofs.Body.{GoodBody, body-accepts}
 use Rattle.nson.proofs.Head.{keyAt}
@@ -92,13 +93,13 @@ good-body c v =
     record { kind16 = v .kind16; content = record { carried = fit .plain; utf8 = v .text }; texts = carried-tags (c .texts) (v .each) .0 }
 
 pub event-accepts : {s : List ℕ} {e : Event} {end : ℕ} → Carries e → Valid e → Span s 0 (nson e) end → eventAt s ≡ read e end
-unfolding eventAt eventOf counts nson bodyText
+unfolding eventAt eventRead counts nson bodyText
 event-accepts {s} {e} {end} c v r =
-    let u = cut (headText e ++ field (counts e)) r in
+    let u = cut (headText e ++ nsonField (counts e)) r in
     let w = cut (headText e) (u .1) in
     let h = head-accepts c v (w .1) in
     let few = c .few in
-    let at : Span s 318 (field (counts e)) (u .0) = subst (λ (k : ℕ). Span s k (field (counts e)) (u .0)) (h .place) (w .2) in
+    let at : Span s 318 (nsonField (counts e)) (u .0) = subst (λ (k : ℕ). Span s k (nsonField (counts e)) (u .0)) (h .place) (w .2) in
     let n = counts-accept (carried-holds c v) (omega (arith, descriptors-length e)) at in
     let b = body-accepts (good-body c v) (u .2) in
     rw (h .shows, n, b, h .id, h .pubkey, h .sig)

@@ -12,13 +12,12 @@ use Rattle.scan.specs.Choice.{pick, shown, refused, Read, read}
 use Rattle.scan.specs.Place.{within}
 use Rattle.scan.specs.Span.{Span, All}
 use Rattle.scan.proofs.SpanLaws.{join, cut-at, span-length}
+use Rattle.scan.proofs.Many.{after, pick-shown, shown-same, many-shown, many-accepts}
 use Rattle.hex.specs.Hex.{hexes}
 use Rattle.hex.proofs.Digits.{in-range}
 use Rattle.hex.proofs.Texts.{hexes-append}
 use Rattle.nson.specs.Nson.{Counts, word, words, tagCounts}
 use Rattle.nson.specs.Read.{byteCountAt, wordCountAt, kindCountAt, itemCountAt, tagCountsAt}
-use Rattle.nson.proofs.Pieces.{after, pick-shown, shown-same}
-use Rattle.nson.proofs.Repeats.{many-shown, many-accepts}
 use Rattle.nson.proofs.Descriptors.{byte-count-shown, byte-count-accepts, word-count-shown, word-count-accepts}
 
 -- ---- what counts the field can hold

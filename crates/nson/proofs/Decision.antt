@@ -16,18 +16,18 @@ use Rattle.hex.proofs.Digits.{in-range}
 use Rattle.escape.specs.Escape.{nsonText}
 use Rattle.escape.proofs.QuotedLaws.{nson-text}
 use Rattle.event.specs.Event.{Text, Tag, Event}
-use Rattle.nson.specs.Nson.{bytesIn, nson}
+use Rattle.nson.specs.Nson.{escapedSize, nson}
 use Rattle.nson.specs.Carries.{tagBytes, Fits, Carries, fits, allFit, tagsFit, carries}
 
 fits-true : (t : Text) → fits t ≡ true → Fits t
 unfolding fits
 fits-true t h =
-    let p = pick-true (nsonText t) (leb (bytesIn t) 65_535) h in
-    record { plain = nson-text t .0 (p .0); short = leb-true (bytesIn t) 65_535 (p .1) }
+    let p = pick-true (nsonText t) (leb (escapedSize t) 65_535) h in
+    record { plain = nson-text t .0 (p .0); short = leb-true (escapedSize t) 65_535 (p .1) }
 
 true-fits : {t : Text} → Fits t → fits t ≡ true
 unfolding fits
-true-fits {t} f = rw (nson-text t .1 (f .plain)) (le-leb (bytesIn t) 65_535 (f .short))
+true-fits {t} f = rw (nson-text t .1 (f .plain)) (le-leb (escapedSize t) 65_535 (f .short))
 
 -- NSON can carry a text exactly if the test says so
 pub fits-exactly : (t : Text) → (fits t ≡ true) ↔ Fits t

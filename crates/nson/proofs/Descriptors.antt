@@ -9,12 +9,13 @@ use lib.Dec.{leb}
 use borrow.Author.Tests.{le-leb}
 use Rattle.scan.specs.Choice.{shown, Read, read}
 use Rattle.scan.specs.Span.{Span, here, step, All, none, also, IsBytes}
-use Rattle.scan.proofs.SpanLaws.{cut-at, span-length}
-use Rattle.hex.specs.Hex.{Digit, hexes, unhex}
+use Rattle.scan.proofs.SpanLaws.{cut-at, span-length, respell}
+use Rattle.scan.proofs.Many.{after, pick-shown, shown-same}
+use Rattle.hex.specs.Hex.{LowerHex, hexes, unhex}
 use Rattle.hex.proofs.Texts.{hexes-digits, hexes-unhex, unhex-hexes}
 use Rattle.nson.specs.Nson.{word}
 use Rattle.nson.specs.Read.{hexAt, byteHere, wordHere, descriptorAt, byteCountAt, wordCountAt}
-use Rattle.nson.proofs.Pieces.{after, pick-shown, shown-same, respell, HexHere, hex-shown, hex-accepts}
+use Rattle.nson.proofs.Pieces.{HexHere, hex-shown, hex-accepts}
 
 -- ---- the byte and the number at a place
 
@@ -92,7 +93,7 @@ descriptor-shown : (n end : ℕ) (s : List ℕ) (at p : ℕ) → descriptorAt n 
 unfolding descriptorAt
 descriptor-shown n end s at p e = hex-shown n s at p (pick-shown (leb (at + n) end) (hexAt n s at) 13 318 p e .1)
 
-descriptor-accepts : {s l : List ℕ} {at p : ℕ} (n end : ℕ) → p ≤ end → Span s at l p → length l ≡ n → All Digit l → descriptorAt n end s at ≡ shown p
+descriptor-accepts : {s l : List ℕ} {at p : ℕ} (n end : ℕ) → p ≤ end → Span s at l p → length l ≡ n → All LowerHex l → descriptorAt n end s at ≡ shown p
 unfolding descriptorAt
 descriptor-accepts {at = at} n end h r e d = let k = span-length r in rw (le-leb (at + n) end (omega arith)) (hex-accepts n r e d)
 

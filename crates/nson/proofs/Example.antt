@@ -11,11 +11,12 @@ use Rattle.utf8.specs.Width.{widthOf}
 use Rattle.hex.specs.Hex.{hexes, valueOf, unhex, allDigits}
 use Rattle.decimal.specs.Decimal.{decimalIn, decimal}
 use Rattle.escape.specs.Escape.{nsonByte, escaped}
-use Rattle.event.specs.Event.{Event, sameText}
-use Rattle.jsontext.specs.Escape.{letterOf, letterEscape, escapeAt, orItself, unescaped, unescape}
-use Rattle.counted.specs.Counted.{isLetter, faultFrom, faultIn}
-use Rattle.tagtext.specs.TagText.{quoted, tagText, tagsText}
-use Rattle.nson.specs.Nson.{bytesIn, counts, field, headText, bodyText, nson}
+use Rattle.scan.specs.Compare.{sameBytes}
+use Rattle.event.specs.Event.{Event}
+use Rattle.jsontext.specs.Escape.{unescapedLetter, letterEscape, escapeAt, orItself, unescaped, unescape}
+use Rattle.nsonstring.specs.Counted.{isLetter, faultFrom, faultIn}
+use Rattle.jsontags.specs.TagText.{quoted, tagText, tagsText}
+use Rattle.nson.specs.Nson.{escapedSize, counts, nsonField, headText, bodyText, nson}
 use Rattle.nson.specs.Read as reading
 use Rattle.nson.proofs.Sound.{Accepted, accepted}
 
@@ -36,21 +37,21 @@ event =
 abbrev with : ℕ → List ℕ
 with n = headText event ++ hexes (0x08 ∷ 0x01 ∷ 0x00 ∷ n ∷ 0x00 ∷ []) ++ bodyText event
 
-pub example-field : field (counts event) ≡ hexes (0x08 ∷ 0x01 ∷ 0x00 ∷ 0x04 ∷ 0x00 ∷ [])
-unfolding field counts bytesIn escaped nsonByte decimal decimalIn
+pub example-field : nsonField (counts event) ≡ hexes (0x08 ∷ 0x01 ∷ 0x00 ∷ 0x04 ∷ 0x00 ∷ [])
+unfolding nsonField counts escapedSize escaped nsonByte decimal decimalIn
 example-field = refl
 
 pub example-length : length (nson event) ≡ 366
-unfolding nson headText bodyText field counts bytesIn escaped nsonByte decimal decimalIn tagsText
+unfolding nson headText bodyText nsonField counts escapedSize escaped nsonByte decimal decimalIn tagsText
 example-length = refl
 
 pub example-read : reading.readNson (nson event) ≡ shown event
-unfolding nson headText bodyText field counts bytesIn escaped nsonByte decimal decimalIn tagsText tagText quoted reading.readNson reading.eventAt reading.eventOf reading.headAt reading.keysAt reading.labelledAt reading.timeAt reading.pieceAt reading.hexAt reading.decimalAt reading.isDecimal reading.countsAt reading.countsTo reading.kindCountAt reading.itemCountAt reading.tagCountsAt reading.byteCountAt reading.wordCountAt reading.descriptorAt reading.byteHere reading.wordHere reading.bodyAt reading.kindPartAt reading.kindAt reading.contentPartAt reading.tagsPartAt reading.tagsAt reading.tagAt reading.itemAt reading.arrayAt reading.itemsAt reading.textAt many faultIn faultFrom isLetter widthOf within standsAt begins valueOf unhex allDigits sameText unescape unescaped orItself escapeAt letterEscape letterOf encode
+unfolding nson headText bodyText nsonField counts escapedSize escaped nsonByte decimal decimalIn tagsText tagText quoted reading.readNson reading.eventAt reading.eventRead reading.headAt reading.keysAt reading.labelledAt reading.timeAt reading.pieceAt reading.hexAt reading.decimalAt reading.isDecimal reading.countsAt reading.countsTo reading.kindCountAt reading.itemCountAt reading.tagCountsAt reading.byteCountAt reading.wordCountAt reading.descriptorAt reading.byteHere reading.wordHere reading.bodyAt reading.kindPartAt reading.kindAt reading.contentPartAt reading.tagsPartAt reading.tagsAt reading.tagAt reading.itemAt reading.arrayAt reading.itemsAt reading.textAt many faultIn faultFrom isLetter widthOf within standsAt begins valueOf unhex allDigits sameBytes unescape unescaped orItself escapeAt letterEscape unescapedLetter encode
 example-read = refl
 
 -- the counts 3, 2 and 5 for the content's four bytes: the next piece does not follow, the escape is cut, and a quote is bare
 pub example-refused : (reading.readNson (with 3) ≡ refused 13 353) × (reading.readNson (with 2) ≡ refused 14 350) × (reading.readNson (with 5) ≡ refused 13 350)
-unfolding headText bodyText escaped nsonByte decimal decimalIn tagsText tagText quoted reading.readNson reading.eventAt reading.eventOf reading.headAt reading.keysAt reading.labelledAt reading.timeAt reading.pieceAt reading.hexAt reading.decimalAt reading.isDecimal reading.countsAt reading.countsTo reading.kindCountAt reading.itemCountAt reading.tagCountsAt reading.byteCountAt reading.wordCountAt reading.descriptorAt reading.byteHere reading.wordHere reading.bodyAt reading.kindPartAt reading.kindAt reading.contentPartAt reading.tagsPartAt reading.tagsAt reading.tagAt reading.itemAt reading.arrayAt reading.itemsAt reading.textAt many faultIn faultFrom isLetter widthOf within standsAt begins valueOf unhex allDigits sameText unescape unescaped orItself escapeAt letterEscape letterOf encode
+unfolding headText bodyText escaped nsonByte decimal decimalIn tagsText tagText quoted reading.readNson reading.eventAt reading.eventRead reading.headAt reading.keysAt reading.labelledAt reading.timeAt reading.pieceAt reading.hexAt reading.decimalAt reading.isDecimal reading.countsAt reading.countsTo reading.kindCountAt reading.itemCountAt reading.tagCountsAt reading.byteCountAt reading.wordCountAt reading.descriptorAt reading.byteHere reading.wordHere reading.bodyAt reading.kindPartAt reading.kindAt reading.contentPartAt reading.tagsPartAt reading.tagsAt reading.tagAt reading.itemAt reading.arrayAt reading.itemsAt reading.textAt many faultIn faultFrom isLetter widthOf within standsAt begins valueOf unhex allDigits sameBytes unescape unescaped orItself escapeAt letterEscape unescapedLetter encode
 example-refused = (refl, refl, refl)
 
 -- so there is an event that is carried and valid

@@ -9,12 +9,12 @@ use borrow.Author.Tests.{eqb-true, eq-eqb}
 use Rattle.scan.specs.Choice.{shown, Read, read, many}
 use Rattle.scan.specs.Span.{Span}
 use Rattle.scan.proofs.SpanLaws.{join, cut-at, span-length}
+use Rattle.scan.proofs.Many.{after, pick-shown, shown-same, many-shown, many-accepts}
 use Rattle.hex.specs.Hex.{hexes}
 use Rattle.hex.proofs.Texts.{length-hexes, hexes-digits}
-use Rattle.nson.specs.Nson.{Counts, word, tagCounts, descriptors, field}
+use Rattle.nson.specs.Nson.{Counts, word, tagCounts, descriptors, nsonField}
 use Rattle.nson.specs.Read.{hexAt, byteHere, byteCountAt, wordCountAt, kindCountAt, tagCountsAt, countsTo, countsAt}
-use Rattle.nson.proofs.Pieces.{after, pick-shown, shown-same, hex-shown, hex-accepts}
-use Rattle.nson.proofs.Repeats.{many-shown, many-accepts}
+use Rattle.nson.proofs.Pieces.{hex-shown, hex-accepts}
 use Rattle.nson.proofs.Descriptors.{byte-most, byte-bytes, byte-digits, digits-byte, byte-count-shown, byte-count-accepts, word-count-shown, word-count-accepts}
 use Rattle.nson.proofs.Counts.{TagCounts, Holds, kind-count-shown, kind-count-accepts, tagHexes, tags-more, tag-counts-shown, tag-counts-accept}
 
@@ -64,8 +64,8 @@ counts-to-accept end s at c h r =
 
 -- consumes: counts that are read at 318 stand there as their field, and are such as a field can hold
 pub counts-shown : (s : List ℕ) (v : Read Counts) → countsAt s ≡ shown v
-    → Span s 318 (field (v .value)) (v .next) × Holds (v .value) × (length (descriptors (v .value)) ≤ 127)
-unfolding countsAt field
+    → Span s 318 (nsonField (v .value)) (v .next) × Holds (v .value) × (length (descriptors (v .value)) ≤ 127)
+unfolding countsAt nsonField
 counts-shown s v e =
     after (hexAt 2 s 318) _ v e
     (λ p q e₁.
@@ -80,8 +80,8 @@ counts-shown s v e =
     (join (rw k at size) (c .0), c .2, omega arith))
 
 -- accepts: the field of such counts at 318 is read as the counts
-pub counts-accept : {s : List ℕ} {q : ℕ} {c : Counts} → Holds c → length (descriptors c) ≤ 127 → Span s 318 (field c) q → countsAt s ≡ read c q
-unfolding countsAt field
+pub counts-accept : {s : List ℕ} {q : ℕ} {c : Counts} → Holds c → length (descriptors c) ≤ 127 → Span s 318 (nsonField c) q → countsAt s ≡ read c q
+unfolding countsAt nsonField
 counts-accept {s} {q} {c} h few r =
     let d = descriptors c in
     let u = cut-at (hexes (2 * length d ∷ [])) 2 refl r in

@@ -7,14 +7,15 @@ use native.Mathlib.Omega.{arith}
 use lib.ListN.{length}
 use Rattle.scan.specs.Choice.{shown, Read}
 use Rattle.scan.specs.Span.{Span}
-use Rattle.scan.proofs.SpanLaws.{join, span-length}
+use Rattle.scan.proofs.SpanLaws.{join, span-length, respell}
+use Rattle.scan.proofs.Many.{after, shown-same}
 use Rattle.hex.specs.Hex.{hexes, unhex}
 use Rattle.hex.proofs.Texts.{hexes-unhex, length-unhex, unhex-bytes}
 use Rattle.decimal.specs.Decimal.{decimal}
 use Rattle.event.specs.Event.{Bytes}
 use Rattle.nson.specs.Nson.{idLabel, pubkeyLabel, sigLabel, timeLabel, nsonLabel}
 use Rattle.nson.specs.Read.{pieceAt, partAt, hexAt, labelledAt, keysAt, timeAt, headAt}
-use Rattle.nson.proofs.Pieces.{after, shown-same, respell, piece-shown, hex-shown, decimal-shown}
+use Rattle.nson.proofs.Pieces.{piece-shown, hex-shown, decimal-shown}
 
 -- ---- a label and hex digits
 

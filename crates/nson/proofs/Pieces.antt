@@ -6,47 +6,20 @@ use mathlib.Core.Bool.{Bool, true, false}
 use mathlib.Core.List.{List}
 use native.Mathlib.Omega.{arith}
 use lib.ListN.{length, take, drop, take-append-drop}
-use lib.Seq.{take-at}
 use borrow.Author.Tests.{eqb-true, eq-eqb}
 use Rattle.scan.specs.Choice.{pick, Answer, shown, refused, Read, read, andThen}
 use Rattle.scan.specs.Span.{Span, All}
 use Rattle.scan.proofs.Step.{pick-true}
-use Rattle.scan.proofs.SpanLaws.{span-length, from-span, to-span}
+use Rattle.scan.proofs.SpanLaws.{span-length, part-of-span, span-of-part}
 use Rattle.scan.proofs.PlaceLaws.{stands-span, span-stands}
 use Rattle.scan.proofs.Reading.{read-same}
-use Rattle.hex.specs.Hex.{Digit}
+use Rattle.scan.proofs.Many.{pick-shown, after, shown-same}
+use Rattle.hex.specs.Hex.{LowerHex}
 use Rattle.hex.proofs.Texts.{digits-pass, pass-digits}
 use Rattle.decimal.specs.Decimal.{decimal, numberOf}
 use Rattle.decimal.proofs.Spelling.{number-decimal}
-use Rattle.event.proofs.Laws.{same-text, text-same}
+use Rattle.scan.proofs.CompareLaws.{same-same, bytes-same}
 use Rattle.nson.specs.Read.{pieceAt, partAt, hexAt, isDecimal, decimalAt}
-
--- ---- general: these six belong to crate scan
-
--- a choice that shows a value has passed its test
-pub pick-shown : {A : Type 0} (t : Bool) (x : Answer A) (number place : ℕ) (v : A) → pick t x (refused number place) ≡ shown v → (t ≡ true) × (x ≡ shown v)
-pick-shown true x number place v e = (refl, e)
-pick-shown false x number place v e = let z : _≡_ {A = ℕ} 0 1 = cc in absurd (omega arith)
-
--- an answer after another, taken apart: what follows from the first one's value
-pub after : {A B R : Type 0} (r : Answer A) (f : A → Answer B) (b : B) → andThen r f ≡ shown b → ((a : A) → r ≡ shown a → f a ≡ shown b → R) → R
-after (shown a) f b e g = g a refl e
-after (refused n p) f b e g = let z : _≡_ {A = ℕ} 0 1 = cc in absurd (omega arith)
-
-pub shown-same : {A : Type 0} {a b : A} → shown a ≡ shown b → a ≡ b
-shown-same e = cc
-
--- the bytes of a span, taken from the input by their number
-pub part-of-span : {s l : List ℕ} {a c : ℕ} (n : ℕ) → length l ≡ n → Span s a l c → take n (drop a s) ≡ l
-part-of-span {s} {l} {a} {c} n e r = rw (from-span r) (take-at l (drop c s) n e)
-
--- and n bytes, if they are there, are a span
-pub span-of-part : (s : List ℕ) (a n : ℕ) → length (take n (drop a s)) ≡ n → Span s a (take n (drop a s)) (a + n)
-span-of-part s a n e = rw e at (to-span s (take n (drop a s)) (drop n (drop a s)) a (sym (take-append-drop n (drop a s))))
-
--- the same bytes, written in another way
-pub respell : {s l m : List ℕ} {a c : ℕ} → l ≡ m → Span s a l c → Span s a m c
-respell {s} {a = a} {c = c} e r = subst (λ (k : List ℕ). Span s a k c) e r
 
 -- ---- a fixed piece
 
@@ -67,7 +40,7 @@ piece-accepts number r = rw (span-stands r) (ap shown (sym (span-length r)))
 pub record HexHere (n : ℕ) (s : List ℕ) (at p : ℕ) : Type 0 where
   pub span : Span s at (partAt n s at) p
   pub count : length (partAt n s at) ≡ n
-  pub digits : All Digit (partAt n s at)
+  pub digits : All LowerHex (partAt n s at)
 
 pub hex-shown : (n : ℕ) (s : List ℕ) (at p : ℕ) → hexAt n s at ≡ shown p → HexHere n s at p
 unfolding hexAt
@@ -79,7 +52,7 @@ hex-shown n s at p e =
     let f : at + n ≡ p = shown-same (v .1) in
     record { span = rw f at (span-of-part s at n c); count = c; digits = pass-digits l (v .0) }
 
-pub hex-accepts : {s l : List ℕ} {at p : ℕ} (n : ℕ) → Span s at l p → length l ≡ n → All Digit l → hexAt n s at ≡ shown p
+pub hex-accepts : {s l : List ℕ} {at p : ℕ} (n : ℕ) → Span s at l p → length l ≡ n → All LowerHex l → hexAt n s at ≡ shown p
 unfolding hexAt
 hex-accepts {s} {l} {at} {p} n r e d =
     let f : at + n ≡ p = ap (λ (k : ℕ). at + k) (sym e) ∙ sym (span-length r) in
@@ -96,11 +69,11 @@ decimal-shown number n s at v e =
     let t = pick-true _ _ (u .0) in
     let c = eqb-true (length l) n (t .0) in
     let f = read-same (u .1) in
-    let d : l ≡ decimal (v .value) = text-same l (decimal (numberOf l)) (t .1) ∙ ap decimal (f .0) in
+    let d : l ≡ decimal (v .value) = bytes-same l (decimal (numberOf l)) (t .1) ∙ ap decimal (f .0) in
     (ap length (sym d) ∙ c, rw (d, f .1) at (span-of-part s at n c))
 
 pub decimal-accepts : {s : List ℕ} {at c : ℕ} (number n x : ℕ) → Span s at (decimal x) c → length (decimal x) ≡ n → decimalAt number n s at ≡ read x c
 unfolding decimalAt isDecimal
 decimal-accepts {s} {at} {c} number n x r e =
     let f : at + n ≡ c = ap (λ (k : ℕ). at + k) (sym e) ∙ sym (span-length r) in
-    rw (part-of-span n e r, eq-eqb (length (decimal x)) n e, number-decimal x, same-text (decimal x)) (ap (read x) f)
+    rw (part-of-span n e r, eq-eqb (length (decimal x)) n e, number-decimal x, same-same (decimal x)) (ap (read x) f)

@@ -12,7 +12,7 @@ use Rattle.scan.proofs.Reading.{read-same}
 use Rattle.hex.specs.Hex.{hexes}
 use Rattle.decimal.proofs.Spelling.{ten-length}
 use Rattle.event.specs.Event.{Event, Valid}
-use Rattle.nson.specs.Nson.{Counts, bytesIn, counts, descriptors, field, nson}
+use Rattle.nson.specs.Nson.{Counts, escapedSize, counts, descriptors, nsonField, nson}
 use Rattle.nson.specs.Carries.{Carries}
 use Rattle.nson.specs.Read.{byteHere, countsAt, readNson}
 use Rattle.nson.proofs.Descriptors.{digits-byte}
@@ -55,7 +55,7 @@ accepted {s} {e} r =
             sig64 = w .sig;
             time = omega (arith, time .1);
             kind16 = w .kind16;
-            few = omega (arith, held .few, length-map (e .tags) (map bytesIn));
+            few = omega (arith, held .few, length-map (e .tags) (map escapedSize));
             each = tags .1;
             text = good .utf8;
           };
@@ -66,12 +66,12 @@ pub counts-true : (s : List ℕ) {e : Event} {c : Counts} {p : ℕ} → readNson
 counts-true s r q = let w = string-stands r .0 in read-same (sym q ∙ w .counted) .0
 
 -- and an accepted string has counts: its field at 318 is the event's, with the size that its descriptors take
-pub field-true : {s : List ℕ} {e : Event} → readNson s ≡ shown e → (p : ℕ) × (countsAt s ≡ read (counts e) p) × Span s 318 (field (counts e)) p
+pub field-true : {s : List ℕ} {e : Event} → readNson s ≡ shown e → (p : ℕ) × (countsAt s ≡ read (counts e) p) × Span s 318 (nsonField (counts e)) p
 field-true r = let w = string-stands r .0 in (w .behind, w .counted, w .field-text)
 
 -- the size at 318 counts the hex characters of the descriptors
 pub size-true : (s : List ℕ) {e : Event} → readNson s ≡ shown e → byteHere s 318 ≡ 2 * length (descriptors (counts e))
-unfolding field
+unfolding nsonField
 size-true s {e} r =
     let w = string-stands r .0 in
     let few = w .few in

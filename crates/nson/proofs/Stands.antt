@@ -7,12 +7,12 @@ use lib.ListN.{length}
 use borrow.Author.Tests.{leb-true, eqb-true}
 use Rattle.scan.specs.Choice.{shown, Read, read}
 use Rattle.scan.specs.Span.{Span, All}
-use Rattle.scan.proofs.SpanLaws.{join}
+use Rattle.scan.proofs.SpanLaws.{join, respell}
+use Rattle.scan.proofs.Many.{after, pick-shown, shown-same}
 use Rattle.decimal.specs.Decimal.{decimal}
 use Rattle.event.specs.Event.{Event, Bytes}
-use Rattle.nson.specs.Nson.{Counts, counts, descriptors, field, headText, bodyText, nson}
-use Rattle.nson.specs.Read.{headAt, countsAt, bodyAt, eventOf, eventAt, readNson}
-use Rattle.nson.proofs.Pieces.{after, pick-shown, shown-same, respell}
+use Rattle.nson.specs.Nson.{Counts, counts, descriptors, nsonField, headText, bodyText, nson}
+use Rattle.nson.specs.Read.{headAt, countsAt, bodyAt, eventRead, eventAt, readNson}
 use Rattle.nson.proofs.Texts.{Good}
 use Rattle.nson.proofs.Counts.{Holds}
 use Rattle.nson.proofs.Field.{counts-shown}
@@ -26,7 +26,7 @@ pub record Stands (s : List ℕ) (e : Event) (end : ℕ) : Type 0 where
   -- the field at 318, and what is read of it
   pub behind : ℕ
   pub counted : countsAt s ≡ read (counts e) behind
-  pub field-text : Span s 318 (field (counts e)) behind
+  pub field-text : Span s 318 (nsonField (counts e)) behind
   pub holds : Holds (counts e)
   pub few : length (descriptors (counts e)) ≤ 127
   pub ten : length (decimal (e .createdAt)) ≡ 10
@@ -38,7 +38,7 @@ pub record Stands (s : List ℕ) (e : Event) (end : ℕ) : Type 0 where
   pub texts : All (All Good) (e .tags)
 
 event-stands : (s : List ℕ) (v : Read Event) → eventAt s ≡ shown v → Stands s (v .value) (v .next)
-unfolding eventAt eventOf counts nson headText bodyText
+unfolding eventAt eventRead counts nson headText bodyText
 event-stands s v e =
     after (headAt s) _ v e
     (λ h p e₁.
@@ -46,13 +46,13 @@ event-stands s v e =
     (λ n q e₂.
     after (bodyAt (n .value) s (n .next)) _ v e₂
     (λ b r e₃.
-    let f : record { value = eventOf s (h .value) (b .value); next = b .next } ≡ v = shown-same e₃ in
+    let f : record { value = eventRead s (h .value) (b .value); next = b .next } ≡ v = shown-same e₃ in
     let head = head-shown s h p in
     let body = body-shown (n .value) s (n .next) b r in
-    let c : n .value ≡ counts (eventOf s (h .value) (b .value)) = sym (body .sized) in
+    let c : n .value ≡ counts (eventRead s (h .value) (b .value)) = sym (body .sized) in
     let k = counts-shown s n q in
     let held = body .holds in
-    let at = respell (ap field c) (k .0) in
+    let at = respell (ap nsonField c) (k .0) in
     rw (sym f) record {
       text = join (join (head .text) at) (body .span);
       behind = n .next;

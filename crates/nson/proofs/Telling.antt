@@ -17,10 +17,11 @@ use Rattle.scan.proofs.PlaceLaws.{stands-span}
 use Rattle.utf8.specs.Width.{widthOf}
 use Rattle.hex.specs.Hex.{allDigits}
 use Rattle.decimal.specs.Decimal.{decimal, numberOf}
-use Rattle.event.specs.Event.{Event, sameText}
+use Rattle.scan.specs.Compare.{sameBytes}
+use Rattle.event.specs.Event.{Event}
 use Rattle.event.specs.Tells.{among, Tells, value, refusal}
 use Rattle.event.proofs.TellsLaws.{Inside, then-tells, pick-tells, less-tells, many-tells}
-use Rattle.counted.specs.Counted.{isLetter, faultFrom, faultIn}
+use Rattle.nsonstring.specs.Counted.{isLetter, faultFrom, faultIn}
 use Rattle.nson.specs.Nson.{Counts}
 use Rattle.nson.specs.Read as reading
 use Rattle.nson.specs.Read.{nsonNumbers, partAt, readNson}
@@ -80,7 +81,7 @@ module _ (s : List ℕ) where
   decimal-at k o n at h =
       let l = partAt n s at in
       pick-tells (reading.isDecimal n l)
-      (λ t. value (refl, part-inside n at h (eqb-true (length l) n (pick-true (eqb (length l) n) (sameText l (decimal (numberOf l))) t .0))))
+      (λ t. value (refl, part-inside n at h (eqb-true (length l) n (pick-true (eqb (length l) n) (sameBytes l (decimal (numberOf l))) t .0))))
       (λ f. refusal o h)
 
   text : (n at : ℕ) → at ≤ length s → Behind at n (reading.textAt n s at)

@@ -7,7 +7,8 @@ use lib.ListN.{length}
 use borrow.Author.Tests.{eqb-true, eq-eqb, ne-eqb}
 use Rattle.scan.specs.Choice.{shown, Read, read}
 use Rattle.scan.specs.Span.{Span, All}
-use Rattle.scan.proofs.SpanLaws.{join, cut, span-length}
+use Rattle.scan.proofs.SpanLaws.{join, cut, span-length, part-of-span, span-of-part}
+use Rattle.scan.proofs.Many.{after, pick-shown, shown-same}
 use Rattle.utf8.specs.Utf8.{Utf8}
 use Rattle.escape.specs.Escape.{Carried, nsonByte, escaped, meaning, plainFrom, plain}
 use Rattle.escape.specs.Quoted.{Quoted, none, bare, escape, NsonBare, nson-bare, NsonLetter, letter-n, letter-quote, letter-backslash}
@@ -19,12 +20,12 @@ use Rattle.event.specs.Event.{Text}
 use Rattle.jsontext.specs.Grammar as json
 use Rattle.jsontext.specs.Escape.{unescape}
 use Rattle.jsontext.proofs.Meaning.{unescape-none, unescape-byte, unescape-char}
-use Rattle.counted.specs.Counted.{faultIn}
-use Rattle.counted.proofs.Faults.{no-fault, faultless}
-use Rattle.tagtext.specs.TagText.{quoted}
-use Rattle.nson.specs.Nson.{bytesIn}
+use Rattle.nsonstring.specs.Counted.{faultIn}
+use Rattle.nsonstring.proofs.Faults.{no-fault, faultless}
+use Rattle.jsontags.specs.TagText.{quoted}
+use Rattle.nson.specs.Nson.{escapedSize}
 use Rattle.nson.specs.Read.{pieceAt, partAt, textAt, itemAt}
-use Rattle.nson.proofs.Pieces.{after, pick-shown, shown-same, part-of-span, span-of-part, piece-shown, piece-accepts}
+use Rattle.nson.proofs.Pieces.{piece-shown, piece-accepts}
 
 -- ---- what a read says of its value
 
@@ -64,8 +65,8 @@ text-faultless {t} g =
     (faultless q (escaped-utf8 nsonByte nson-escaping (g .utf8)), nson-meaning q ∙ nson-plain t)
 
 pub text-shown : (n : ℕ) (s : List ℕ) (at p : ℕ) → textAt n s at ≡ shown p
-    → Spelled (escaped nsonByte) bytesIn Good s n at (record { value = unescape (partAt n s at); next = p })
-unfolding textAt bytesIn
+    → Spelled (escaped nsonByte) escapedSize Good s n at (record { value = unescape (partAt n s at); next = p })
+unfolding textAt escapedSize
 text-shown n s at p e =
     let l = partAt n s at in
     let u = pick-shown _ _ (faultIn l) at p e in
@@ -76,8 +77,8 @@ text-shown n s at p e =
     record { span = rw (g .0, sym f) (span-of-part s at n c); sized = ap length (g .0) ∙ c; holds = g .1 }
 
 pub text-accepts : {s : List ℕ} {at c : ℕ} {t : Text} → Good t → Span s at (escaped nsonByte t) c
-    → (textAt (bytesIn t) s at ≡ shown c) × (unescape (partAt (bytesIn t) s at) ≡ t)
-unfolding textAt bytesIn
+    → (textAt (escapedSize t) s at ≡ shown c) × (unescape (partAt (escapedSize t) s at) ≡ t)
+unfolding textAt escapedSize
 text-accepts {t = t} g r =
     let u = text-faultless g in
     let l = escaped nsonByte t in
@@ -85,7 +86,7 @@ text-accepts {t = t} g r =
 
 -- ---- an item between its quotes
 
-pub item-shown : (s : List ℕ) (n at : ℕ) (v : Read Text) → itemAt s n at ≡ shown v → Spelled (quoted nsonByte) bytesIn Good s n at v
+pub item-shown : (s : List ℕ) (n at : ℕ) (v : Read Text) → itemAt s n at ≡ shown v → Spelled (quoted nsonByte) escapedSize Good s n at v
 unfolding itemAt quoted
 item-shown s n at v e =
     after (pieceAt 13 (0x22 ∷ []) s at) _ v e
@@ -99,7 +100,7 @@ item-shown s n at v e =
     let text = join (piece-shown 13 (0x22 ∷ []) s at a p) (join (t .span) (piece-shown 13 (0x22 ∷ []) s b c w)) in
     rw (sym g) record { span = text; sized = t .sized; holds = t .holds })))
 
-pub item-accepts : (s : List ℕ) (t : Text) (at c : ℕ) → Good t → Span s at (quoted nsonByte t) c → itemAt s (bytesIn t) at ≡ read t c
+pub item-accepts : (s : List ℕ) (t : Text) (at c : ℕ) → Good t → Span s at (quoted nsonByte t) c → itemAt s (escapedSize t) at ≡ read t c
 unfolding itemAt quoted
 item-accepts s t at c g r =
     let u = cut (0x22 ∷ []) r in

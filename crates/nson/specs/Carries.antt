@@ -9,7 +9,7 @@ use Rattle.scan.specs.Place.{within}
 use Rattle.scan.specs.Span.{All}
 use Rattle.escape.specs.Escape.{Carried, nsonText}
 use Rattle.event.specs.Event.{Text, Tag, Event}
-use Rattle.nson.specs.Nson.{bytesIn, nson}
+use Rattle.nson.specs.Nson.{escapedSize, nson}
 
 -- the sum over tags of 1 + 2 × items
 unfoldable pub tagBytes : List Tag → ℕ
@@ -19,7 +19,7 @@ tagBytes (t ∷ l) = 1 + 2 * length t + tagBytes l
 -- a text with no byte below 20 other than 0A, and at most 65,535 bytes when escaped
 pub record Fits (t : Text) : Type 0 where
   pub plain : All Carried t
-  pub short : bytesIn t ≤ 65_535
+  pub short : escapedSize t ≤ 65_535
 
 pub record Carries (e : Event) : Type 0 where
   pub early : 1_000_000_000 ≤ e .createdAt
@@ -32,7 +32,7 @@ pub record Carries (e : Event) : Type 0 where
 -- ---- the decision
 
 unfoldable pub fits : Text → Bool
-fits t = pick (nsonText t) (leb (bytesIn t) 65_535) false
+fits t = pick (nsonText t) (leb (escapedSize t) 65_535) false
 
 unfoldable pub allFit : List Text → Bool
 allFit [] = true

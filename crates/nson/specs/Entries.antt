@@ -4,7 +4,7 @@ use Prim.Native.Nat.{ℕ}
 use mathlib.Core.List.{List}
 use lib.ListN.{length}
 use Rattle.scan.specs.Choice.{pick, Answer, shown, refused, andThen}
-use Rattle.store.specs.Entry.{writes, leaves}
+use Rattle.buffer.specs.Entry.{writes, leaves}
 use Rattle.event.specs.Event.{Event}
 use Rattle.notepack.specs.Unpack.{unpack}
 use Rattle.notepack.specs.Strict.{pack}

@@ -6,7 +6,7 @@ use Rattle.hex.specs.Hex.{hexes}
 use Rattle.decimal.specs.Decimal.{decimal}
 use Rattle.escape.specs.Escape.{nsonByte, escaped}
 use Rattle.event.specs.Event.{Text, Tag, Event}
-use Rattle.tagtext.specs.TagText.{tagsText}
+use Rattle.jsontags.specs.TagText.{tagsText}
 
 -- ---- the fixed pieces
 
@@ -46,6 +46,34 @@ tagsLabel = 0x22 ∷ 0x2C ∷ 0x22 ∷ 0x74 ∷ 0x61 ∷ 0x67 ∷ 0x73 ∷ 0x22 
 abbrev pub endLabel : List ℕ
 endLabel = 0x7D ∷ []
 
+-- ---- the places of the layout (proofs/Places derives each from the labels)
+
+abbrev pub idPlace : ℕ
+idPlace = 7
+
+abbrev pub pubkeyPlace : ℕ
+pubkeyPlace = 83
+
+abbrev pub sigPlace : ℕ
+sigPlace = 156
+
+-- the size, the descriptors behind it, and those of the tags
+abbrev pub sizePlace : ℕ
+sizePlace = 318
+
+abbrev pub descriptorsPlace : ℕ
+descriptorsPlace = 320
+
+abbrev pub tagCountsPlace : ℕ
+tagCountsPlace = 328
+
+-- the two labels around the kind; the label and the bracket in front of the first tag
+abbrev pub aroundKind : ℕ
+aroundKind = 21
+
+abbrev pub beforeTags : ℕ
+beforeTags = 10
+
 -- ---- the counts that the nson field holds
 
 -- the characters of the kind, the bytes of the content, and for each tag the bytes of each item
@@ -55,12 +83,12 @@ pub record Counts : Type 0 where
   pub tags : List (List ℕ)
 
 -- the escaped bytes between the quotes
-unfoldable pub bytesIn : Text → ℕ
-bytesIn t = length (escaped nsonByte t)
+unfoldable pub escapedSize : Text → ℕ
+escapedSize t = length (escaped nsonByte t)
 
 -- an event's counts
 unfoldable pub counts : Event → Counts
-counts e = record { kind = length (decimal (e .kind)); content = bytesIn (e .content); tags = map (map bytesIn) (e .tags) }
+counts e = record { kind = length (decimal (e .kind)); content = escapedSize (e .content); tags = map (map escapedSize) (e .tags) }
 
 -- a count of two bytes, the upper one first
 abbrev pub word : ℕ → List ℕ
@@ -81,8 +109,8 @@ abbrev pub descriptors : Counts → List ℕ
 descriptors c = c .kind ∷ (word (c .content) ++ (length (c .tags) ∷ tagCounts (c .tags)))
 
 -- the nson field: the size, which counts the hex characters behind it, and the descriptors
-unfoldable pub field : Counts → List ℕ
-field c = hexes (2 * length (descriptors c) ∷ descriptors c)
+unfoldable pub nsonField : Counts → List ℕ
+nsonField c = hexes (2 * length (descriptors c) ∷ descriptors c)
 
 -- ---- the whole
 
@@ -111,4 +139,4 @@ bodyText e =
     ++ endLabel
 
 unfoldable pub nson : Event → List ℕ
-nson e = headText e ++ field (counts e) ++ bodyText e
+nson e = headText e ++ nsonField (counts e) ++ bodyText e

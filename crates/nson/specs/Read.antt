@@ -9,10 +9,11 @@ use Rattle.scan.specs.Choice.{pick, Answer, shown, refused, Read, read, andThen
 use Rattle.scan.specs.Place.{byteAt, standsAt, within}
 use Rattle.hex.specs.Hex.{valueOf, unhex, allDigits}
 use Rattle.decimal.specs.Decimal.{decimal, numberOf}
-use Rattle.event.specs.Event.{Text, Tag, Event, sameText}
+use Rattle.scan.specs.Compare.{sameBytes}
+use Rattle.event.specs.Event.{Text, Tag, Event}
 use Rattle.jsontext.specs.Escape.{unescape}
-use Rattle.counted.specs.Counted.{faultIn}
-use Rattle.nson.specs.Nson.{idLabel, pubkeyLabel, sigLabel, timeLabel, nsonLabel, kindLabel, contentLabel, tagsLabel, endLabel, Counts}
+use Rattle.nsonstring.specs.Counted.{faultIn}
+use Rattle.nson.specs.Nson.{idLabel, pubkeyLabel, sigLabel, timeLabel, nsonLabel, kindLabel, contentLabel, tagsLabel, endLabel, idPlace, pubkeyPlace, sigPlace, sizePlace, Counts}
 
 -- the numbers of refusal that the NSON reader has
 abbrev pub nsonNumbers : List ℕ
@@ -34,7 +35,7 @@ hexAt n s at = pick (eqb (length (partAt n s at)) n) (pick (allDigits (partAt n 
 
 -- a number in n digits with no leading zero unless it is 0: the spelling that `decimal` gives
 unfoldable pub isDecimal : ℕ → List ℕ → Bool
-isDecimal n l = pick (eqb (length l) n) (sameText l (decimal (numberOf l))) false
+isDecimal n l = pick (eqb (length l) n) (sameBytes l (decimal (numberOf l))) false
 
 unfoldable pub decimalAt : ℕ → ℕ → List ℕ → ℕ → Answer (Read ℕ)
 decimalAt number n s at = pick (isDecimal n (partAt n s at)) (read (numberOf (partAt n s at)) (at + n)) (refused number at)
@@ -81,7 +82,7 @@ wordHere s at = 256 * byteHere s at + byteHere s (at + 2)
 
 -- a descriptor of n hex digits: 13 at the size where it would pass the end that the size says, before 12 where it isn't there or no hex
 unfoldable pub descriptorAt : ℕ → ℕ → List ℕ → ℕ → Answer ℕ
-descriptorAt n end s at = pick (leb (at + n) end) (hexAt n s at) (refused 13 318)
+descriptorAt n end s at = pick (leb (at + n) end) (hexAt n s at) (refused 13 sizePlace)
 
 unfoldable pub byteCountAt : ℕ → List ℕ → ℕ → Answer (Read ℕ)
 byteCountAt end s at = andThen (descriptorAt 2 end s at) λ p. read (byteHere s at) p
@@ -108,11 +109,11 @@ countsTo end s at =
     andThen (wordCountAt end s (k .next)) λ c.
     andThen (byteCountAt end s (c .next)) λ n.
     andThen (many (tagCountsAt end s) (n .value) (n .next)) λ t.
-    pick (eqb (t .next) end) (read (record { kind = k .value; content = c .value; tags = t .value }) (t .next)) (refused 13 318)
+    pick (eqb (t .next) end) (read (record { kind = k .value; content = c .value; tags = t .value }) (t .next)) (refused 13 sizePlace)
 
--- the nson field at 318: the size, which counts the hex characters behind it, and the descriptors
+-- the nson field: the size, which counts the hex characters behind it, and the descriptors
 unfoldable pub countsAt : List ℕ → Answer (Read Counts)
-countsAt s = andThen (hexAt 2 s 318) λ p. countsTo (p + byteHere s 318) s p
+countsAt s = andThen (hexAt 2 s sizePlace) λ p. countsTo (p + byteHere s sizePlace) s p
 
 -- ---- the text that is counted
 
@@ -189,12 +190,12 @@ bodyAt n s at =
 -- ---- the whole
 
 -- id, pubkey and sig have their places
-unfoldable pub eventOf : List ℕ → ℕ → Body → Event
-eventOf s time b =
+unfoldable pub eventRead : List ℕ → ℕ → Body → Event
+eventRead s time b =
     record {
-      id = unhex (partAt 64 s 7);
-      pubkey = unhex (partAt 64 s 83);
-      sig = unhex (partAt 128 s 156);
+      id = unhex (partAt 64 s idPlace);
+      pubkey = unhex (partAt 64 s pubkeyPlace);
+      sig = unhex (partAt 128 s sigPlace);
       createdAt = time;
       kind = b .kind;
       tags = b .tags;
@@ -206,7 +207,7 @@ eventAt s =
     andThen (headAt s) λ h.
     andThen (countsAt s) λ n.
     andThen (bodyAt (n .value) s (n .next)) λ b.
-    read (eventOf s (h .value) (b .value)) (b .next)
+    read (eventRead s (h .value) (b .value)) (b .next)
 
 -- the event that a text shows, or the refusal: 1 first of all, and 10 for a byte after the end
 unfoldable pub readNson : List ℕ → Answer Event

@@ -2,38 +2,23 @@
 -- Each piece ends where its length says, so the place that the copy computes is the place where the reading stood.
 use Prim.Native.Nat.{ℕ, zero, suc, _+_, _*_}
 use mathlib.Core.Path.{_≡_, refl, sym, ap, _∙_}
-use mathlib.Core.Bool.{Bool, true, false}
+use mathlib.Core.Bool.{true, false}
 use mathlib.Core.List.{List, [], _∷_, _++_, append-assoc}
 use native.Mathlib.Omega.{arith}
-use lib.ListN.{length}
-use lib.Dec.{eqb}
-use Rattle.scan.specs.Choice.{pick, Answer, shown, refused, Read, read}
-use Rattle.scan.proofs.SpanLaws.{span-length}
+use Rattle.scan.specs.Choice.{shown, Read, read}
 use Rattle.scan.proofs.Reading.{read-same}
+use Rattle.scan.proofs.Many.{after}
 use Rattle.varint.specs.Uleb.{uleb}
 use Rattle.event.specs.Event.{Text, Tag}
 use Rattle.jsontext.specs.Escape.{unescape}
 use Rattle.notepack.specs.Strict.{packElement, packElements, packTag, packTags}
 use Rattle.notepack.proofs.Lengths.{tag-form}
-use Rattle.counted.specs.Counted.{faultIn}
-use Rattle.nson.specs.Read.{pieceAt, partAt, textAt, commaAt, itemsAt, arrayAt, itemAt, tagAt, wordHere, byteHere}
-use Rattle.nson.proofs.Pieces.{pick-shown, after, shown-same, piece-shown}
-use Rattle.nsonread.specs.Walk.{itemSizes, tagSizes}
-use Rattle.nsonread.specs.Copy.{itemsText, itemsEnd, tagsText}
-use Rattle.nsonread.proofs.Sizing.{items-count, sizes-count}
-use Rattle.nsonread.proofs.Placing.{Filled, no-tag, one-more}
-
--- ---- where a piece ends
-
-pub piece-next : (number : ℕ) (w s : List ℕ) (at p : ℕ) → pieceAt number w s at ≡ shown p → p ≡ at + length w
-piece-next number w s at p e = span-length (piece-shown number w s at p e)
-
-pub text-next : (n : ℕ) (s : List ℕ) (at p : ℕ) → textAt n s at ≡ shown p → p ≡ at + n
-unfolding textAt
-text-next n s at p e =
-    let l = partAt n s at in
-    let a = pick-shown (eqb (faultIn l) 0) (pick (eqb (length l) n) (shown (at + n)) (refused 13 at)) (faultIn l) at p e in
-    sym (shown-same (pick-shown (eqb (length l) n) (shown (at + n)) 13 at p (a .1) .1))
+use Rattle.nson.specs.Read.{pieceAt, partAt, textAt, itemsAt, arrayAt, itemAt, tagAt, wordHere, byteHere}
+use Rattle.nsoncounts.specs.Counted.{itemSizes, tagSizes}
+use Rattle.nsonread.specs.Copy.{itemsText, itemsEnd, nsonTagsText}
+use Rattle.nsonwalk.proofs.Standing.{piece-next, text-next}
+use Rattle.nsonwalk.proofs.Sizing.{items-count, sizes-count}
+use Rattle.nsoncounts.proofs.Placing.{Filled, no-tag, one-more}
 
 -- an item's text, and where it ends
 item-said : (s : List ℕ) (n at : ℕ) (v : Read Text) → itemAt s n at ≡ shown v → (v .value ≡ unescape (partAt n s (at + 1))) × (v .next ≡ at + (n + 2))
@@ -114,8 +99,8 @@ tag-copied s d at v o e =
     let f = tag-form (xs .value) in
     (rw (h .0, sym n) (sym f ∙ ap packTag (g .0)), h .1 ∙ sym y ∙ g .1))))
 
-tags-copied : (s : List ℕ) (n d at : ℕ) (v : Read (List Tag)) → Filled s n d → itemsAt (tagAt s) true (tagSizes n s d) s at ≡ shown v → tagsText n s d (at + 1) ≡ packTags (v .value)
-unfolding itemsAt tagSizes tagsText
+tags-copied : (s : List ℕ) (n d at : ℕ) (v : Read (List Tag)) → Filled s n d → itemsAt (tagAt s) true (tagSizes n s d) s at ≡ shown v → nsonTagsText n s d (at + 1) ≡ packTags (v .value)
+unfolding itemsAt tagSizes nsonTagsText
 tags-copied s zero d at v no-tag e = ap packTags (read-same e .0)
 tags-copied s (suc n) d at v (one-more o more) e =
     after (pieceAt 13 (0x2C ∷ []) s at) _ v e
@@ -131,8 +116,8 @@ tags-copied s (suc n) d at v (one-more o more) e =
     rw (i .1, h) (sym (append-assoc (uleb (byteHere s d)) (itemsText (byteHere s d) s (d + 2) (at + 1 + 1)) (packTags (xs .value))) ∙ ap (λ (l : List ℕ). l ++ packTags (xs .value)) (i .0) ∙ ap packTags (g .0)))))
 
 -- all the tags: the first has no comma
-pub all-copied : (s : List ℕ) (n d at : ℕ) (v : Read (List Tag)) → Filled s n d → itemsAt (tagAt s) false (tagSizes n s d) s at ≡ shown v → tagsText n s d at ≡ packTags (v .value)
-unfolding itemsAt tagSizes tagsText
+pub all-copied : (s : List ℕ) (n d at : ℕ) (v : Read (List Tag)) → Filled s n d → itemsAt (tagAt s) false (tagSizes n s d) s at ≡ shown v → nsonTagsText n s d at ≡ packTags (v .value)
+unfolding itemsAt tagSizes nsonTagsText
 all-copied s zero d at v no-tag e = ap packTags (read-same e .0)
 all-copied s (suc n) d at v (one-more o more) e =
     after (tagAt s (itemSizes (byteHere s d) s (d + 2)) at) _ v e

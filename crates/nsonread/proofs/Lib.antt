@@ -1,13 +1,3 @@
-pub mod Laws
-pub mod Spelling
-pub mod Fields
-pub mod Decimals
-pub mod Counting
-pub mod Sizing
-pub mod Turns
-pub mod Parts
-pub mod Placing
 pub mod Copying
 pub mod Whole
-pub mod Walking
 pub mod Writing

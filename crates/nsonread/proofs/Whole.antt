@@ -1,150 +1,133 @@
--- What is kept of an accepted text is its event's: the length of its strict form, and the text that the second pass writes.
--- The counts stand at their places, each part begins where the one before it ends; then the entry, outcome by outcome.
-use Prim.Native.Nat.{ℕ, _+_, _*_, _<_, _≤_}
+-- What the second pass writes of an accepted text is its event's strict form; and the walk tells what the reading tells.
+-- They follow the same reads, so they refuse alike; where both show, the counts stand at their places, and each part behind the one before.
+use Prim.Native.Nat.{ℕ, _+_, _<_, _≤_}
 use mathlib.Core.Path.{_≡_, refl, sym, ap, _∙_}
 use mathlib.Core.Bool.{Bool, true, false}
-use mathlib.Core.List.{List, [], _∷_, _++_, append-assoc}
+use mathlib.Core.List.{List, append-assoc}
 use native.Mathlib.Omega.{arith}
-use lib.ListN.{length, length-append}
+use lib.ListN.{length}
 use lib.Dec.{leb, eqb}
-use Rattle.scan.specs.Choice.{pick, Answer, shown, refused, Read, read, andThen}
-use Rattle.scan.proofs.SpanLaws.{span-length}
-use Rattle.scan.proofs.Reading.{read-same}
-use Rattle.store.specs.Store.{Wrote}
-use Rattle.store.specs.Entry.{writes, leaves}
-use Rattle.store.proofs.EntryLaws.{short, fitted}
-use Rattle.varint.specs.Uleb.{uleb}
-use Rattle.event.specs.Event.{Text, Tag, Event}
-use Rattle.jsontext.specs.Escape.{unescape}
+use Rattle.scan.specs.Choice.{pick, Answer, shown, refused, Read, andThen}
+use Rattle.scan.proofs.Many.{pick-shown, after, shown-same}
+use Rattle.buffer.specs.Store.{Wrote}
+use Rattle.buffer.specs.Entry.{writes, leaves}
+use Rattle.buffer.proofs.EntryLaws.{short, fitted}
+use Rattle.event.specs.Event.{Event}
 use Rattle.notepack.specs.Strict.{packTags, pack}
-use Rattle.nson.specs.Nson.{kindLabel, contentLabel, tagsLabel, endLabel, Counts}
+use Rattle.nson.specs.Nson.{tagCountsPlace, aroundKind, beforeTags, Counts}
 use Rattle.nson.specs.Read as nson
-use Rattle.nson.proofs.Pieces.{pick-shown, after, shown-same, decimal-shown}
 use Rattle.nson.proofs.Head.{Head, head-shown}
-use Rattle.nsonread.specs.declared.Walked.{Walked}
-use Rattle.nsonread.specs.Walk.{tagSizes, sizesOf, countsOf, bodySize, kept, walkedOf, walkAt}
-use Rattle.nsonread.specs.Copy.{tagsText, frontText, wholeText}
-use Rattle.nsonread.proofs.Sizing.{items-count}
-use Rattle.nsonread.proofs.Placing.{Placed, counts-placed}
-use Rattle.nsonread.proofs.Copying.{piece-next, text-next, all-copied}
-
--- ---- where the parts stand
-
-kind-next : (n : ℕ) (s : List ℕ) (at : ℕ) (v : Read ℕ) → nson.kindPartAt n s at ≡ shown v → v .next ≡ at + 9 + n
-unfolding nson.kindPartAt nson.kindAt nson.decimalAt
-kind-next n s at v e =
-    after (nson.pieceAt 13 kindLabel s at) _ v e
-    (λ a q e₁.
-    after (nson.decimalAt 13 n s a) _ v e₁
-    (λ k r e₂.
-    let l = nson.partAt n s a in
-    let f = shown-same (pick-shown (nson.isDecimal n l) (read _ (a + n)) 13 a k r .1) in
-    let g = shown-same (pick-shown (leb (k .value) 65_535) (shown k) 6 a v e₂ .1) in
-    let x : a ≡ at + 9 = piece-next 13 kindLabel s at a q in
-    ap (λ (r : Read ℕ). r .next) (sym g) ∙ ap (λ (r : Read ℕ). r .next) (sym f) ∙ ap (λ (i : ℕ). i + n) x))
-
-content-said : (n : ℕ) (s : List ℕ) (at : ℕ) (v : Read Text) → nson.contentPartAt n s at ≡ shown v → (v .value ≡ unescape (nson.partAt n s (at + 12))) × (v .next ≡ at + 12 + n)
-unfolding nson.contentPartAt
-content-said n s at v e =
-    after (nson.pieceAt 13 contentLabel s at) _ v e
-    (λ a q e₁.
-    after (nson.textAt n s a) _ v e₁
-    (λ b r e₂.
-    let g = read-same e₂ in
-    let x : a ≡ at + 12 = piece-next 13 contentLabel s at a q in
-    (sym (g .0) ∙ ap (λ (i : ℕ). unescape (nson.partAt n s i)) x, sym (g .1) ∙ text-next n s a b r ∙ ap (λ (i : ℕ). i + n) x)))
-
--- the tags' own items, behind the label and the bracket
-pub record Listed (l : List (List ℕ)) (s : List ℕ) (at : ℕ) (t : List Tag) : Type 0 where
-  pub list : Read (List Tag)
-  pub is : nson.itemsAt (nson.tagAt s) false l s (at + 10) ≡ shown list
-  pub same : list .value ≡ t
-
-tags-said : (l : List (List ℕ)) (s : List ℕ) (at : ℕ) (v : Read (List Tag)) → nson.tagsPartAt l s at ≡ shown v → Listed l s at (v .value)
-unfolding nson.tagsPartAt nson.tagsAt nson.arrayAt
-tags-said l s at v e =
-    after (nson.pieceAt 13 tagsLabel s at) _ v e
-    (λ a q e₁.
-    after (nson.tagsAt l s a) _ v e₁
-    (λ t r e₂.
-    after (nson.pieceAt 13 endLabel s (t .next)) _ v e₂
-    (λ b u e₃.
-    after (nson.pieceAt 13 (0x5B ∷ []) s a) _ t r
-    (λ c w e₄.
-    after (nson.itemsAt (nson.tagAt s) false l s c) _ t e₄
-    (λ xs x e₅.
-    after (nson.pieceAt 13 (0x5D ∷ []) s (xs .next)) _ t e₅
-    (λ d y e₆.
-    let f : a ≡ at + 9 = piece-next 13 tagsLabel s at a q in
-    let g : c ≡ a + 1 = piece-next 13 (0x5B ∷ []) s a c w in
-    let h : c ≡ at + 10 = omega arith in
-    record { list = xs; is = rw h at x; same = read-same e₆ .0 ∙ read-same e₃ .0 }))))))
-
--- ---- the body
-
-pub record Stands (n : Counts) (s : List ℕ) (at : ℕ) (b : nson.Body) : Type 0 where
-  pub content : b .content ≡ unescape (nson.partAt (n .content) s (at + 21 + n .kind))
-  pub tags : Listed (n .tags) s (at + 21 + n .kind + n .content) (b .tags)
-
-pub body-stands : (n : Counts) (s : List ℕ) (at : ℕ) (v : Read nson.Body) → nson.bodyAt n s at ≡ shown v → Stands n s at (v .value)
-unfolding nson.bodyAt
-body-stands n s at v e =
-    after (nson.kindPartAt (n .kind) s at) _ v e
-    (λ k q e₁.
-    after (nson.contentPartAt (n .content) s (k .next)) _ v e₁
-    (λ c r e₂.
-    after (nson.tagsPartAt (n .tags) s (c .next)) _ v e₂
-    (λ t u e₃.
-    let f = read-same e₃ .0 in
-    let x = kind-next (n .kind) s at k q in
-    let y = content-said (n .content) s (k .next) c r in
-    let z = y .1 in
-    let place : k .next + 12 ≡ at + 21 + n .kind = omega arith in
-    let next : c .next ≡ at + 21 + n .kind + n .content = omega arith in
-    let l = rw next at (tags-said (n .tags) s (c .next) t u) in
-    let r : Stands n s at (record { kind = k .value; content = c .value; tags = t .value }) = record { content = rw place at (y .0); tags = l } in
-    rw f at r)))
-
--- ---- the whole
+use Rattle.nsoncounts.specs.Counted.{tagSizes}
+use Rattle.nsoncounts.proofs.Placing.{Placed, counts-placed}
+use Rattle.nsonwalk.specs.declared.NsonWalked.{NsonWalked}
+use Rattle.nsonwalk.specs.Walk.{walkedOf, nsonWalkAt}
+use Rattle.nsonwalk.proofs.Standing.{Stands, body-stands, tag-count}
+use Rattle.nsonread.specs.Copy.{nsonTagsText, nsonFrontText, strictOf}
+use Rattle.nsonread.proofs.Copying.{all-copied}
 
 -- what the reading shows: the counts in front of it, and the event
-pub record Shows (s : List ℕ) (w : Walked) : Type 0 where
+pub record Shows (s : List ℕ) (w : NsonWalked) : Type 0 where
   pub event : Event
   pub shows : nson.readNson s ≡ shown event
   pub len : w .len ≡ length (pack event)
-  pub text : wholeText s w ≡ pack event
-
--- the length of a strict form, field by field
-pack-length : (e : Event) → length (pack e)
-    ≡ length (e .id) + (length (e .pubkey) + (length (e .sig) + (length (uleb (e .createdAt)) + (length (uleb (e .kind)) + (length (uleb (length (e .content))) + (length (e .content) + (length (uleb (length (e .tags))) + length (packTags (e .tags)))))))))
-unfolding pack
-pack-length e = simp (length-append)
-
--- what is kept, with a length
-abbrev walked : List ℕ → ℕ → Read Counts → nson.Body → ℕ → Walked
-walked s time n b len = record { «created_at» = time; kind = b .kind; sizes = sizesOf (n .value); «body_at» = n .next; «content_len» = length (b .content); len = len }
+  pub text : strictOf s w ≡ pack event
 
 module _ (s : List ℕ) (time : ℕ) (n : Read Counts) (b : nson.Body) (h : Head s time) (p : Placed s (n .value)) (d : Stands (n .value) s (n .next) b) where
-  tag-count : length (b .tags) ≡ length (n .value .tags)
-  tag-count = sym (ap length (d .tags .same)) ∙ items-count (nson.tagAt s) false (n .value .tags) s _ (d .tags .is)
-
-  -- the length by what was measured is that of the strict form
-  pub kept-is : kept time (sizesOf (n .value)) (n .next) (bodySize b) ≡ walkedOf s time n b
-  unfolding nson.eventOf
-  kept-is =
-      let i = h .id .count in
-      let k = h .pubkey .count in
-      let g = h .sig .count in
-      let v = ap (λ (m : ℕ). length (uleb m)) tag-count in
-      let e = pack-length (nson.eventOf s time b) in
-      ap (walked s time n b) (omega arith)
-
-  pub text-is : wholeText s (walkedOf s time n b) ≡ pack (nson.eventOf s time b)
-  unfolding wholeText frontText pack nson.eventOf
+  pub text-is : strictOf s (walkedOf s time n b) ≡ pack (nson.eventRead s time b)
+  unfolding strictOf nsonFrontText pack nson.eventRead
   text-is =
       let l = n .value .tags in
-      let m : l ≡ tagSizes (length l) s 328 = ap (λ (c : Counts). c .tags) (p .same) in
-      let place = n .next + 21 + n .value .kind + n .value .content + 10 in
-      let is : nson.itemsAt (nson.tagAt s) false (tagSizes (length l) s 328) s place ≡ shown (d .tags .list) = rw m at (d .tags .is) in
-      let t : tagsText (length l) s 328 place ≡ packTags (b .tags) = all-copied s (length l) 328 place (d .tags .list) (p .filled) is ∙ ap packTags (d .tags .same) in
-      rw (t, sym (d .content), tag-count) (simp (append-assoc))
+      let m : l ≡ tagSizes (length l) s tagCountsPlace = ap (λ (c : Counts). c .tags) (p .same) in
+      let place = n .next + aroundKind + n .value .kind + n .value .content + beforeTags in
+      let is : nson.itemsAt (nson.tagAt s) false (tagSizes (length l) s tagCountsPlace) s place ≡ shown (d .tags .list) = rw m at (d .tags .is) in
+      let t : nsonTagsText (length l) s tagCountsPlace place ≡ packTags (b .tags) = all-copied s (length l) 328 place (d .tags .list) (p .filled) is ∙ ap packTags (d .tags .same) in
+      rw (t, sym (d .content), tag-count s time n b h d) (simp (append-assoc))
+
+-- ---- the walk and the reading tell the same
+
+-- both show, or both refuse alike
+data Alike {A B : Type 0} : Answer A → Answer B → Type 0 where
+  both-show : {a : A} {b : B} → Alike (shown a) (shown b)
+  both-refuse : {n p : ℕ} → Alike (refused n p) (refused n p)
+
+then-alike : {R G A B : Type 0} (r : Answer R) (f : R → Answer A) (g : R → Answer G) (k : G → Answer B) → ((x : R) → Alike (f x) (andThen (g x) k)) → Alike (andThen r f) (andThen (andThen r g) k)
+then-alike (shown x) f g k a = a x
+then-alike (refused n p) f g k a = both-refuse
+
+pick-alike : {A B : Type 0} (t : Bool) {x u : Answer A} {y v : Answer B} → Alike x y → Alike u v → Alike (pick t x u) (pick t y v)
+pick-alike true a b = a
+pick-alike false a b = b
+
+walk-alike : (s : List ℕ) → Alike (nsonWalkAt s) (nson.readNson s)
+unfolding nsonWalkAt nson.readNson nson.eventAt
+walk-alike s =
+    pick-alike (leb (length s) 65_536)
+    (then-alike (nson.headAt s) _ _ _
+    (λ h.
+    then-alike (nson.countsAt s) _ _ _
+    (λ n. then-alike (nson.bodyAt (n .value) s (n .next)) _ _ _ (λ b. pick-alike (eqb (b .next) (length s)) both-show both-refuse))))
+    both-refuse
+
+alike-refused : {A B : Type 0} {x : Answer A} {y : Answer B} {n p : ℕ} → Alike x y → x ≡ refused n p → y ≡ refused n p
+alike-refused both-show e = let z : _≡_ {A = ℕ} 0 1 = cc in absurd (omega arith)
+alike-refused both-refuse e = cc
+
+pub walk-refuses : (s : List ℕ) {n p : ℕ} → nsonWalkAt s ≡ refused n p → nson.readNson s ≡ refused n p
+walk-refuses s e = alike-refused (walk-alike s) e
+
+event-shown : (s : List ℕ) (h : Read ℕ) (n : Read Counts) (y : Read nson.Body) → leb (length s) 65_536 ≡ true → nson.headAt s ≡ shown h → nson.countsAt s ≡ shown n
+    → nson.bodyAt (n .value) s (n .next) ≡ shown y → eqb (y .next) (length s) ≡ true → nson.readNson s ≡ shown (nson.eventRead s (h .value) (y .value))
+unfolding nson.readNson nson.eventAt
+event-shown s h n y l a b c k = rw (l, a, b, c, k) refl
+
+pub walk-shows : (s : List ℕ) (w : NsonWalked) → nsonWalkAt s ≡ shown w → Shows s w
+unfolding nsonWalkAt
+walk-shows s w e =
+    let l = pick-shown (leb (length s) 65_536) _ 1 0 w e in
+    after (nson.headAt s) _ w (l .1)
+    (λ h a e₁.
+    after (nson.countsAt s) _ w e₁
+    (λ n b e₂.
+    after (nson.bodyAt (n .value) s (n .next)) _ w e₂
+    (λ y c e₃.
+    let k = pick-shown (eqb (y .next) (length s)) (shown (walkedOf s (h .value) n (y .value))) 10 (y .next) w e₃ in
+    let f : walkedOf s (h .value) n (y .value) ≡ w = shown-same (k .1) in
+    let r = event-shown s h n y (l .0) a b c (k .0) in
+    let g : Shows s (walkedOf s (h .value) n (y .value)) =
+    record { event = nson.eventRead s (h .value) (y .value); shows = r; len = refl; text = text-is s (h .value) n (y .value) (head-shown s h a) (counts-placed s n b) (body-stands (n .value) s (n .next) y c) } in
+    rw f at g)))
+
+-- ---- the entry
+
+module _ (s d : List ℕ) where
+  pub write-refused : {r : Answer NsonWalked} {n q : ℕ} → r ≡ nsonWalkAt s → r ≡ refused n q → (refused n q ≡ writes pack (nson.readNson s) d) × (d ≡ leaves pack (nson.readNson s) d)
+  write-refused e k = let u = walk-refuses s (sym e ∙ k) in (rw u refl, rw u refl)
+
+  pub write-short : {r : Answer NsonWalked} {w : NsonWalked} → r ≡ nsonWalkAt s → r ≡ shown w → length d < w .len
+      → (refused 11 (w .len) ≡ writes pack (nson.readNson s) d) × (d ≡ leaves pack (nson.readNson s) d)
+  write-short {w = w} e k l = go (walk-shows s w (sym e ∙ k))
+    where
+      go : Shows s w → (refused 11 (w .len) ≡ writes pack (nson.readNson s) d) × (d ≡ leaves pack (nson.readNson s) d)
+      go g = let f = short (pack (g .event)) d (g .len) l in (rw (g .shows) (f .0), rw (g .shows) (f .1))
+
+  pub write-fitted : {r : Answer NsonWalked} {w : NsonWalked} {d′ : List ℕ} {n : ℕ} → r ≡ nsonWalkAt s → r ≡ shown w → w .len ≤ length d → Wrote d 0 (strictOf s w) d′ n
+      → (shown n ≡ writes pack (nson.readNson s) d) × (d′ ≡ leaves pack (nson.readNson s) d)
+  write-fitted {w = w} {d′} {n} e k l o = go (walk-shows s w (sym e ∙ k))
+    where
+      go : Shows s w → (shown n ≡ writes pack (nson.readNson s) d) × (d′ ≡ leaves pack (nson.readNson s) d)
+      go g =
+          let t : Wrote d 0 (pack (g .event)) d′ n = rw (g .text) at o in
+          let f = fitted (g .len) l t in
+          (rw (g .shows) (f .0), rw (g .shows) (f .1))
+
+-- ---- the length alone
+
+module _ (s : List ℕ) where
+  pub len-refused : {r : Answer NsonWalked} {n q : ℕ} → r ≡ nsonWalkAt s → r ≡ refused n q → refused n q ≡ andThen (nson.readNson s) (λ e. shown (length (pack e)))
+  len-refused e k = let u = walk-refuses s (sym e ∙ k) in rw u refl
+
+  pub len-shown : {r : Answer NsonWalked} {w : NsonWalked} → r ≡ nsonWalkAt s → r ≡ shown w → shown (w .len) ≡ andThen (nson.readNson s) (λ e. shown (length (pack e)))
+  len-shown {w = w} e k = go (walk-shows s w (sym e ∙ k))
+    where
+      go : Shows s w → shown (w .len) ≡ andThen (nson.readNson s) (λ e. shown (length (pack e)))
+      go g = rw (g .shows) (ap (λ (i : ℕ). shown i) (g .len))

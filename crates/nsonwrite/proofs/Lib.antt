@@ -1,7 +1,5 @@
 pub mod Plain
-pub mod Places
-pub mod Over
+pub mod Turns
 pub mod Counts
 pub mod Whole
 pub mod Entry
-pub mod Written

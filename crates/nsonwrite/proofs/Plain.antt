@@ -8,7 +8,7 @@ use lib.ListN.{drop}
 use native.Mathlib.Omega.{arith}
 use Rattle.scan.specs.Span.{IsBytes}
 use Rattle.scan.proofs.AllLaws.{all-map, all-take, all-drop}
-use Rattle.hex.specs.Hex.{Digit, number, letter}
+use Rattle.hex.specs.Hex.{LowerHex, number, letter}
 use Rattle.hex.proofs.Texts.{hexes-digits}
 use Rattle.escape.specs.Escape.{Carried, other, nsonText}
 use Rattle.escape.proofs.QuotedLaws.{nson-text}
@@ -16,7 +16,7 @@ use Rattle.notepack.specs.declared.Part.{Part}
 use Rattle.notepack.specs.Unpack.{textOf}
 use Rattle.notepack.proofs.Walking.{text-raw}
 
-digit-carried : (b : ℕ) → Digit b → Carried b
+digit-carried : (b : ℕ) → LowerHex b → Carried b
 digit-carried b (number l h) = other {b = b} (omega arith)
 digit-carried b (letter l h) = other {b = b} (omega arith)
 

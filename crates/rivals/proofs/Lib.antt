@@ -1,4 +1,3 @@
-pub mod Loops
-pub mod Keys
+pub mod Choosing
 pub mod Order
 pub mod Telling

@@ -12,8 +12,8 @@ use Rattle.scan.proofs.Step.{false-true}
 use Rattle.event.specs.Event.{Event}
 use Rattle.rivals.specs.declared.Kept.{Kept}
 use Rattle.rivals.specs.declared.Kept.the-variants.{First, Second, NotRivals}
-use Rattle.rivals.specs.Texts.{lower}
-use Rattle.rivals.specs.Rivals.{keeps}
+use Rattle.scan.specs.Compare.{lower}
+use Rattle.rivals.specs.Rivals.{keepsBy, keeps}
 
 -- ---- one step of a comparison, over what the rest says
 
@@ -148,7 +148,7 @@ over-total d e h k =
     record { time = t .0; id = lower-total (d .id) (e .id) (t .2) (t .1) }
 
 keeps-over : (d e : Event) → keeps d e ≡ pick (over d e) Second First
-unfolding keeps over step
+unfolding keepsBy over step
 keeps-over d e = go (stand (d .createdAt) (e .createdAt))
   where
     go : Stand (d .createdAt) (e .createdAt) → keeps d e ≡ pick (over d e) Second First

@@ -4,3 +4,6 @@ pub mod PlaceLaws
 pub mod Reading
 pub mod AllLaws
 pub mod Many
+pub mod CompareLaws
+pub mod Fits
+pub mod BlockLaws

@@ -7,10 +7,9 @@ use mathlib.Core.List.{List, [], _∷_, _++_}
 use mathlib.Core.Logic.{dite}
 use native.Mathlib.Omega.{arith}
 use native.Mathlib.Decide.{decLt}
-use lib.ListN.{length, getD, drop}
+use lib.ListN.{length, getD, drop, length-drop}
 use lib.Dec.{eqb}
 use borrow.Author.Tests.{eq-eqb, ne-eqb, eqb-true}
-use Rattle.scan.specs.Choice.{pick}
 use Rattle.scan.specs.Place.{begins, standsAt, run, runAt}
 use Rattle.scan.specs.Span.{Span, here, step, All, none, also}
 use Rattle.scan.proofs.Step.{rest-none, rest-more, pick-by, pick-true, false-true}
@@ -113,3 +112,14 @@ run-span p P good s a = go (drop a s) a refl
         pick-by (λ (e : ℕ). (m : List ℕ) × All P m × Span s i m e) (p b)
         (λ t. let r = go l (i + 1) (u .2) in (b ∷ r .0, also (good b t) (r .1), step (u .0) (u .1) (r .2)))
         (λ f. ([], none, here))
+
+-- the byte at the end of a run does not pass
+pub run-stops : (p : ℕ → Bool) (s : List ℕ) (a : ℕ) → runAt p s a < length s → p (getD s (runAt p s a) 0) ≡ false
+unfolding runAt run
+run-stops p s a h = go (drop a s) a refl h
+  where
+    go : (l : List ℕ) (i : ℕ) → drop i s ≡ l → run p l i < length s → p (getD s (run p l i) 0) ≡ false
+    go [] i q = λ h. absurd (omega (arith, ap length q, length-drop i s))
+    go (b ∷ l) i q =
+        let u = place s i b l q in
+        pick-by (λ (e : ℕ). e < length s → p (getD s e 0) ≡ false) (p b) (λ t. go l (i + 1) (u .2)) (λ f h. rw (u .1) f)

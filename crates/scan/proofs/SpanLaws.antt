@@ -1,14 +1,15 @@
 -- The laws of `Span`: spans join and are cut at `++`, have one length, and are what `drop` leaves.
 -- By induction on the span or on the list; no reader occurs here.
 use Prim.Native.Nat.{ℕ, zero, suc, _+_, _-_, _<_, _≤_}
-use mathlib.Core.Path.{_≡_, refl, sym, ap, _∙_}
+use mathlib.Core.Path.{_≡_, refl, sym, ap, _∙_, subst}
 use mathlib.Core.Bool.{Bool, true, false}
 use mathlib.Core.List.{List, [], _∷_, _++_, append-nil}
 use mathlib.Core.Logic.{dite}
 use native.Mathlib.Nat.{add-zero}
 use native.Mathlib.Omega.{arith}
 use native.Mathlib.Decide.{decLt}
-use lib.ListN.{length, getD, drop, take}
+use lib.ListN.{length, getD, drop, take, take-append-drop}
+use lib.Seq.{take-at}
 use lib.Dec.{ltb, eqb}
 use borrow.Author.Tests.{eqb-true, eqb-false}
 use Rattle.scan.specs.Span.{Span, here, step}
@@ -99,3 +100,15 @@ nth {s} {a} zero (step h e p) q = rw add-zero e
 nth {s} {a} (suc k) (step h e p) q =
     let f : a + suc k ≡ a + 1 + k = omega arith in
     rw f (nth k p (omega arith))
+
+-- the bytes of a span, taken from the input by their number
+pub part-of-span : {s l : List ℕ} {a c : ℕ} (n : ℕ) → length l ≡ n → Span s a l c → take n (drop a s) ≡ l
+part-of-span {s} {l} {a} {c} n e r = rw (from-span r) (take-at l (drop c s) n e)
+
+-- and n bytes, if they are there, are a span
+pub span-of-part : (s : List ℕ) (a n : ℕ) → length (take n (drop a s)) ≡ n → Span s a (take n (drop a s)) (a + n)
+span-of-part s a n e = rw e at (to-span s (take n (drop a s)) (drop n (drop a s)) a (sym (take-append-drop n (drop a s))))
+
+-- the same bytes, written in another way
+pub respell : {s l m : List ℕ} {a c : ℕ} → l ≡ m → Span s a l c → Span s a m c
+respell {s} {a = a} {c = c} e r = subst (λ (k : List ℕ). Span s a k c) e r

@@ -32,6 +32,11 @@ abbrev pub andThen : {A B : Type 0} → Answer A → (A → Answer B) → Answer
 andThen (shown a) f = f a
 andThen (refused n p) f = refused n p
 
+-- what an answer is turned into, and `other` for a refusal
+abbrev pub orElse : {A B : Type 0} → B → Answer A → (A → B) → B
+orElse other (shown a) f = f a
+orElse other (refused n p) f = other
+
 -- n reads, one after the other, as one read of a list
 unfoldable pub many : {A : Type 0} → (ℕ → Answer (Read A)) → ℕ → ℕ → Answer (Read (List A))
 many item zero at = read [] at

@@ -1,8 +1,11 @@
 // Bytes at a place of a lent input. Every function is total: a place past the end reads as the end.
-ghost use Prim.Native.Nat.{_-_};
+ghost use Prim.Native.Nat.{_-_, _≤_, min};
 ghost use mathlib.Core.Path.{_≡_};
 ghost use lib.ListN.{length, take, drop};
+ghost use Rattle.scan.specs.Choice.{pick};
 ghost use Rattle.scan.specs.Place.{byteAt, standsAt, within, runAt};
+ghost use Rattle.scan.specs.Compare.{sameBytes, lower};
+ghost use Rattle.scan.specs.Blocks.{isOne, controlCount};
 
 // The byte at a place, and 0 past the end.
 pub fn byte_at(s: &[u8], at: usize) -> u8
@@ -73,4 +76,79 @@ pub fn run_end(s: &[u8], at: usize, low: u8, high: u8) -> usize
         }
     }
     i
+}
+
+// Whether two byte strings are the same.
+pub fn same_bytes(a: &[u8], b: &[u8]) -> bool
+    ensures { λ r. ⌜ r ≡ sameBytes (now (a .entry)) (now (b .entry)) ⌝ }
+{
+    let mut i = 0;
+    while i < a.len() {
+        if b.len() <= i {
+            return false;
+        }
+        if a[i] != b[i] {
+            return false;
+        }
+        i += 1;
+    }
+    if i < b.len() {
+        return false;
+    }
+    true
+}
+
+// Whether a is lower than b as bytes.
+pub fn is_lower(a: &[u8], b: &[u8]) -> bool
+    ensures { λ r. ⌜ r ≡ lower (now (a .entry)) (now (b .entry)) ⌝ }
+{
+    let mut i = 0;
+    while i < a.len() {
+        if b.len() <= i {
+            return false;
+        }
+        if a[i] < b[i] {
+            return true;
+        }
+        if a[i] != b[i] {
+            return false;
+        }
+        i += 1;
+    }
+    if i < b.len() {
+        return true;
+    }
+    false
+}
+
+// ---- a byte's part in what a loop over a block counts: no jump, so that the loop goes in vectors
+
+// 1 where b is x, and else 0.
+pub fn is_one(b: u8, x: u8) -> u8
+    ensures { λ r. ⌜ r ≡ isOne b x ⌝ }
+    ensures { λ r. ⌜ r ≤ 1 ⌝ }
+{
+    if b == x { 1 } else { 0 }
+}
+
+// 1 where b is a control byte, and else 0.
+pub fn control_count(b: u8) -> u8
+    ensures { λ r. ⌜ r ≡ controlCount b ⌝ }
+    ensures { λ r. ⌜ r ≤ 1 ⌝ }
+{
+    if b < 0x20 { 1 } else { 0 }
+}
+
+// a where the test holds, and else b.
+pub fn pick_byte(t: bool, a: u8, b: u8) -> u8
+    ensures { λ r. ⌜ r ≡ pick t a b ⌝ }
+{
+    if t { a } else { b }
+}
+
+// The lesser of two.
+pub fn lesser(a: u8, b: u8) -> u8
+    ensures { λ r. ⌜ r ≡ min a b ⌝ }
+{
+    if a < b { a } else { b }
 }

@@ -5,15 +5,8 @@ use Rattle.scan.specs.Choice.{Answer, shown}
 use Rattle.event.specs.Answers.{told}
 use Rattle.strict.specs.declared.StrictRead.{StrictRead}
 use Rattle.strict.specs.declared.StrictRead.the-variants as strict-by
-use Rattle.strict.specs.declared.PackWrite.{PackWrite}
-use Rattle.strict.specs.declared.PackWrite.the-variants as write-by
 
 -- yes, no, or the reader's refusal
 abbrev pub strictRead : StrictRead → Answer Bool
 strictRead (strict-by.Strict b) = shown b
 strictRead (strict-by.Refused r) = told r
-
--- the length written, or the refusal
-abbrev pub packWrite : PackWrite → Answer ℕ
-packWrite (write-by.Written n) = shown n
-packWrite (write-by.Refused r) = told r

@@ -1,12 +1,13 @@
--- The strict question: whether packed bytes are the strict form of the event that they show (document 01, "Strict form"). Assumes nothing.
+-- The strict question: whether packed bytes are the strict form of the event that they show (document 01, "Strict
+-- form"). Assumes nothing.
 use Prim.Native.Nat.{ℕ}
 use mathlib.Core.Bool.{Bool}
 use mathlib.Core.List.{List}
 use Rattle.scan.specs.Choice.{Answer, shown, andThen}
-use Rattle.event.specs.Event.{sameText}
+use Rattle.scan.specs.Compare.{sameBytes}
 use Rattle.notepack.specs.Strict.{pack}
 use Rattle.notepack.specs.Unpack.{unpack}
 
 -- yes or no; bytes that the reader refuses get its refusal
 unfoldable pub strict : List ℕ → Answer Bool
-strict s = andThen (unpack s) λ e. shown (sameText s (pack e))
+strict s = andThen (unpack s) λ e. shown (sameBytes s (pack e))

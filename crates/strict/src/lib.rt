@@ -1,32 +1,26 @@
 // The strict form of a packed event: the question whether bytes are it, and the writer.
 use event::Refusal;
+use event::Writing;
 use notepack::Head;
-use notepack::NumberRead;
 use notepack::Part;
-use notepack::PartRead;
 use notepack::Tally;
 use notepack::Walk;
-ghost use Prim.Native.Nat.{_≤_};
 ghost use mathlib.Core.Path.{_≡_};
-ghost use lib.ListN.{length};
 ghost use Rattle.scan.specs.Choice.{shown};
-ghost use Rattle.store.specs.Store.{Wrote};
-ghost use Rattle.store.specs.Entry.{writes, leaves};
+ghost use Rattle.buffer.specs.Store.{Wrote};
+ghost use Rattle.buffer.specs.Entry.{writes, leaves};
+ghost use Rattle.event.specs.Answers.{writing};
 ghost use Rattle.hex.specs.Hex.{hexes};
-ghost use Rattle.notepack.specs.Strict.{packElement, pack};
+ghost use Rattle.notepack.specs.Strict.{packElement, packElements, packTags, pack};
 ghost use Rattle.notepack.specs.Unpack.{textOf, unpack};
+ghost use Rattle.notepack.specs.Again.{textsAgain, textsEnd, tagsAgain, eventAgain};
 ghost use Rattle.notepack.specs.Answers.{walkAt};
 ghost use Rattle.strict.specs.Strict.{strict};
-ghost use Rattle.strict.specs.Copy.{elementsText, elementsEnd, tagsText, headText, Copies};
-ghost use Rattle.strict.specs.Answers.{strictRead, packWrite};
+ghost use Rattle.strict.specs.Copy.{packedHead};
+ghost use Rattle.strict.specs.Answers.{strictRead};
 
 pub enum StrictRead {
     Strict(bool),
-    Refused(Refusal),
-}
-
-pub enum PackWrite {
-    Written(usize),
     Refused(Refusal),
 }
 
@@ -53,7 +47,7 @@ pub fn is_strict(s: &[u8]) -> StrictRead
 }
 
 // The strict element whose text these bytes are.
-pub fn put_text(out: &mut [u8], at: usize, t: &[u8]) -> usize
+pub fn put_packed_text(out: &mut [u8], at: usize, t: &[u8]) -> usize
     ensures { λ r. ⌜ Wrote (now (out .entry)) at (packElement (now (t .entry))) (now (out .exit)) r ⌝ }
 {
     if hex::goes_as_bytes(t) {
@@ -62,7 +56,7 @@ pub fn put_text(out: &mut [u8], at: usize, t: &[u8]) -> usize
         return hex::put_unhex(out, o, t);
     }
     let o = varint::put_varint(out, at, 2 * t.len() as u64);
-    store::put_bytes(out, o, t)
+    buffer::put_bytes(out, o, t)
 }
 
 // The strict element whose text is the hex of these bytes.
@@ -70,111 +64,102 @@ fn put_raw(out: &mut [u8], at: usize, b: &[u8]) -> usize
     ensures { λ r. ⌜ Wrote (now (out .entry)) at (packElement (hexes (now (b .entry)))) (now (out .exit)) r ⌝ }
 {
     if b.len() == 0 {
-        return store::put_byte(out, at, 0);
+        return buffer::put_byte(out, at, 0);
     }
     let o = varint::put_varint(out, at, 2 * b.len() as u64 + 1);
-    store::put_bytes(out, o, b)
+    buffer::put_bytes(out, o, b)
 }
 
 // The strict element that has a part's text.
-fn put_element(out: &mut [u8], at: usize, s: &[u8], p: Part) -> usize
+fn put_packed_part(out: &mut [u8], at: usize, s: &[u8], p: Part) -> usize
     ensures { λ r. ⌜ Wrote (now (out .entry)) at (packElement (textOf (now (s .entry)) p)) (now (out .exit)) r ⌝ }
 {
     let bytes = scan::part(s, p.at, p.len);
     if p.raw {
         return put_raw(out, at, bytes);
     }
-    put_text(out, at, bytes)
+    put_packed_text(out, at, bytes)
 }
 
 // count elements from a place on.
 fn copy_elements(out: &mut [u8], at: usize, s: &[u8], from: usize, count: u64) -> Copied
-    ensures { λ r. ⌜ Wrote (now (out .entry)) at (elementsText count (now (s .entry)) from) (now (out .exit)) (r .out) ⌝ }
-    ensures { λ r. ⌜ r .next ≡ elementsEnd count (now (s .entry)) from ⌝ }
+    ensures { λ r. ⌜ Wrote (now (out .entry)) at (packElements (textsAgain count (now (s .entry)) from)) (now (out .exit)) (r .out) ⌝ }
+    ensures { λ r. ⌜ r .next ≡ textsEnd count (now (s .entry)) from ⌝ }
 {
     let mut o = at;
-    let mut c = notepack::Cursor { at: from };
+    let mut i = from;
     let mut left = count;
     while 0 < left {
-        let found = c.element(s);
-        match found {
-            PartRead::Found(p, next) => {
-                o = put_element(out, o, s, p);
-                c = next;
-                left -= 1;
-            }
-            PartRead::Refused(_) => return Copied { out: o, next: c.at },
-        }
+        let again = notepack::part_again(s, i);
+        o = put_packed_part(out, o, s, again.part);
+        i = again.next;
+        left -= 1;
     }
-    Copied { out: o, next: c.at }
+    Copied { out: o, next: i }
 }
 
 // count tags from a place on.
 fn copy_tags(out: &mut [u8], at: usize, s: &[u8], from: usize, count: u64) -> usize
-    ensures { λ r. ⌜ Wrote (now (out .entry)) at (tagsText count (now (s .entry)) from) (now (out .exit)) r ⌝ }
+    ensures { λ r. ⌜ Wrote (now (out .entry)) at (packTags (tagsAgain count (now (s .entry)) from)) (now (out .exit)) r ⌝ }
 {
     let mut o = at;
-    let mut c = notepack::Cursor { at: from };
+    let mut i = from;
     let mut left = count;
     while 0 < left {
-        let found = c.tag_count(s);
-        match found {
-            NumberRead::Number(n, first) => {
-                o = varint::put_varint(out, o, n);
-                let copied = copy_elements(out, o, s, first.at, n);
-                o = copied.out;
-                c = notepack::Cursor { at: copied.next };
-                left -= 1;
-            }
-            NumberRead::Refused(_) => return o,
-        }
+        let again = notepack::count_again(s, i);
+        o = varint::put_varint(out, o, again.count);
+        let copied = copy_elements(out, o, s, again.next, again.count);
+        o = copied.out;
+        i = copied.next;
+        left -= 1;
     }
     o
 }
 
 // All in front of the tags.
-fn put_head(out: &mut [u8], at: usize, s: &[u8], h: Head) -> usize
-    ensures { λ r. ⌜ Wrote (now (out .entry)) at (headText (now (s .entry)) h) (now (out .exit)) r ⌝ }
+fn put_packed_head(out: &mut [u8], at: usize, s: &[u8], h: Head) -> usize
+    ensures { λ r. ⌜ Wrote (now (out .entry)) at (packedHead (now (s .entry)) h) (now (out .exit)) r ⌝ }
 {
     let content = h.content;
-    let a = store::put_part(out, at, s, 0, 128);
+    let a = buffer::put_part(out, at, s, 0, 128);
     let b = varint::put_varint(out, a, h.created_at);
     let c = varint::put_varint(out, b, h.kind);
     let d = varint::put_varint(out, c, content.len as u64);
-    let e = store::put_part(out, d, s, content.at, content.len);
+    let e = buffer::put_part(out, d, s, content.at, content.len);
     varint::put_varint(out, e, h.tag_count)
 }
 
 // A walked event into a buffer that has room for its strict form. Bytes that are strict already are copied whole.
 fn copy_packed(out: &mut [u8], s: &[u8], h: Head, t: Tally) -> usize
     requires { ⌜ walkAt (now s) ≡ shown (record { head = h; tally = t }) ⌝ }
-    ensures { λ r. ⌜ Copies (unpack (now (s .entry))) (now (out .entry)) (now (out .exit)) r ⌝ }
+    ensures { λ r. ⌜ Wrote (now (out .entry)) 0 (pack (eventAgain (now (s .entry)) h)) (now (out .exit)) r ⌝ }
 {
     if t.len == s.len() {
         if !t.hollow {
-            return store::put_bytes(out, 0, s);
+            return buffer::put_bytes(out, 0, s);
         }
     }
-    let o = put_head(out, 0, s, h);
+    let o = put_packed_head(out, 0, s, h);
     copy_tags(out, o, s, h.tags_at, h.tag_count)
 }
 
-// The strict form of a packed event: the reader's refusals, then 11 with the length needed; else written from the start.
-pub fn write_strict(s: &[u8], out: &mut [u8]) -> PackWrite
-    ensures { λ r. ⌜ packWrite r ≡ writes pack (unpack (now (s .entry))) (now (out .entry)) ⌝ }
+// The strict form of a packed event: the reader's refusals, then 11 with the length needed; else written from the
+// start.
+pub fn write_strict(s: &[u8], out: &mut [u8]) -> Writing
+    ensures { λ r. ⌜ writing r ≡ writes pack (unpack (now (s .entry))) (now (out .entry)) ⌝ }
     ensures { λ _. ⌜ now (out .exit) ≡ leaves pack (unpack (now (s .entry))) (now (out .entry)) ⌝ }
 {
     let walked = notepack::walk_packed(s);
     match walked {
-        Walk::Refused(r) => PackWrite::Refused(r),
+        Walk::Refused(r) => Writing::Refused(r),
         Walk::Done(h, t) => {
             if out.len() < t.len {
-                return PackWrite::Refused(Refusal {
+                return Writing::Refused(Refusal {
                     number: event::TOO_LITTLE_ROOM,
                     place: t.len,
                 });
             }
-            PackWrite::Written(copy_packed(out, s, h, t))
+            Writing::Written(copy_packed(out, s, h, t))
         }
     }
 }

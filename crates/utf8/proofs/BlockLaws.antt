@@ -14,7 +14,7 @@ use borrow.Author.Tests.{eq-eqb, ne-eqb, lt-ltb, le-ltb}
 use Rattle.scan.proofs.Step.{rest-none, rest-more}
 use Rattle.utf8.specs.Utf8.{octet, one}
 use Rattle.utf8.specs.Width.{widthAt, isUtf8}
-use Rattle.utf8.specs.Block.{highest, Passed, Walked}
+use Rattle.utf8.specs.Block.{highest, Passed, PassedTo}
 use Rattle.utf8.proofs.WidthLaws.{width-within}
 use Rattle.utf8.proofs.Laws.{rest-end, rest-stop, rest-step, rest-char}
 
@@ -94,11 +94,11 @@ passed-sequence {s} {a} {i} w e n p =
     record { onward = omega arith; inside = rw e (width-within s i m); same = p .same ∙ rw e (rest-step s i m) }
 
 -- it stopped where no sequence stands
-pub walked-stop : {s : List ℕ} {a e i : ℕ} (w : ℕ) → Passed s a i → w ≡ widthAt s i → w ≡ 0 → Walked s a e i
+pub walked-stop : {s : List ℕ} {a e i : ℕ} (w : ℕ) → Passed s a i → w ≡ widthAt s i → w ≡ 0 → PassedTo s a e i
 walked-stop w p q z = record { passed = p; stop = λ h. sym q ∙ z }
 
 -- it came to its end or past it
-pub walked-end : {s : List ℕ} {a e i : ℕ} → Passed s a i → e ≤ i → Walked s a e i
+pub walked-end : {s : List ℕ} {a e i : ℕ} → Passed s a i → e ≤ i → PassedTo s a e i
 walked-end p l = record { passed = p; stop = λ h. absurd (omega arith) }
 
 pub ruleset walks = (passed-sequence, walked-stop, walked-end)
@@ -110,11 +110,11 @@ passed-all : (s : List ℕ) (i : ℕ) → Passed s 0 i → length s ≤ i → tr
 passed-all s i p h = sym (p .same ∙ rest-end s i h)
 
 -- none stands where it stopped before the end
-passed-bad : (s : List ℕ) (i : ℕ) → Walked s 0 (length s) i → i < length s → false ≡ isUtf8 s
+passed-bad : (s : List ℕ) (i : ℕ) → PassedTo s 0 (length s) i → i < length s → false ≡ isUtf8 s
 passed-bad s i w h = sym (w .passed .same ∙ rest-stop s i h (w .stop h))
 
 -- the text is well-formed exactly if its end was reached
-pub walked-all : (s : List ℕ) (i : ℕ) → Walked s 0 (length s) i → eqb i (length s) ≡ isUtf8 s
+pub walked-all : (s : List ℕ) (i : ℕ) → PassedTo s 0 (length s) i → eqb i (length s) ≡ isUtf8 s
 walked-all s i w =
     dite (ℕ-discrete i (length s)) (λ e. eq-eqb i (length s) e ∙ passed-all s i (w .passed) (omega arith))
     (λ n. ne-eqb i (length s) n ∙ passed-bad s i w (omega (arith, n, w .passed .inside)))

@@ -17,6 +17,6 @@ pub record Passed (s : List ℕ) (a b : ℕ) : Type 0 where
   pub same : isUtf8 (drop a s) ≡ isUtf8 (drop b s)
 
 -- the same, and where that stopped before place e no sequence stands
-pub record Walked (s : List ℕ) (a e b : ℕ) : Type 0 where
+pub record PassedTo (s : List ℕ) (a e b : ℕ) : Type 0 where
   pub passed : Passed s a b
   pub stop : b < e → widthAt s b ≡ 0

@@ -5,9 +5,9 @@ ghost use mathlib.Core.List.{[], _∷_, _++_};
 ghost use lib.ListN.{length};
 ghost use lib.Dec.{ltb};
 ghost use Rattle.scan.specs.Place.{within};
-ghost use Rattle.store.specs.Store.{Wrote};
+ghost use Rattle.buffer.specs.Store.{Wrote};
 ghost use Rattle.utf8.specs.Width.{secondLow, secondHigh, twoOf, threeOf, fourOf, widthOf, widthAt, isUtf8};
-ghost use Rattle.utf8.specs.Block.{highest, Walked};
+ghost use Rattle.utf8.specs.Block.{highest, PassedTo};
 ghost use Rattle.utf8.specs.Misfit.{misfit, misfits, misfitsFrom};
 ghost use Rattle.utf8.specs.Encode.{tailOf, encode};
 
@@ -215,7 +215,7 @@ fn by_windows(s: &[u8]) -> bool
 // Passes sequence after sequence until at or past the place e, or until none stands.
 fn pass_sequences(s: &[u8], at: usize, e: usize) -> usize
     requires { ⌜ at ≤ length (now s) ⌝ }
-    ensures { λ r. ⌜ Walked (now (s .entry)) at e r ⌝ }
+    ensures { λ r. ⌜ PassedTo (now (s .entry)) at e r ⌝ }
 {
     let mut i = at;
     while i < e {
@@ -335,25 +335,25 @@ pub fn put_scalar(out: &mut [u8], at: usize, n: u32) -> usize
     ensures { λ r. ⌜ Wrote (now (out .entry)) at (encode n) (now (out .exit)) r ⌝ }
 {
     if n < 0x80 {
-        return store::put_byte(out, at, n as u8);
+        return buffer::put_byte(out, at, n as u8);
     }
     if n < 0x800 {
-        let b = store::put_byte(out, at, (0xC0 + n / 64) as u8);
-        return store::put_byte(out, b, tail_of(n));
+        let b = buffer::put_byte(out, at, (0xC0 + n / 64) as u8);
+        return buffer::put_byte(out, b, tail_of(n));
     }
     if is_surrogate(n) {
         return at;
     }
     if n < 0x10000 {
-        let b = store::put_byte(out, at, (0xE0 + n / 4096) as u8);
-        let c = store::put_byte(out, b, tail_of(n / 64));
-        return store::put_byte(out, c, tail_of(n));
+        let b = buffer::put_byte(out, at, (0xE0 + n / 4096) as u8);
+        let c = buffer::put_byte(out, b, tail_of(n / 64));
+        return buffer::put_byte(out, c, tail_of(n));
     }
     if n < 0x110000 {
-        let b = store::put_byte(out, at, (0xF0 + n / 262144) as u8);
-        let c = store::put_byte(out, b, tail_of(n / 4096));
-        let d = store::put_byte(out, c, tail_of(n / 64));
-        return store::put_byte(out, d, tail_of(n));
+        let b = buffer::put_byte(out, at, (0xF0 + n / 262144) as u8);
+        let c = buffer::put_byte(out, b, tail_of(n / 4096));
+        let d = buffer::put_byte(out, c, tail_of(n / 64));
+        return buffer::put_byte(out, d, tail_of(n));
     }
     at
 }

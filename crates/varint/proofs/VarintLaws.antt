@@ -17,7 +17,7 @@ use Rattle.scan.proofs.SpanLaws.{from-span, to-span, span-length, span-fits, sp
 use Rattle.scan.proofs.AllLaws.{span-all}
 use Rattle.scan.proofs.Reading.{Reads, reads, fails}
 use Rattle.varint.specs.Uleb.{Spells, uleb}
-use Rattle.varint.specs.Varint.{Spelled, number, over, cut, spelled, answered, varintAt, isShort, shortestAt}
+use Rattle.varint.specs.Varint.{Spelled, number, over, cut, spelled, answered, varintAt, isShortest, shortestAt}
 use Rattle.varint.proofs.UlebLaws.{uleb-spells, spells-one, spells-unique}
 use Rattle.varint.proofs.SpelledLaws.{spelled-digits, Taken, taken, taken-over, taken-cut, spelled-taken}
 
@@ -132,7 +132,7 @@ pub shortest-at : (s : List ℕ) (at : ℕ) → IsBytes s
 unfolding shortestAt
 shortest-at s at y = (λ e. go (varintAt s at) refl e, λ h. back (h .0) (h .1) (h .2) (h .3))
   where
-    go : (x : Answer (Read ℕ)) → varintAt s at ≡ x → isShort at x ≡ true → (n : ℕ) × (c : ℕ) × (n < 2 ^ 64) × Span s at (uleb n) c
+    go : (x : Answer (Read ℕ)) → varintAt s at ≡ x → isShortest at x ≡ true → (n : ℕ) × (c : ℕ) × (n < 2 ^ 64) × Span s at (uleb n) c
     go (shown r) e t =
         let u = consumes s at y e in
         let f = eqb-true (r .next) (at + length (uleb (r .value))) t in
@@ -140,5 +140,5 @@ shortest-at s at y = (λ e. go (varintAt s at) refl e, λ h. back (h .0) (h .1) 
         (r .value, r .next, u .1 .holds, rw g at (u .2))
     go (refused n p) e t = absurd (false-true t)
 
-    back : (n c : ℕ) → n < 2 ^ 64 → Span s at (uleb n) c → isShort at (varintAt s at) ≡ true
+    back : (n c : ℕ) → n < 2 ^ 64 → Span s at (uleb n) c → isShortest at (varintAt s at) ≡ true
     back n c h p = rw (reads-back h p) (eq-eqb c (at + length (uleb n)) (span-length p))

@@ -44,10 +44,10 @@ varintRead (Value n c) = read n (c .at)
 varintRead (Refused r) = told r
 
 -- an answer is the shortest spelling: it is a number, in as many bytes as `uleb` takes
-abbrev pub isShort : ℕ → Answer (Read ℕ) → Bool
-isShort at (shown r) = eqb (r .next) (at + length (uleb (r .value)))
-isShort at (refused n p) = false
+abbrev pub isShortest : ℕ → Answer (Read ℕ) → Bool
+isShortest at (shown r) = eqb (r .next) (at + length (uleb (r .value)))
+isShortest at (refused n p) = false
 
 -- whether the varint at a place is there and is spelled as short as it can be
 unfoldable pub shortestAt : List ℕ → ℕ → Bool
-shortestAt s at = isShort at (varintAt s at)
+shortestAt s at = isShortest at (varintAt s at)

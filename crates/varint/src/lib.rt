@@ -3,7 +3,7 @@ use event::Refusal;
 ghost use Prim.Native.Nat.{_≤_};
 ghost use mathlib.Core.Path.{_≡_};
 ghost use lib.ListN.{length};
-ghost use Rattle.store.specs.Store.{Wrote};
+ghost use Rattle.buffer.specs.Store.{Wrote};
 ghost use Rattle.varint.specs.Uleb.{uleb};
 ghost use Rattle.varint.specs.Varint.{varintRead, varintAt, shortestAt};
 
@@ -107,8 +107,8 @@ pub fn put_varint(out: &mut [u8], at: usize, n: u64) -> usize
     let mut o = at;
     let mut rest = n;
     while rest >= 128 {
-        o = store::put_byte(out, o, 128 + (rest % 128) as u8);
+        o = buffer::put_byte(out, o, 128 + (rest % 128) as u8);
         rest /= 128;
     }
-    store::put_byte(out, o, rest as u8)
+    buffer::put_byte(out, o, rest as u8)
 }

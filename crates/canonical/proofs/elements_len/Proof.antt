@@ -1,71 +1,56 @@
--- `elements_len` measures the elements as it reads them again. The invariant: what is counted and the length of the elements left are the length of all,
--- and they end where all end. Each turn is one law; the sum is at most three times the input.
-use Prim.Native.Nat.{_+_}
-use mathlib.Core.Bool.{true}
+-- `elements_len` measures the elements as it goes over them again. The invariant: what is counted and the length of
+-- those left are the length of all,
+-- and they end where all end; what is counted is at most 131,075 for each. Each turn is one law.
+use Prim.Native.Nat.{_+_, _*_, _≤_}
 use mathlib.Core.Path.{_≡_, refl, sym, ap, _∙_}
+use mathlib.Core.List.{map}
 use native.Mathlib.Omega.{arith}
 use lib.ListN.{length}
 use borrow.Author.Needs.{needs}
-use Rattle.scan.proofs.AllLaws.{all-places}
-use Rattle.notepack.specs.Answers.{partRead}
 use Rattle.escape.specs.Escape.{canonicalByte}
-use Rattle.tagtext.specs.Copy.{elementsFrom, elementsEnd}
-use Rattle.tagtext.proofs.Again.{elements-turn, elements-count, elements-stop, elements-left}
-use Rattle.tagtext.proofs.Room.{elements-room}
+use Rattle.notepack.specs.Again.{textsAgain, textsEnd}
+use Rattle.notepack.proofs.Again.{texts-turn, texts-left}
+use Rattle.jsontags.specs.TagText.{quoted, commaed}
+use Rattle.jsontags.proofs.Turns.{strings-count, strings-left}
 use Rattle.canonical.proofs.elements_len.Statement.{statement}
 use Rattle.canonical.proofs.elements_len.Tie as tie
 
 abbrev Inv-loop : tie.InvT-loop
 Inv-loop s from count n₀ at₀ left₀ n at left =
-    (n + length (elementsFrom canonicalByte left s at) ≡ n₀ + length (elementsFrom canonicalByte left₀ s at₀)) × (elementsEnd left₀ s at₀ ≡ elementsEnd left s at)
+    (n + length (commaed (map (quoted canonicalByte) (textsAgain left s at))) ≡ n₀ + length (commaed (map (quoted canonicalByte) (textsAgain left₀ s at₀))))
+    × (textsEnd left₀ s at₀ ≡ textsEnd left s at)
+    × (n + 131_075 * left ≤ n₀ + 131_075 * left₀)
 
 abbrev μ-loop : tie.MeasureT-loop
 μ-loop s from count n₀ at₀ left₀ n at left = left
 
-fits : tie.Need-add-n-2 Inv-loop μ-loop
-fits c =
-    let q = c .before .before .before .before .before .before .before .loop in
-    let known = c .before .before .before .before .before .before .before .before in
-    let a = known .before .args in
-    let bytes = all-places (a .s .now) (λ i. omega (arith, known .shared-slice-known .given i)) in
-    let most = elements-room (a .s .now) true bytes (a .count) (a .from) in
-    omega (arith, q .inv .0, most, known .before .pre, c .comma-len .ensures .1, c .before .quoted-len .ensures .1)
+sum-fits : tie.Need-add-n-2 Inv-loop μ-loop
+sum-fits c =
+    let q = c .before .before .before .before .loop in
+    omega (arith, q .inv .2, c .before .before .before .before .before .before .pre, c .comma-len .ensures .1, c .before .quoted-len .ensures .1)
 
 again : tie.Need-loop-again Inv-loop μ-loop
 again c =
-    let told = c .before .before .before in
-    let called = told .before .before in
-    let turn = called .before in
+    let read = c .before .before in
+    let turn = read .before in
     let q = turn .before .loop in
-    let s = turn .before .before .before .args .s .now in
-    let test = turn .loop-test .taken in
-    let t = elements-turn canonicalByte s (q .left) (q .at) _ _ _ test (called .read-part .ensures) (told .found .given .1) in
-    let n = elements-count canonicalByte s (q .left) (q .at) _ _ _ test (called .read-part .ensures) (told .found .given .1) in
-    (omega (arith, q .inv .0, n, c .comma-len .ensures .0, c .before .quoted-len .ensures .0), q .inv .1 ∙ t .1)
+    let start = turn .before .before .before in
+    let s = start .args .s .now in
+    let r = read .part-again .ensures in
+    let n = strings-count canonicalByte s (q .left) (q .at) (turn .loop-test .taken) (r .0) (r .1) in (
+      omega (arith, q .inv .0, n, c .comma-len .ensures .0, c .before .quoted-len .ensures .0),
+      q .inv .1 ∙ texts-turn s (q .left) (q .at) (turn .loop-test .taken) (r .0) (r .1) .1,
+      omega (arith, q .inv .2, turn .loop-test .taken, start .pre, c .comma-len .ensures .1, c .before .quoted-len .ensures .1),
+    )
 
-stop : tie.Need-returns Inv-loop μ-loop
-stop c =
-    let called = c .before .before in
-    let turn = called .before in
-    let q = turn .before .loop in
-    let known = turn .before .before in
-    let a = known .before .args in
-    let s = a .s .now in
-    let bytes = all-places s (λ i. omega (arith, known .shared-slice-known .given i)) in
-    let most = elements-room s true bytes (a .count) (a .from) in
-    let t = elements-stop canonicalByte s (q .left) (q .at) (called .read-part .result) _ _ (turn .loop-test .taken) (called .read-part .ensures) (ap partRead (c .enum-told .given .1)) in
-    (omega (arith, q .inv .0, ap length (t .0)), (sym (q .inv .1 ∙ t .1), omega (arith, q .inv .0, most)))
-
-end : tie.Need-returns-2 Inv-loop μ-loop
+end : tie.Need-returns Inv-loop μ-loop
 end c =
     let q = c .before .loop in
-    let known = c .before .before in
-    let a = known .before .args in
-    let s = a .s .now in
-    let bytes = all-places s (λ i. omega (arith, known .shared-slice-known .given i)) in
-    let most = elements-room s true bytes (a .count) (a .from) in
-    let t = elements-left canonicalByte s (q .left) (q .at) (c .loop-test .left) in
-    (omega (arith, q .inv .0, ap length (t .0)), (sym (q .inv .1 ∙ t .1), omega (arith, q .inv .0, most)))
+    let start = c .before .before .before in
+    let s = start .args .s .now in (
+      omega (arith, q .inv .0, ap length (strings-left canonicalByte s (q .left) (q .at) (c .loop-test .left))),
+      (sym (q .inv .1 ∙ texts-left s (q .left) (q .at) (c .loop-test .left) .1), omega (arith, q .inv .2, start .pre .1)),
+    )
 
 pub elements-len-spec : {M : Type 1} → statement M
 elements-len-spec =
@@ -73,16 +58,13 @@ elements-len-spec =
     (tie.spec
     Inv-loop
     μ-loop
-    (λ c. (refl, refl))
-    (λ c κs. search needs)
+    (λ c. (refl, refl, omega arith))
     (λ c. search needs)
-    (λ c. search needs)
-    (λ c κs. c .before .before .before .before .before .before .before .pre)
     (λ c κs. search needs)
-    (λ c. omega (arith, c .before .before .before .before .before .before .before .before .before .pre, c .comma-len .ensures .1, c .before .quoted-len .ensures .1))
-    fits
+    (λ c κs. c .before .before .before .before .pre .0)
+    (λ c κs. search needs)
+    (λ c. omega (arith, c .before .before .before .before .before .before .pre, c .comma-len .ensures .1, c .before .quoted-len .ensures .1))
+    sum-fits
     (λ c. search needs)
     again
-    (λ c. search needs)
-    stop
     end)

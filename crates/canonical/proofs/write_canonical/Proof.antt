@@ -1,11 +1,14 @@
--- `write_canonical` answers as document 01 says: the reader's refusal, 11 with the length needed, or the length written; and leaves the buffer so.
--- By the laws of the entry for each outcome of the walk; where there is room for three times the input, nothing is measured.
+-- `write_canonical` answers as document 01 says: the reader's refusal, 11 with the length needed, or the length
+-- written; and leaves the buffer so.
+-- By the laws of the entry for each outcome of the walk; where there is room for three times the input, nothing is
+-- measured.
 use mathlib.Core.Path.{ap}
 use native.Mathlib.Omega.{arith}
 use borrow.Author.Needs.{needs}
 use Rattle.scan.proofs.AllLaws.{all-places}
 use Rattle.notepack.specs.Answers.{walk}
-use Rattle.canonical.proofs.Whole.{walk-shows, write-refused, write-short, write-fitted, write-wide}
+use Rattle.notepack.proofs.Again.{accepted}
+use Rattle.canonical.proofs.Whole.{write-refused, write-short, write-fitted, write-wide}
 use Rattle.canonical.proofs.write_canonical.Statement.{statement}
 use Rattle.canonical.proofs.write_canonical.Tie as tie
 
@@ -16,9 +19,8 @@ bound-fits c =
     let known = called .before .before in
     let a = known .before .args in
     let bytes = all-places (a .s .now) (λ i. omega (arith, known .shared-slice-known .given i)) in
-    let g = walk-shows (a .s .now) bytes _ _ (called .walk-packed .ensures) (ap walk (told .walked2 .given .1)) in
-    let short = g .short in
-    omega arith
+    let g = accepted (a .s .now) bytes _ _ (called .walk-packed .ensures) (ap walk (told .walked2 .given .1)) in
+    omega (arith, g .sound .short)
 
 wide : tie.Need-returns
 wide c =
@@ -27,18 +29,18 @@ wide c =
     let known = called .before .before in
     let a = known .before .args in
     let bytes = all-places (a .s .now) (λ i. omega (arith, known .shared-slice-known .given i)) in
-    let g = walk-shows (a .s .now) bytes _ _ (called .walk-packed .ensures) (ap walk (told .walked2 .given .1)) in
-    write-wide (a .s .now) (a .out .now) g (c .before .before .before .before .if1 .taken) (c .before .before .put-whole .ensures)
+    let g = accepted (a .s .now) bytes _ _ (called .walk-packed .ensures) (ap walk (told .walked2 .given .1)) in
+    write-wide (a .s .now) (a .out .now) g (c .before .before .before .before .if1 .taken) (c .before .before .put-canonical .ensures)
 
-measured : tie.Need-whole-len-requires
+measured : tie.Need-canonical-len-requires
 measured c κs =
     let told = c .before .before in
     let called = told .before .before in
     let known = called .before .before in
     let a = known .before .args in
     let bytes = all-places (a .s .now) (λ i. omega (arith, known .shared-slice-known .given i)) in
-    let g = walk-shows (a .s .now) bytes _ _ (called .walk-packed .ensures) (ap walk (told .walked2 .given .1)) in
-    g .short
+    let g = accepted (a .s .now) bytes _ _ (called .walk-packed .ensures) (ap walk (told .walked2 .given .1)) in
+    (g .sound .short, g .few)
 
 short : tie.Need-returns-2
 short c =
@@ -47,8 +49,8 @@ short c =
     let known = called .before .before in
     let a = known .before .args in
     let bytes = all-places (a .s .now) (λ i. omega (arith, known .shared-slice-known .given i)) in
-    let g = walk-shows (a .s .now) bytes _ _ (called .walk-packed .ensures) (ap walk (told .walked2 .given .1)) in
-    write-short (a .s .now) (a .out .now) g (c .before .whole-len .ensures) (c .if2 .taken)
+    let g = accepted (a .s .now) bytes _ _ (called .walk-packed .ensures) (ap walk (told .walked2 .given .1)) in
+    write-short (a .s .now) (a .out .now) g (c .before .canonical-len .ensures) (c .if2 .taken)
 
 refused : tie.Need-returns-3
 refused c =
@@ -64,8 +66,8 @@ fitted c =
     let known = called .before .before in
     let a = known .before .args in
     let bytes = all-places (a .s .now) (λ i. omega (arith, known .shared-slice-known .given i)) in
-    let g = walk-shows (a .s .now) bytes _ _ (called .walk-packed .ensures) (ap walk (told .walked2 .given .1)) in
-    write-fitted (a .s .now) (a .out .now) g (tested .before .whole-len .ensures) (tested .if2 .left) (c .before .before .put-whole2 .ensures)
+    let g = accepted (a .s .now) bytes _ _ (called .walk-packed .ensures) (ap walk (told .walked2 .given .1)) in
+    write-fitted (a .s .now) (a .out .now) g (tested .before .canonical-len .ensures) (tested .if2 .left) (c .before .before .put-canonical2 .ensures)
 
 pub write-canonical-spec : {M : Type 1} → statement M
 write-canonical-spec =

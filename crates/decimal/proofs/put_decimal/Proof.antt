@@ -7,7 +7,7 @@ use native.Mathlib.Omega.{arith}
 use borrow.Author.Needs.{needs}
 use lib.ListN.{length, drop, length-set}
 use lib.Seq.{take-all}
-use Rattle.store.proofs.Laws.{back}
+use Rattle.buffer.proofs.Laws.{back}
 use Rattle.decimal.specs.Decimal.{decimal}
 use Rattle.decimal.proofs.Spelling.{decimal-last, decimal-more, length-last, length-more, length-u64}
 use Rattle.decimal.proofs.put_decimal.Statement.{statement}

@@ -1,4 +1,5 @@
--- `count_block` counts the bytes of a block that become two in NSON, and those that it can't carry. The invariant: each count and what is left make the whole.
+-- `count_block` counts the bytes of a block that become two in NSON, and those that it can't carry. The invariant: each
+-- count and what is left make the whole.
 -- A byte adds 0 or 1 to each, so a sum is at most i and fits a byte.
 use Prim.Native.Nat.{_+_, _-_, _≤_}
 use mathlib.Core.Path.{_≡_}
@@ -26,7 +27,7 @@ again c =
       omega arith,
       omega arith,
       count-more false _ _ _ _ (v .3) (test .loop-test .taken) (c .before .before .before .is-escaped .ensures) (c .before .before .one-if .ensures .0),
-      rw (c .is-control .ensures .0) (control-more _ _ _ _ (v .4) (test .loop-test .taken)),
+      rw (c .is-uncarried .ensures .0) (control-more _ _ _ _ (v .4) (test .loop-test .taken)),
     )
 
 pub count-block-spec : {M : Type 1} → statement M

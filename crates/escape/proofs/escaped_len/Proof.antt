@@ -1,83 +1,20 @@
--- `escaped_len` adds block by block. The invariant: the sum and the length of what is left, escaped, make the whole.
--- Each turn is `length-block`; the whole is at most twice as long as the text, so no sum wraps.
-use Prim.Native.Nat.{_+_, _-_, _≤_}
-use mathlib.Core.Path.{_≡_}
-use native.Mathlib.Omega.{arith}
-use lib.ListN.{length, drop, length-take, length-drop}
+-- `escaped_len` is the length of an escaped text, and at most `growth` for each byte.
+-- By its flag.
+use Prim.Native.Nat.{ℕ}
+use mathlib.Core.Path.{ap, _∙_}
+use mathlib.Core.List.{List}
+use lib.ListN.{length}
+use borrow.Author.Needs.{needs}
 use Rattle.escape.specs.Escape.{escaped}
-use Rattle.escape.specs.Block.{byteOf}
-use Rattle.escape.proofs.ByteLaws.{escaping}
-use Rattle.escape.proofs.TextLaws.{length-least, length-most}
-use Rattle.escape.proofs.BlockLaws.{length-block, length-last}
+use Rattle.escape.proofs.TextLaws.{growth-most}
 use Rattle.escape.proofs.escaped_len.Statement.{statement}
 use Rattle.escape.proofs.escaped_len.Tie as tie
 
-abbrev Inv-loop : tie.InvT-loop
-Inv-loop all s i₀ n₀ i n = (i ≤ length s) × (n + length (escaped (byteOf all) (drop i s)) ≡ length (escaped (byteOf all) s))
-
-abbrev μ-loop : tie.MeasureT-loop
-μ-loop all s i₀ n₀ i n = length s - i
-
-add-n-2 : tie.Need-add-n-2 Inv-loop μ-loop
-add-n-2 c =
-    let q = c .before .before .before .loop in
-    let a = c .before .before .before .before .before .args in
-    let f = byteOf (a .all) in
-    let e = length-block f (a .s .now) (q .i) (q .i + 128) (c .escapes .result) (omega arith) (omega arith) (c .escapes .ensures) in
-    omega (arith, e, length-most f (escaping (a .all)) (a .s .now))
-
-again : tie.Need-loop-again Inv-loop μ-loop
-again c =
-    let q = c .before .before .before .loop in
-    let a = c .before .before .before .before .before .args in
-    let e = length-block (byteOf (a .all)) (a .s .now) (q .i) (q .i + 128) (c .escapes .result) (omega arith) (omega arith) (c .escapes .ensures) in
-    (omega arith, omega (arith, e))
-
-add-result : tie.Need-add-result Inv-loop μ-loop
-add-result c =
-    let a = c .before .before .before .args in
-    let f = byteOf (a .all) in
-    let least = length-least f (escaping (a .all)) (drop (c .before .loop .i) (a .s .now)) in
-    omega (arith, least, length-most f (escaping (a .all)) (a .s .now), length-drop (c .before .loop .i) (a .s .now))
-
-add-result-2 : tie.Need-add-result-2 Inv-loop μ-loop
-add-result-2 c =
-    let a = c .before .before .before .before .before .args in
-    let f = byteOf (a .all) in
-    let e = length-last f (a .s .now) (c .before .before .before .loop .i) (c .escapes2 .result) (omega arith) (c .escapes2 .ensures) in
-    omega (arith, e, length-most f (escaping (a .all)) (a .s .now))
-
-returns : tie.Need-returns Inv-loop μ-loop
+returns : tie.Need-returns
 returns c =
-    let a = c .before .before .before .before .before .args in
-    let f = byteOf (a .all) in
-    let e = length-last f (a .s .now) (c .before .before .before .loop .i) (c .escapes2 .result) (omega arith) (c .escapes2 .ensures) in
-    (omega (arith, e), omega (arith, e, length-most f (escaping (a .all)) (a .s .now)))
+    let a = c .before .before .before .args in
+    let n = c .escaped-len-by .ensures ∙ ap (λ (f : ℕ → List ℕ). length (escaped f (a .s .now))) (c .before .is-canonical .ensures) in
+    (n, rw n (growth-most (a .k) (a .s .now)))
 
 pub escaped-len-spec : {M : Type 1} → statement M
-escaped-len-spec =
-    tie.close
-    (tie.spec
-    Inv-loop
-    μ-loop
-    (λ c. (omega arith, omega arith))
-    (λ c. omega arith)
-    (λ c. omega arith)
-    (λ c. omega arith)
-    (λ c. omega arith)
-    (λ c. omega arith)
-    (λ c κs. simp (length-take, length-drop) (omega arith))
-    (λ c. omega arith)
-    (λ c. omega arith)
-    add-n-2
-    (λ c. omega arith)
-    again
-    (λ c. omega arith)
-    add-result
-    (λ c. omega arith)
-    (λ c. omega arith)
-    (λ c. omega arith)
-    (λ c κs. simp (length-take, length-drop) (omega arith))
-    (λ c. omega arith)
-    add-result-2
-    returns)
+escaped-len-spec = tie.close (tie.spec (λ c κs. search needs) (λ c κs. search needs) returns)

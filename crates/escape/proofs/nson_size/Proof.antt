@@ -6,7 +6,7 @@ use mathlib.Core.Bool.{false}
 use native.Mathlib.Omega.{arith}
 use lib.ListN.{length, drop, length-take, length-drop}
 use Rattle.escape.specs.Escape.{nsonByte, escaped, controls, nsonText}
-use Rattle.escape.proofs.ByteLaws.{escaping}
+use Rattle.escape.proofs.ByteLaws.{escaping-by}
 use Rattle.escape.proofs.TextLaws.{length-least, length-most}
 use Rattle.escape.proofs.BlockLaws.{length-block, length-last, controls-block, controls-end}
 use Rattle.escape.proofs.nson_size.Statement.{statement}
@@ -24,7 +24,7 @@ add-n-2 c =
     let q = c .before .before .before .before .loop in
     let s = c .before .before .before .before .before .before .args .s .now in
     let e = length-block nsonByte s (q .i) (q .i + 128) (c .before .count-block .result .escapes) (omega arith) (omega arith) (c .before .count-block .ensures .0) in
-    omega (arith, e, length-most nsonByte (escaping false) s)
+    omega (arith, e, length-most nsonByte (escaping-by false) s)
 
 -- a block has no more such bytes than bytes
 add-m : tie.Need-add-m Inv-loop μ-loop
@@ -37,7 +37,7 @@ add-t19 : tie.Need-add-t19 Inv-loop μ-loop
 add-t19 c =
     let q = c .before .before .before .loop in
     let s = c .before .before .before .before .before .args .s .now in
-    omega (arith, length-least nsonByte (escaping false) (drop (q .i) s), length-most nsonByte (escaping false) s, length-drop (q .i) s)
+    omega (arith, length-least nsonByte (escaping-by false) (drop (q .i) s), length-most nsonByte (escaping-by false) s, length-drop (q .i) s)
 
 add-t21 : tie.Need-add-t21 Inv-loop μ-loop
 add-t21 c =
@@ -45,7 +45,7 @@ add-t21 c =
     let s = c .before .before .before .before .before .before .args .s .now in
     let x = c .before .count-block2 in
     let e = length-last nsonByte s (q .i) (x .result .escapes) (omega arith) (x .ensures .0) in
-    omega (arith, e, length-most nsonByte (escaping false) s)
+    omega (arith, e, length-most nsonByte (escaping-by false) s)
 
 add-t23 : tie.Need-add-t23 Inv-loop μ-loop
 add-t23 c =
@@ -70,7 +70,7 @@ returns c =
     let x = c .before .before .count-block2 in
     let e = length-last nsonByte s (q .i) (x .result .escapes) (omega arith) (x .ensures .0) in
     let k : controls s ≡ q .m + x .result .controls = omega (arith, controls-block s (q .i) (length s) (omega arith), controls-end s, x .ensures .1 .0) in
-    (omega (arith, e), (rw k, omega (arith, e, length-most nsonByte (escaping false) s)))
+    (omega (arith, e), (rw k, omega (arith, e, length-most nsonByte (escaping-by false) s)))
 
 pub nson-size-spec : {M : Type 1} → statement M
 nson-size-spec =

@@ -5,15 +5,15 @@ use native.Mathlib.Omega.{arith}
 use borrow.Author.Needs.{needs}
 use lib.ListN.{length, drop}
 use Rattle.scan.proofs.Step.{rest-none, rest-more}
-use Rattle.store.proofs.Laws.{Left, start, part, same, done}
+use Rattle.buffer.proofs.Laws.{Left, start, part, same, done}
 use Rattle.escape.specs.Escape.{escaped}
-use Rattle.escape.specs.Block.{byteOf}
+use Rattle.escape.specs.Block.{byteBy}
 use Rattle.escape.proofs.TextLaws.{escaped-none, escaped-more}
 use Rattle.escape.proofs.put_each.Statement.{statement}
 use Rattle.escape.proofs.put_each.Tie as tie
 
 abbrev Inv-loop : tie.InvT-loop
-Inv-loop all out₀ at s i₀ o₀ out i o = (i ≤ length s) × Left out₀ at (escaped (byteOf all) s) out o (escaped (byteOf all) (drop i s))
+Inv-loop all out₀ at s i₀ o₀ out i o = (i ≤ length s) × Left out₀ at (escaped (byteBy all) s) out o (escaped (byteBy all) (drop i s))
 
 abbrev μ-loop : tie.MeasureT-loop
 μ-loop all out₀ at s i₀ o₀ out i o = length s - i

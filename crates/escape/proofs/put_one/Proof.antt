@@ -1,7 +1,7 @@
 -- `put_one` writes a byte as one or as two, by the test.
 -- Each return is what the byte becomes under the test's outcome: `byte-two`, `byte-one`.
 use borrow.Author.Needs.{needs}
-use Rattle.store.proofs.Laws.{then}
+use Rattle.buffer.proofs.Laws.{then}
 use Rattle.escape.proofs.ByteLaws.{byte-two, byte-one}
 use Rattle.escape.proofs.put_one.Statement.{statement}
 use Rattle.escape.proofs.put_one.Tie as tie
@@ -12,7 +12,7 @@ returns c =
     let first = second .before .before .before .before .before in
     let tested = first .before .before in
     let b = tested .before .before .before .args .b in
-    let letter = rw (second .before .letter-of .ensures) at (second .put-byte2 .ensures) in
+    let letter = rw (second .before .escape-letter .ensures) at (second .put-byte2 .ensures) in
     rw (byte-two _ b (tested .before .is-escaped .ensures) (tested .if1 .taken)) (then (first .put-byte .ensures) letter)
 
 returns-2 : tie.Need-returns-2

@@ -6,9 +6,9 @@ use native.Mathlib.Omega.{arith}
 use borrow.Author.Needs.{needs}
 use lib.ListN.{length, drop, getD, length-set, drop-of-length-le}
 use Rattle.scan.proofs.Step.{rest-more}
-use Rattle.store.proofs.Laws.{Left, start, done}
+use Rattle.buffer.proofs.Laws.{Left, start, done}
 use Rattle.hex.specs.Hex.{hexes}
-use Rattle.hex.proofs.Turn.{two-bytes}
+use Rattle.buffer.proofs.OverLaws.{two-bytes}
 use Rattle.hex.proofs.hex_all.Statement.{statement}
 use Rattle.hex.proofs.hex_all.Tie as tie
 

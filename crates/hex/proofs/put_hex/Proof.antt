@@ -5,7 +5,7 @@ use mathlib.Core.Path.{_≡_}
 use native.Mathlib.Omega.{arith}
 use borrow.Author.Needs.{needs}
 use lib.ListN.{length, getD, length-take}
-use Rattle.store.proofs.Laws.{full}
+use Rattle.buffer.proofs.Laws.{full}
 use Rattle.hex.proofs.Turn.{hexes-cut}
 use Rattle.hex.proofs.put_hex.Statement.{statement}
 use Rattle.hex.proofs.put_hex.Tie as tie

@@ -6,7 +6,7 @@ use native.Mathlib.Nat.{add-zero, add-assoc}
 use native.Mathlib.Omega.{arith}
 use borrow.Author.Needs.{needs}
 use lib.ListN.{length, drop, length-set}
-use Rattle.store.proofs.Laws.{Left, start, byte, also, done}
+use Rattle.buffer.proofs.Laws.{Left, start, byte, also, done}
 use Rattle.hex.specs.Block.{pairsOf}
 use Rattle.hex.proofs.Pairs.{pairs-two, pairs-ended}
 use Rattle.hex.proofs.put_pairs.Statement.{statement}

@@ -4,7 +4,7 @@ use Prim.Native.Nat.{_-_}
 use native.Mathlib.Omega.{arith}
 use borrow.Author.Needs.{needs}
 use lib.ListN.{length, length-take}
-use Rattle.store.proofs.Laws.{full}
+use Rattle.buffer.proofs.Laws.{full}
 use Rattle.hex.proofs.Turn.{unhex-cut}
 use Rattle.hex.proofs.put_unhex.Statement.{statement}
 use Rattle.hex.proofs.put_unhex.Tie as tie

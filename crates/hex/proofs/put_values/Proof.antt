@@ -5,7 +5,7 @@ use mathlib.Core.Path.{_≡_, refl}
 use native.Mathlib.Omega.{arith}
 use borrow.Author.Needs.{needs}
 use lib.ListN.{length, drop, length-set}
-use Rattle.store.proofs.Laws.{Left, start, byte, also, done}
+use Rattle.buffer.proofs.Laws.{Left, start, byte, also, done}
 use Rattle.hex.specs.Block.{valuesOf}
 use Rattle.hex.proofs.Pairs.{values-more, values-ended}
 use Rattle.hex.proofs.put_values.Statement.{statement}

@@ -5,7 +5,7 @@ use mathlib.Core.Path.{_≡_, refl, _∙_}
 use native.Mathlib.Omega.{arith}
 use borrow.Author.Needs.{needs}
 use lib.ListN.{length, drop, length-take, length-drop}
-use Rattle.store.proofs.Laws.{Left, start, kept}
+use Rattle.buffer.proofs.Laws.{Left, start, kept}
 use Rattle.hex.specs.Hex.{unhex}
 use Rattle.hex.proofs.Pairs.{block-written, rest-written}
 use Rattle.hex.proofs.unhex_all.Statement.{statement}

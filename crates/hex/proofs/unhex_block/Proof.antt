@@ -4,10 +4,11 @@ use mathlib.Core.Path.{_≡_, ap, _∙_}
 use native.Mathlib.Omega.{arith}
 use borrow.Author.Needs.{needs}
 use lib.ListN.{length}
-use Rattle.store.specs.Store.{Wrote}
+use Rattle.buffer.specs.Store.{Wrote}
 use Rattle.hex.specs.Hex.{unhex}
 use Rattle.hex.specs.Block.{valuesOf, pairsOf}
-use Rattle.hex.proofs.Pairs.{all-over, length-values, pairs-values}
+use Rattle.buffer.proofs.Places.{all-over}
+use Rattle.hex.proofs.Pairs.{length-values, pairs-values}
 use Rattle.hex.proofs.unhex_block.Statement.{statement}
 use Rattle.hex.proofs.unhex_block.Tie as tie
 

@@ -5,7 +5,7 @@ use mathlib.Core.Path.{_≡_, refl}
 use native.Mathlib.Omega.{arith}
 use borrow.Author.Needs.{needs}
 use lib.ListN.{length, drop, length-set}
-use Rattle.store.proofs.Laws.{Left, start, byte, done}
+use Rattle.buffer.proofs.Laws.{Left, start, byte, done}
 use Rattle.hex.specs.Hex.{unhex}
 use Rattle.hex.proofs.Turn.{unhex-two, unhex-ended}
 use Rattle.hex.proofs.unhex_each.Statement.{statement}

@@ -3,7 +3,7 @@
 use mathlib.Core.Path.{sym, ap, _∙_}
 use borrow.Author.Needs.{needs}
 use Rattle.jsonread.specs.Copy.{textEnd}
-use Rattle.jsonread.specs.Answers.{textRead}
+use Rattle.jsonstring.specs.Answers.{textRead}
 use Rattle.jsonread.proofs.text_end.Statement.{statement}
 use Rattle.jsonread.proofs.text_end.Tie as tie
 
@@ -16,6 +16,6 @@ text-end-spec =
     (λ c. search needs)
     (λ c. search needs)
     (λ c. search needs)
-    (λ c. rw (sym (c .before .before .before .spelled .ensures .0) ∙ ap textRead (c .before .found .given .1)))
-    (λ c. rw (sym (c .before .before .before .spelled .ensures .0) ∙ ap textRead (c .before .found2 .given .1)))
-    (λ c. rw (sym (c .before .before .spelled .ensures .0) ∙ ap textRead (c .enum-told .given .1))))
+    (λ c. rw (sym (c .before .before .before .read-text .ensures .0) ∙ ap textRead (c .before .found .given .1)))
+    (λ c. rw (sym (c .before .before .before .read-text .ensures .0) ∙ ap textRead (c .before .found2 .given .1)))
+    (λ c. rw (sym (c .before .before .read-text .ensures .0) ∙ ap textRead (c .enum-told .given .1))))

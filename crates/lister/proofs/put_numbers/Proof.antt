@@ -1,7 +1,7 @@
 -- `put_numbers` writes the four lines of an event's numbers.
 -- Nine writers in a row are one.
 use borrow.Author.Needs.{needs}
-use Rattle.store.proofs.Laws.{then, kept}
+use Rattle.buffer.proofs.Laws.{then, kept}
 use Rattle.lister.specs.Listing.{numbersText}
 use Rattle.lister.proofs.put_numbers.Statement.{statement}
 use Rattle.lister.proofs.put_numbers.Tie as tie

@@ -1,7 +1,7 @@
 -- `put_refusal` writes the line of a refusal.
 -- Five writers in a row are one.
 use borrow.Author.Needs.{needs}
-use Rattle.store.proofs.Laws.{then}
+use Rattle.buffer.proofs.Laws.{then}
 use Rattle.lister.specs.Listing.{refusalText}
 use Rattle.lister.proofs.put_refusal.Statement.{statement}
 use Rattle.lister.proofs.put_refusal.Tie as tie

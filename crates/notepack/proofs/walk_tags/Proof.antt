@@ -1,4 +1,5 @@
--- `walk_tags` passes over the tags with the tally of what stands in front of them, and finds the input's end or a byte after it.
+-- `walk_tags` passes over the tags with the tally of what stands in front of them, and finds the input's end or a byte
+-- after it.
 -- By the laws of `Walking`, from what its caller found.
 use Prim.Native.Nat.{_≤_}
 use mathlib.Core.Path.{_≡_, ap}

@@ -2,8 +2,8 @@
 -- By what the walk says of each.
 use mathlib.Core.Path.{ap}
 use borrow.Author.Needs.{needs}
-use Rattle.nsonread.specs.Answers.{walk}
-use Rattle.nsonread.proofs.Walking.{len-refused, len-shown}
+use Rattle.nsonwalk.specs.Answers.{nsonWalk}
+use Rattle.nsonread.proofs.Whole.{len-refused, len-shown}
 use Rattle.nsonread.proofs.nson_len.Statement.{statement}
 use Rattle.nsonread.proofs.nson_len.Tie as tie
 
@@ -14,5 +14,5 @@ nson-len-spec =
     (λ c κs. search needs)
     (λ c. search needs)
     (λ c. search needs)
-    (λ c. len-refused (c .before .before .before .before .before .args .s .now) (c .before .before .before .walk-text .ensures .0) (ap walk (c .before .walked .given .1)))
-    (λ c. len-shown (c .before .before .before .before .before .args .s .now) (c .before .before .before .walk-text .ensures .0) (ap walk (c .before .walked2 .given .1))))
+    (λ c. len-refused (c .before .before .before .before .before .args .s .now) (c .before .before .before .walk-text .ensures .0) (ap nsonWalk (c .before .walked .given .1)))
+    (λ c. len-shown (c .before .before .before .before .before .args .s .now) (c .before .before .before .walk-text .ensures .0) (ap nsonWalk (c .before .walked2 .given .1))))

@@ -4,7 +4,7 @@ use borrow.Author.Needs.{needs}
 use Prim.Native.Nat.{_+_, _*_, _≤_}
 use mathlib.Core.Path.{_≡_, refl, sym, _∙_}
 use native.Mathlib.Omega.{arith}
-use Rattle.store.proofs.Laws.{Left, start, part, done, also, same}
+use Rattle.buffer.proofs.Laws.{Left, start, part, done, also, same}
 use Rattle.nsonread.specs.Copy.{itemsText, itemsEnd}
 use Rattle.nsonread.proofs.Writing.{items-write, items-written}
 use Rattle.nsonread.proofs.put_items.Statement.{statement}
@@ -18,8 +18,8 @@ Inv-loop out₀ at s n d from o₀ left₀ count-at₀ place₀ out o left count
 abbrev μ-loop : tie.MeasureT-loop
 μ-loop out₀ at s n d from o₀ left₀ count-at₀ place₀ out o left count-at place = left
 
-add-put-element : tie.Need-add-put-element Inv-loop μ-loop
-add-put-element c =
+add-put-spelled-element : tie.Need-add-put-spelled-element Inv-loop μ-loop
+add-put-spelled-element c =
     let head = c .before .before .before in
     let entry = head .before .before .before in
     omega (arith, head .loop .inv .1, entry .pre)
@@ -50,7 +50,7 @@ loop-again c =
     let entry = head .before .before .before in
     let l = head .loop in
     let t = items-write (entry .args .s .now) (l .left) (l .count-at) (l .place) (test .loop-test .taken) (at-word-here .word-here .ensures .0) in
-    (omega (arith, l .inv .0), omega (arith, at-word-here .word-here .ensures .1, l .inv .1), part (also (t .0) (l .inv .2)) (c .before .before .put-element .ensures), l .inv .3 ∙ t .1)
+    (omega (arith, l .inv .0), omega (arith, at-word-here .word-here .ensures .1, l .inv .1), part (also (t .0) (l .inv .2)) (c .before .before .put-spelled-element .ensures), l .inv .3 ∙ t .1)
 
 returns : tie.Need-returns Inv-loop μ-loop
 returns c =
@@ -67,7 +67,7 @@ put-items-spec =
     μ-loop
     (λ c. (omega arith, omega arith, start, refl))
     (λ c κs. search needs)
-    add-put-element
+    add-put-spelled-element
     (λ c κs. search needs)
     add-place
     add-place-2

@@ -1,13 +1,15 @@
--- `measure` is the length of the whole text: 343 fixed bytes, two digits for each byte of descriptors, and each piece's own.
+-- `measure` is the length of the whole text: 343 fixed bytes, two digits for each byte of descriptors, and each piece's
+-- own.
 -- By what its callees told; every piece is bounded, so the sums fit.
 use native.Mathlib.Omega.{arith}
 use borrow.Author.Needs.{needs}
-use Rattle.nsonwrite.specs.Copy.{lengthWith}
+use Rattle.notepack.specs.Again.{eventAgain}
+use Rattle.nsonwrite.specs.Measure.{lengthWith}
 use Rattle.nsonwrite.proofs.measure.Statement.{statement}
 use Rattle.nsonwrite.proofs.measure.Tie as tie
 
 returns : tie.Need-returns
-unfolding lengthWith
+unfolding lengthWith eventAgain
 returns c =
     let t = c .before .before .before .before .before .before .measure-texts .ensures in
     (t .0, (t .1 .0, omega (arith, t .1 .1 .0, c .before .before .decimal-len2 .ensures .0, c .before .before .before .decimal-len .ensures .0)))

@@ -1,97 +1,74 @@
--- `measure_tags` measures the tags as it reads them again. The invariant: what was gathered and what the tags left give is what all give,
--- for whether they fit, the descriptors and the length. Each turn is one law for each; the length is at most three times the input.
-use Prim.Native.Nat.{ℕ, _+_, _-_}
+-- `measure_tags` measures the tags as it goes over them again. The invariant: what was gathered and what the tags left
+-- give is what all give,
+-- for whether they fit, the descriptors and the length; the length is at most 33,424,128 for each. Each turn is one law
+-- for each.
+use Prim.Native.Nat.{_+_, _*_, _≤_}
 use mathlib.Core.Path.{_≡_, refl, sym, ap, _∙_}
-use mathlib.Core.Bool.{false}
-use mathlib.Core.List.{List}
+use mathlib.Core.Bool.{_&&_}
+use mathlib.Core.List.{map}
 use native.Mathlib.Omega.{arith}
 use lib.ListN.{length}
 use borrow.Author.Needs.{needs}
-use Rattle.scan.specs.Choice.{pick}
 use Rattle.scan.proofs.AllLaws.{all-places}
-use Rattle.store.proofs.Laws.{Left, start, part, done, also, same}
+use Rattle.buffer.proofs.Laws.{Left, start, part, done, also, same}
 use Rattle.escape.specs.Escape.{nsonByte}
-use Rattle.event.specs.Event.{Tag}
-use Rattle.notepack.specs.Answers.{numberRead}
-use Rattle.tagtext.specs.Copy.{tagsFrom}
-use Rattle.tagtext.proofs.Again.{tags-count, tags-stop, tags-left}
-use Rattle.tagtext.proofs.Room.{tags-room}
+use Rattle.notepack.specs.Again.{tagsAgain}
+use Rattle.notepack.proofs.Again.{texts-count, tags-turn, tags-left, count-few}
+use Rattle.jsontags.specs.TagText.{commaed, tagText}
+use Rattle.jsontags.proofs.Turns.{arrays-count, arrays-left}
 use Rattle.nson.specs.Carries.{tagsFit}
-use Rattle.nsonwrite.specs.Copy.{tagsOver, tagWords}
-use Rattle.nsonwrite.proofs.Over.{tags-fit-more, tags-fit-none, over-turn, over-stop, over-left}
+use Rattle.nsonwrite.specs.Measure.{cutCounts}
+use Rattle.nsonwrite.proofs.Turns.{tags-fit-more, tags-fit-none, counts-more, counts-none}
 use Rattle.nsonwrite.proofs.measure_tags.Statement.{statement}
 use Rattle.nsonwrite.proofs.measure_tags.Tie as tie
 
 abbrev Inv-loop : tie.InvT-loop
 Inv-loop s from count d₀ at fits₀ len₀ out₀ next₀ left₀ d fits len out next left =
-    (pick fits₀ (tagsFit (tagsOver left₀ s next₀)) false ≡ pick fits (tagsFit (tagsOver left s next)) false)
-    × Left d₀ out₀ (tagWords left₀ s next₀) d out (tagWords left s next)
-    × (len + length (tagsFrom nsonByte left s next) ≡ len₀ + length (tagsFrom nsonByte left₀ s next₀))
+    (fits₀ && tagsFit (tagsAgain left₀ s next₀) ≡ fits && tagsFit (tagsAgain left s next))
+    × Left d₀ out₀ (cutCounts (tagsAgain left₀ s next₀)) d out (cutCounts (tagsAgain left s next))
+    × (len + length (commaed (map (tagText nsonByte) (tagsAgain left s next))) ≡ len₀ + length (commaed (map (tagText nsonByte) (tagsAgain left₀ s next₀))))
+    × (len + 33_424_128 * left ≤ len₀ + 33_424_128 * left₀)
 
 abbrev μ-loop : tie.MeasureT-loop
 μ-loop s from count d₀ at fits₀ len₀ out₀ next₀ left₀ d fits len out next left = left
 
-sum-fits : tie.Need-add-len-3 Inv-loop μ-loop
-sum-fits c =
-    let q = c .before .before .before .before .before .before .before .before .before .before .before .before .before .before .before .before .loop in
-    let known = c .before .before .before .before .before .before .before .before .before .before .before .before .before .before .before .before .before .before in
-    let a = known .before .args in
-    let bytes = all-places (a .s .now) (λ i. omega (arith, known .shared-slice-known .given i)) in
-    let most = tags-room (a .s .now) false bytes (a .count) (a .from) in
-    omega (arith, q .inv .2, most, known .before .pre, c .comma-len .ensures .1, c .before .before .before .before .before .measure-elements .ensures .1 .1 .1 .1)
+few : tie.Need-measure-elements-requires Inv-loop μ-loop
+few c κs =
+    let known = c .before .before .before .before .before .before .before .before .before .before in
+    let s = known .before .args .s .now in
+    let bytes = all-places s (λ i. omega (arith, known .shared-slice-known .given i)) in
+    (known .before .pre .0, omega (arith, c .before .before .before .before .before .before .count-again .ensures .0, count-few s bytes (c .before .before .before .before .before .before .before .before .loop .next)))
 
 again : tie.Need-loop-again Inv-loop μ-loop
 again c =
-    let both = c .before .before in
-    let measured = both .before .before .before in
-    let elements = measured .measure-elements .ensures in
-    let counted = measured .before .before .before .before in
-    let told = counted .before .before .before in
-    let called = told .before .before in
-    let turn = called .before in
+    let elements = c .before .before .before .before .before .measure-elements .ensures in
+    let turn = c .before .before .before .before .before .before .before .before .before .before .before .before .before in
     let q = turn .before .loop in
-    let s = turn .before .before .before .before .args .s .now in
-    let test = turn .loop-test .taken in
-    let t = over-turn s (q .left) (q .next) _ _ _ test (called .tag-count .ensures) (told .found .given .1) in
-    let n = tags-count nsonByte s (q .left) (q .next) _ _ _ test (called .tag-count .ensures) (told .found .given .1) in
+    let s = c .before .before .before .before .before .before .before .before .before .before .before .before .before .before .before .before .before .args .s .now in
+    let r = c .before .before .before .before .before .before .before .before .before .before .before .before .count-again .ensures in
     let end = elements .1 .1 .1 .0 in
-    let fit = q .inv .0 ∙ ap (λ (l : List Tag). pick (q .fits) (tagsFit l) false) (t .0) ∙ tags-fit-more (q .fits) _ _ (elements .0) (both .both .ensures) in
-    let left = part (part (also (t .1) (q .inv .1)) (counted .put-byte .ensures)) (elements .1 .0) in
-    let rest = ap (λ (i : ℕ). length (tagsFrom nsonByte (q .left - 1) s i)) end in (
-      fit ∙ ap (λ (i : ℕ). pick (both .both .result) (tagsFit (tagsOver (q .left - 1) s i)) false) (sym end),
-      also (ap (tagWords (q .left - 1) s) (sym end)) left,
-      omega (arith, q .inv .2, n, rest, elements .1 .1 .0, c .comma-len .ensures .0),
+    let t = tags-turn s (q .left) (q .next) (turn .loop-test .taken) (r .0) (r .1) end in
+    let n = arrays-count nsonByte s (q .left) (q .next) (turn .loop-test .taken) (r .0) (r .1) end in (
+      q .inv .0 ∙ tags-fit-more (q .fits) t (elements .0),
+      part (part (also (counts-more t (texts-count s _ _)) (q .inv .1)) (c .before .before .before .before .before .before .before .before .before .put-byte .ensures)) (elements .1 .0),
+      omega (arith, q .inv .2, n, elements .1 .1 .0, c .comma-len .ensures .0),
+      omega (arith, q .inv .3, turn .loop-test .taken, elements .1 .1 .1 .1, c .comma-len .ensures .1),
     )
 
-stop : tie.Need-returns Inv-loop μ-loop
-stop c =
-    let called = c .before .before in
-    let turn = called .before in
-    let q = turn .before .loop in
-    let known = turn .before .before .before in
-    let a = known .before .args in
-    let s = a .s .now in
-    let bytes = all-places s (λ i. omega (arith, known .shared-slice-known .given i)) in
-    let most = tags-room s false bytes (a .count) (a .from) in
-    let told = ap numberRead (c .enum-told .given .1) in
-    let t = over-stop s (q .left) (q .next) (called .tag-count .result) _ _ (turn .loop-test .taken) (called .tag-count .ensures) told in
-    let e = tags-stop nsonByte s (q .left) (q .next) (called .tag-count .result) _ _ (turn .loop-test .taken) (called .tag-count .ensures) told in (
-      sym (q .inv .0 ∙ ap (λ (l : List Tag). pick (q .fits) (tagsFit l) false) (t .0) ∙ tags-fit-none (q .fits)),
-      (done (also (t .1) (q .inv .1)), (omega (arith, q .inv .2, ap length e), omega (arith, q .inv .2, most))),
-    )
-
-end : tie.Need-returns-2 Inv-loop μ-loop
+end : tie.Need-returns Inv-loop μ-loop
 end c =
     let q = c .before .loop in
-    let known = c .before .before .before in
-    let a = known .before .args in
-    let s = a .s .now in
-    let bytes = all-places s (λ i. omega (arith, known .shared-slice-known .given i)) in
-    let most = tags-room s false bytes (a .count) (a .from) in
-    let t = over-left s (q .left) (q .next) (c .loop-test .left) in
-    let e = tags-left nsonByte s (q .left) (q .next) (c .loop-test .left) in (
-      sym (q .inv .0 ∙ ap (λ (l : List Tag). pick (q .fits) (tagsFit l) false) (t .0) ∙ tags-fit-none (q .fits)),
-      (done (also (t .1) (q .inv .1)), (omega (arith, q .inv .2, ap length e), omega (arith, q .inv .2, most))),
+    let a = c .before .before .before .before in
+    let s = a .args .s .now in
+    let t = tags-left s (q .left) (q .next) (c .loop-test .left) in (
+      sym (q .inv .0 ∙ tags-fit-none (q .fits) t),
+      (
+        done (also (counts-none t) (q .inv .1)),
+        (
+          omega (arith, q .inv .2, ap length (arrays-left nsonByte s (q .left) (q .next) (c .loop-test .left))),
+          omega (arith, q .inv .3, a .pre .1),
+        ),
+      ),
     )
 
 pub measure-tags-spec : {M : Type 1} → statement M
@@ -100,22 +77,17 @@ measure-tags-spec =
     (tie.spec
     Inv-loop
     μ-loop
-    (λ c. (refl, start, refl))
-    (λ c κs. search needs)
-    (λ c. search needs)
-    (λ c. search needs)
+    (λ c. (refl, start, refl, omega arith))
     (λ c. search needs)
     (λ c κs. search needs)
-    (λ c κs. c .before .before .before .before .before .before .before .before .before .before .before .before .before .pre)
+    (λ c. search needs)
     (λ c κs. search needs)
-    (λ c. omega (arith, c .before .before .before .before .before .before .before .before .before .before .before .before .before .before .before .before .before .before .pre, c .before .before .before .before .measure-elements .ensures .1 .1 .1 .1))
+    few
+    (λ c. omega (arith, c .before .before .before .before .measure-elements .ensures .1 .1 .1 .1))
     (λ c κs. search needs)
-    (λ c. omega (arith, c .before .before .before .before .before .before .before .before .before .before .before .before .before .before .before .before .before .before .before .pre, c .comma-len .ensures .1, c .before .before .before .before .before .measure-elements .ensures .1 .1 .1 .1))
-    sum-fits
+    (λ c. omega (arith, c .comma-len .ensures .1, c .before .before .before .before .before .measure-elements .ensures .1 .1 .1 .1))
+    (λ c. omega (arith, c .before .before .before .before .before .before .before .before .before .before .before .before .before .before .loop .inv .3, c .before .before .before .before .before .before .before .before .before .before .before .before .before .before .before .before .before .pre .1, c .comma-len .ensures .1, c .before .before .before .before .before .measure-elements .ensures .1 .1 .1 .1))
     (λ c. search needs)
     again
-    (λ c. search needs)
-    (λ c. same (c .before .before .before .before .loop .inv .1))
-    stop
     (λ c. same (c .before .loop .inv .1))
     end)

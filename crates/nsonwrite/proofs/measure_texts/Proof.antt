@@ -1,28 +1,22 @@
 -- `measure_texts` measures the content and the tags, and writes all descriptors.
--- Four writers in a row are one; none ends behind the 128 bytes lent. The input is short, so the sum fits.
+-- Four writers in a row are one; none ends behind the 128 bytes lent. The sums are bounded, so they fit.
 use native.Mathlib.Omega.{arith}
 use borrow.Author.Needs.{needs}
-use Rattle.store.proofs.Laws.{then}
-use Rattle.nsonwrite.proofs.Places.{ends}
-use Rattle.nsonwrite.proofs.Over.{text-fit, texts-fit, texts-length, counts-wrote}
+use Rattle.buffer.proofs.Laws.{then}
+use Rattle.buffer.proofs.Places.{ends}
+use Rattle.nsonwrite.proofs.Turns.{text-fit, texts-fit, texts-length, counts-wrote}
 use Rattle.nsonwrite.proofs.measure_texts.Statement.{statement}
 use Rattle.nsonwrite.proofs.measure_texts.Tie as tie
 
 returns : tie.Need-returns
 returns c =
-    let both = c .before in
-    let tags = both .before .before .before in
-    let count = tags .before .before .before .before in
-    let word = count .before .before .before .before .before in
-    let kind = word .before .before .before .before in
-    let measured = kind .before .before in
-    let start = measured .before .before .before .before .before in
+    let start = c .before .before .before .before .before .before .before .before .before .before .before .before .before .before .before .before .before .before .before .before .before .before .before .before .before in
     let a = start .args in
-    let n = measured .text-size .ensures in
-    let t = tags .measure-tags .ensures in
-    let w = then (then (then (kind .put-byte .ensures) (word .put-word .ensures)) (count .put-byte2 .ensures)) (t .1 .0) in
-    let counts = counts-wrote (a .s .now) (a .h) (measured .before .decimal-len .ensures .0) (n .0) w in (
-      texts-fit (a .s .now) (a .h) (text-fit _ (n .0) (n .1 .1)) (t .0) (both .both .ensures),
+    let n = c .before .before .before .before .before .before .before .before .before .before .before .before .before .before .before .before .before .before .before .before .text-size .ensures in
+    let t = c .before .before .before .before .before .measure-tags .ensures in
+    let w = then (then (then (c .before .before .before .before .before .before .before .before .before .before .before .before .before .before .before .before .before .before .put-byte .ensures) (c .before .before .before .before .before .before .before .before .before .before .before .before .before .before .put-word .ensures)) (c .before .before .before .before .before .before .before .before .before .put-byte2 .ensures)) (t .1 .0) in
+    let counts = counts-wrote (a .s .now) (a .h) (c .before .before .before .before .before .before .before .before .before .before .before .before .before .before .before .before .before .before .before .before .before .decimal-len .ensures .0) (n .0) w in (
+      texts-fit (a .s .now) (a .h) (text-fit _ (n .0) (n .1 .1)) (t .0),
       (
         counts,
         (
@@ -43,8 +37,7 @@ measure-texts-spec =
     (λ c κs. search needs)
     (λ c. search needs)
     (λ c κs. search needs)
-    (λ c κs. c .before .before .before .before .before .before .before .before .before .before .before .before .before .before .before .before .before .before .before .pre .0)
-    (λ c κs. search needs)
-    (λ c. omega (arith, c .before .before .before .before .before .before .before .before .before .before .before .before .before .before .before .before .before .before .before .before .before .before .before .before .pre, c .before .before .before .before .before .before .before .before .before .before .before .before .before .before .before .before .before .before .before .text-size .ensures .1 .0, c .before .before .before .before .measure-tags .ensures .1 .1 .1))
+    (λ c κs. let p = c .before .before .before .before .before .before .before .before .before .before .before .before .before .before .before .before .before .before .before .pre in (p .0, p .1))
+    (λ c. omega (arith, c .before .before .before .before .before .before .before .before .before .before .before .before .before .before .before .before .before .before .before .before .before .before .before .before .before .pre, c .before .before .before .before .before .before .before .before .before .before .before .before .before .before .before .before .before .before .before .before .text-size .ensures .1 .0, c .before .before .before .before .before .measure-tags .ensures .1 .1 .1))
     (λ c. search needs)
     returns)

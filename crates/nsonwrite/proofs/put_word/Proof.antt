@@ -1,7 +1,7 @@
 -- `put_word` writes a count's lower two bytes.
 -- Two writers in a row are one.
 use borrow.Author.Needs.{needs}
-use Rattle.store.proofs.Laws.{then}
+use Rattle.buffer.proofs.Laws.{then}
 use Rattle.nsonwrite.proofs.put_word.Statement.{statement}
 use Rattle.nsonwrite.proofs.put_word.Tie as tie
 

@@ -1,11 +1,13 @@
--- `write_nson` answers as document 01 says: the reader's refusal, 17, 11 with the length needed, or the length written; and leaves the buffer so.
+-- `write_nson` answers as document 01 says: the reader's refusal, 17, 11 with the length needed, or the length written;
+-- and leaves the buffer so.
 -- By the laws of the entry for each outcome of the walk and of the measure.
 use mathlib.Core.Path.{refl, ap}
 use native.Mathlib.Omega.{arith}
 use borrow.Author.Needs.{needs}
 use Rattle.scan.proofs.AllLaws.{all-places}
+use Rattle.notepack.specs.Again.{eventAgain}
 use Rattle.notepack.specs.Answers.{walk}
-use Rattle.nsonwrite.proofs.Whole.{walk-shows}
+use Rattle.notepack.proofs.Again.{accepted}
 use Rattle.nsonwrite.proofs.Entry.{measured-good, measured-bad, write-refused, write-misfit, write-short, write-fitted}
 use Rattle.nsonwrite.proofs.write_nson.Statement.{statement}
 use Rattle.nsonwrite.proofs.write_nson.Tie as tie
@@ -17,10 +19,11 @@ input-short c κs =
     let known = called .before .before in
     let a = known .before .args in
     let bytes = all-places (a .s .now) (λ i. omega (arith, known .shared-slice-known .given i)) in
-    let g = walk-shows (a .s .now) bytes _ _ (called .walk-packed .ensures) (ap walk (told .walked2 .given .1)) in
-    (g .short, refl)
+    let g = accepted (a .s .now) bytes _ _ (called .walk-packed .ensures) (ap walk (told .walked2 .given .1)) in
+    (g .sound .short, g .few, refl)
 
 short : tie.Need-returns
+unfolding eventAgain
 short c =
     let tested = c .before .before in
     let measured = tested .before .before .before in
@@ -29,12 +32,13 @@ short c =
     let known = called .before .before in
     let a = known .before .args in
     let bytes = all-places (a .s .now) (λ i. omega (arith, known .shared-slice-known .given i)) in
-    let g = walk-shows (a .s .now) bytes _ _ (called .walk-packed .ensures) (ap walk (told .walked2 .given .1)) in
+    let g = accepted (a .s .now) bytes _ _ (called .walk-packed .ensures) (ap walk (told .walked2 .given .1)) in
     let m = measured .measure .ensures in
-    let ready = measured-good g refl (m .0) (m .1 .0) (m .1 .1) (tested .before .is-carried .ensures) (tested .if1 .taken) in
-    write-short (a .s .now) (a .out .now) g ready (c .if2 .taken)
+    let ready = measured-good (g .sound .valid) refl (m .0) (m .1 .0) (m .1 .1) (tested .before .is-carried .ensures) (tested .if1 .taken) in
+    write-short (a .s .now) (a .out .now) (g .shows) ready (c .if2 .taken)
 
 fitted : tie.Need-returns-2
+unfolding eventAgain
 fitted c =
     let part = c .before .before .before .before in
     let room = part .before .before in
@@ -45,10 +49,10 @@ fitted c =
     let known = called .before .before in
     let a = known .before .args in
     let bytes = all-places (a .s .now) (λ i. omega (arith, known .shared-slice-known .given i)) in
-    let g = walk-shows (a .s .now) bytes _ _ (called .walk-packed .ensures) (ap walk (told .walked2 .given .1)) in
+    let g = accepted (a .s .now) bytes _ _ (called .walk-packed .ensures) (ap walk (told .walked2 .given .1)) in
     let m = measured .measure .ensures in
-    let ready = measured-good g refl (m .0) (m .1 .0) (m .1 .1) (tested .before .is-carried .ensures) (tested .if1 .taken) in
-    write-fitted (a .s .now) (a .out .now) g ready (room .if2 .left) (part .part .ensures) (c .before .before .put-whole .ensures)
+    let ready = measured-good (g .sound .valid) refl (m .0) (m .1 .0) (m .1 .1) (tested .before .is-carried .ensures) (tested .if1 .taken) in
+    write-fitted (a .s .now) (a .out .now) (g .shows) ready (room .if2 .left) (part .part .ensures) (c .before .before .put-nson .ensures)
 
 refused : tie.Need-returns-3
 refused c =
@@ -57,6 +61,7 @@ refused c =
     write-refused (a .s .now) (a .out .now) _ _ _ (called .walk-packed .ensures) (ap walk (c .before .walked .given .1))
 
 misfit : tie.Need-returns-4
+unfolding eventAgain
 misfit c =
     let measured = c .before .before .before in
     let told = measured .before .before .before in
@@ -64,9 +69,9 @@ misfit c =
     let known = called .before .before in
     let a = known .before .args in
     let bytes = all-places (a .s .now) (λ i. omega (arith, known .shared-slice-known .given i)) in
-    let g = walk-shows (a .s .now) bytes _ _ (called .walk-packed .ensures) (ap walk (told .walked2 .given .1)) in
+    let g = accepted (a .s .now) bytes _ _ (called .walk-packed .ensures) (ap walk (told .walked2 .given .1)) in
     let m = measured .measure .ensures in
-    write-misfit (a .s .now) (a .out .now) g (measured-bad g refl (m .0) (m .1 .0) (m .1 .1) (c .before .is-carried .ensures) (c .if1 .left))
+    write-misfit (a .s .now) (a .out .now) (g .shows) (measured-bad (g .sound .valid) refl (m .0) (m .1 .0) (m .1 .1) (c .before .is-carried .ensures) (c .if1 .left))
 
 pub write-nson-spec : {M : Type 1} → statement M
 write-nson-spec =

@@ -1,47 +1,36 @@
--- `copy_elements` writes the strict elements as it reads them again. The invariant: what is left to write is the text of the elements left,
--- and they end where all end. Each turn is one law; a refusal ends both alike.
-use Prim.Native.Nat.{_≤_}
+-- `copy_elements` writes the strict elements as it goes over them again. The invariant: what is left to write is that
+-- of the texts left,
+-- and they end where all end. Each turn is one law.
 use mathlib.Core.Path.{_≡_, refl, sym, ap, _∙_}
-use native.Mathlib.Omega.{arith}
 use borrow.Author.Needs.{needs}
-use Rattle.store.proofs.Laws.{Left, start, part, done, also, same}
-use Rattle.notepack.specs.Answers.{partRead}
-use Rattle.strict.specs.Copy.{elementsText, elementsEnd}
-use Rattle.strict.proofs.Laws.{elements-turn, elements-stop, elements-left}
+use Rattle.buffer.proofs.Laws.{Left, start, part, done, also, same}
+use Rattle.notepack.specs.Strict.{packElements}
+use Rattle.notepack.specs.Again.{textsAgain, textsEnd}
+use Rattle.notepack.proofs.Again.{texts-turn, texts-left}
 use Rattle.strict.proofs.copy_elements.Statement.{statement}
 use Rattle.strict.proofs.copy_elements.Tie as tie
 
 abbrev Inv-loop : tie.InvT-loop
-Inv-loop out₀ at s from count o₀ c₀ left₀ out o c left =
-    Left out₀ o₀ (elementsText left₀ s (c₀ .at)) out o (elementsText left s (c .at)) × (elementsEnd left₀ s (c₀ .at) ≡ elementsEnd left s (c .at))
+Inv-loop out₀ at s from count o₀ i₀ left₀ out o i left =
+    Left out₀ o₀ (packElements (textsAgain left₀ s i₀)) out o (packElements (textsAgain left s i)) × (textsEnd left₀ s i₀ ≡ textsEnd left s i)
 
 abbrev μ-loop : tie.MeasureT-loop
-μ-loop out₀ at s from count o₀ c₀ left₀ out o c left = left
+μ-loop out₀ at s from count o₀ i₀ left₀ out o i left = left
 
 again : tie.Need-loop-again Inv-loop μ-loop
 again c =
-    let told = c .before .before .before .before .before in
-    let called = told .before .before in
-    let turn = called .before in
+    let read = c .before .before .before .before in
+    let turn = read .before in
     let q = turn .before .loop in
     let s = turn .before .before .before .before .args .s .now in
-    let t = elements-turn s (q .left) (q .c .at) _ _ _ (turn .loop-test .taken) (called .element .ensures) (told .found .given .1) in
-    (part (also (t .0) (q .inv .0)) (c .before .before .put-element .ensures), q .inv .1 ∙ t .1)
+    let t = texts-turn s (q .left) (q .i) (turn .loop-test .taken) (read .part-again .ensures .0) (read .part-again .ensures .1) in
+    (part (also (ap packElements (t .0)) (q .inv .0)) (c .before .before .put-packed-part .ensures), q .inv .1 ∙ t .1)
 
-stop : tie.Need-returns Inv-loop μ-loop
-stop c =
-    let called = c .before .before in
-    let turn = called .before in
-    let q = turn .before .loop in
-    let s = turn .before .before .before .before .args .s .now in
-    let t = elements-stop s (q .left) (q .c .at) (called .element .result) _ _ (turn .loop-test .taken) (called .element .ensures) (ap partRead (c .enum-told .given .1)) in
-    (done (also (t .0) (q .inv .0)), sym (q .inv .1 ∙ t .1))
-
-end : tie.Need-returns-2 Inv-loop μ-loop
+end : tie.Need-returns Inv-loop μ-loop
 end c =
     let q = c .before .loop in
-    let t = elements-left (c .before .before .before .before .args .s .now) (q .left) (q .c .at) (c .loop-test .left) in
-    (done (also (t .0) (q .inv .0)), sym (q .inv .1 ∙ t .1))
+    let t = texts-left (c .before .before .before .before .args .s .now) (q .left) (q .i) (c .loop-test .left) in
+    (done (also (ap packElements (t .0)) (q .inv .0)), sym (q .inv .1 ∙ t .1))
 
 pub copy-elements-spec : {M : Type 1} → statement M
 copy-elements-spec =
@@ -51,13 +40,9 @@ copy-elements-spec =
     μ-loop
     (λ c. (start, refl))
     (λ c κs. search needs)
-    (λ c. search needs)
     (λ c κs. search needs)
     (λ c. search needs)
     (λ c. search needs)
     again
-    (λ c. search needs)
-    (λ c. same (c .before .before .before .before .loop .inv .0))
-    stop
     (λ c. same (c .before .loop .inv .0))
     end)

@@ -1,11 +1,13 @@
 -- `copy_packed` writes the strict form of a walked event: the input itself where that is strict, or piece by piece.
 -- By the laws for the two ways; a slice's numbers are bytes.
+use mathlib.Core.Path.{refl}
 use native.Mathlib.Omega.{arith}
 use borrow.Author.Needs.{needs}
 use borrow.Author.Tests.{not-true}
 use Rattle.scan.proofs.AllLaws.{all-places}
-use Rattle.store.proofs.Laws.{then}
-use Rattle.strict.proofs.Laws.{copies-whole, copies-pieces}
+use Rattle.buffer.proofs.Laws.{then}
+use Rattle.notepack.proofs.Again.{accepted}
+use Rattle.strict.proofs.Laws.{copied-whole, copied-pieces}
 use Rattle.strict.proofs.copy_packed.Statement.{statement}
 use Rattle.strict.proofs.copy_packed.Tie as tie
 
@@ -17,7 +19,7 @@ whole c =
     let start = known .before .before in
     let s = start .args .s .now in
     let bytes = all-places s (λ i. omega (arith, known .shared-slice-known .given i)) in
-    copies-whole s bytes (start .args .h) (start .args .t) (start .pre) (first .if1 .taken) (not-true _ (tested .if2 .taken)) (c .before .before .put-bytes .ensures)
+    copied-whole s _ (accepted s bytes _ _ refl (start .pre)) (first .if1 .taken) (not-true _ (tested .if2 .taken)) (c .before .before .put-bytes .ensures)
 
 pieces : tie.Need-returns-2
 pieces c =
@@ -26,7 +28,7 @@ pieces c =
     let start = known .before .before in
     let s = start .args .s .now in
     let bytes = all-places s (λ i. omega (arith, known .shared-slice-known .given i)) in
-    copies-pieces s bytes (start .args .h) (start .args .t) (start .pre) (then (head .put-head .ensures) (c .before .before .copy-tags .ensures))
+    copied-pieces s _ (accepted s bytes _ _ refl (start .pre)) (then (head .put-packed-head .ensures) (c .before .before .copy-tags .ensures))
 
 pub copy-packed-spec : {M : Type 1} → statement M
 copy-packed-spec =

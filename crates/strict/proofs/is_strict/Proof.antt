@@ -1,10 +1,12 @@
--- `is_strict` says yes where the input is as long as its strict form and has no hollow element, no where not, or the reader's refusal.
+-- `is_strict` says yes where the input is as long as its strict form and has no hollow element, no where not, or the
+-- reader's refusal.
 -- By the laws of the strict question for each outcome of the walk.
-use mathlib.Core.Path.{_≡_, ap}
+use mathlib.Core.Path.{ap}
 use native.Mathlib.Omega.{arith}
 use borrow.Author.Needs.{needs}
 use Rattle.scan.proofs.AllLaws.{all-places}
 use Rattle.notepack.specs.Answers.{walk}
+use Rattle.notepack.proofs.Again.{accepted}
 use Rattle.strict.proofs.Laws.{strict-so, strict-not, strict-refused}
 use Rattle.strict.proofs.is_strict.Statement.{statement}
 use Rattle.strict.proofs.is_strict.Tie as tie
@@ -16,7 +18,7 @@ as-long c =
     let known = called .before in
     let s = known .before .args .s .now in
     let bytes = all-places s (λ i. omega (arith, known .shared-slice-known .given i)) in
-    strict-so s bytes _ _ (called .walk-packed .ensures) (ap walk (told .walked .given .1)) (c .before .if1 .taken)
+    strict-so s _ (accepted s bytes _ _ (called .walk-packed .ensures) (ap walk (told .walked .given .1))) (c .before .if1 .taken)
 
 longer : tie.Need-returns-2
 longer c =
@@ -25,7 +27,7 @@ longer c =
     let known = called .before in
     let s = known .before .args .s .now in
     let bytes = all-places s (λ i. omega (arith, known .shared-slice-known .given i)) in
-    strict-not s bytes _ _ (called .walk-packed .ensures) (ap walk (told .walked .given .1)) (c .if1 .left)
+    strict-not s _ (accepted s bytes _ _ (called .walk-packed .ensures) (ap walk (told .walked .given .1))) (c .if1 .left)
 
 refused : tie.Need-returns-3
 refused c =

@@ -1,10 +1,9 @@
 -- `put_raw` writes the strict element whose text is the hex of its bytes: as those bytes, or 00 where there are none.
 -- By the law of `packElement` for each; a slice's numbers are bytes.
-use mathlib.Core.Path.{_≡_}
 use native.Mathlib.Omega.{arith}
 use borrow.Author.Needs.{needs}
 use Rattle.scan.proofs.AllLaws.{all-places}
-use Rattle.store.proofs.Laws.{then}
+use Rattle.buffer.proofs.Laws.{then}
 use Rattle.notepack.proofs.Lengths.{element-hex, element-none}
 use Rattle.strict.proofs.put_raw.Statement.{statement}
 use Rattle.strict.proofs.put_raw.Tie as tie

@@ -1,10 +1,12 @@
--- `write_strict` answers as document 01 says: the reader's refusal, 11 with the length needed, or the length written; and leaves the buffer so.
+-- `write_strict` answers as document 01 says: the reader's refusal, 11 with the length needed, or the length written;
+-- and leaves the buffer so.
 -- By the laws of the entry for each outcome of the walk.
-use mathlib.Core.Path.{_≡_, sym, ap, _∙_}
+use mathlib.Core.Path.{sym, ap, _∙_}
 use native.Mathlib.Omega.{arith}
 use borrow.Author.Needs.{needs}
 use Rattle.scan.proofs.AllLaws.{all-places}
 use Rattle.notepack.specs.Answers.{walk}
+use Rattle.notepack.proofs.Again.{accepted}
 use Rattle.strict.proofs.Laws.{refusal-told, refusal-leaves, write-short, write-fitted}
 use Rattle.strict.proofs.write_strict.Statement.{statement}
 use Rattle.strict.proofs.write_strict.Tie as tie
@@ -16,7 +18,7 @@ short c =
     let known = called .before .before in
     let a = known .before .args in
     let bytes = all-places (a .s .now) (λ i. omega (arith, known .shared-slice-known .given i)) in
-    write-short (a .s .now) bytes (a .out .now) _ _ (called .walk-packed .ensures) (ap walk (told .walked2 .given .1)) (c .if1 .taken)
+    write-short (a .s .now) _ (accepted (a .s .now) bytes _ _ (called .walk-packed .ensures) (ap walk (told .walked2 .given .1))) (a .out .now) (c .if1 .taken)
 
 walked : tie.Need-copy-packed-requires
 walked c κs =
@@ -34,7 +36,7 @@ fitted c =
     let known = called .before .before in
     let a = known .before .args in
     let bytes = all-places (a .s .now) (λ i. omega (arith, known .shared-slice-known .given i)) in
-    write-fitted (a .s .now) bytes (a .out .now) _ _ _ _ (called .walk-packed .ensures) (ap walk (told .walked2 .given .1)) (tested .if1 .left) (c .before .before .copy-packed .ensures)
+    write-fitted (a .s .now) _ (accepted (a .s .now) bytes _ _ (called .walk-packed .ensures) (ap walk (told .walked2 .given .1))) (a .out .now) (tested .if1 .left) (c .before .before .copy-packed .ensures)
 
 pub write-strict-spec : {M : Type 1} → statement M
 write-strict-spec =

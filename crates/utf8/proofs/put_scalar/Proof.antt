@@ -2,7 +2,7 @@
 -- Each row is one `put_byte` for each byte, joined by `then`.
 use mathlib.Core.Path.{sym, _∙_}
 use borrow.Author.Needs.{needs}
-use Rattle.store.proofs.Laws.{then, nothing}
+use Rattle.buffer.proofs.Laws.{then, nothing}
 use Rattle.utf8.proofs.EncodeLaws.{encode-one, encode-two, encode-surrogate, encode-three, encode-four, encode-past}
 use Rattle.utf8.proofs.put_scalar.Statement.{statement}
 use Rattle.utf8.proofs.put_scalar.Tie as tie

@@ -2,7 +2,7 @@
 -- Each turn is the step `uleb-more`, the last byte `uleb-last`.
 use native.Mathlib.Omega.{arith}
 use borrow.Author.Needs.{needs}
-use Rattle.store.proofs.Laws.{Left, start, one, finish, same}
+use Rattle.buffer.proofs.Laws.{Left, start, one, finish, same}
 use Rattle.varint.specs.Uleb.{uleb}
 use Rattle.varint.proofs.UlebLaws.{uleb-last, uleb-more}
 use Rattle.varint.proofs.put_varint.Statement.{statement}

@@ -1,4 +1,5 @@
--- `pass_elements` passes over its elements and adds them to the tally. The invariant is one equation: passing over all from the start
+-- `pass_elements` passes over its elements and adds them to the tally. The invariant is one equation: passing over all
+-- from the start
 -- is passing over those left from here with the tally so far; and that tally is no longer than what was read.
 use Prim.Native.Nat.{_≤_}
 use mathlib.Core.Path.{_≡_, refl, ap}
@@ -30,7 +31,7 @@ room c κs =
     let known = called .before .before .before in
     let s = known .before .args .s .now in
     let bytes = all-places s (λ i. omega (arith, known .shared-slice-known .given i)) in
-    let g = element-room s bytes (q .c .at) _ (q .sum) _ _ _ (called .element .ensures) (told .found .given .1) (c .before .element-len .ensures) (q .inv .1) in
+    let g = element-room s bytes (q .c .at) _ (q .sum) _ _ _ (called .element .ensures) (told .found .given .1) (c .before .packed-part-len .ensures) (q .inv .1) in
     omega (arith, g, known .before .good)
 
 again : tie.Need-loop-again Inv-loop μ-loop
@@ -43,7 +44,7 @@ again c =
     let s = known .before .args .s .now in
     let e = called .element .ensures in
     let f = told .found .given .1 in
-    let n = c .before .before .element-len .ensures in
+    let n = c .before .before .packed-part-len .ensures in
     let bytes = all-places s (λ i. omega (arith, known .shared-slice-known .given i)) in
     let g = element-room s bytes (q .c .at) _ (q .sum) _ _ _ e f n (q .inv .1) in
     let m = ap (λ (t : Tally). t .len) (c .more .ensures) in

@@ -1,4 +1,5 @@
--- `pass_tags` passes over its tags and adds them to the tally. The invariant is one equation: passing over all from the start
+-- `pass_tags` passes over its tags and adds them to the tally. The invariant is one equation: passing over all from the
+-- start
 -- is passing over those left from here with the tally so far; and that tally is no longer than what was read.
 use Prim.Native.Nat.{_≤_}
 use mathlib.Core.Path.{_≡_, refl, ap}

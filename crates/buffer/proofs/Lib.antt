@@ -1,0 +1,4 @@
+pub mod Laws
+pub mod EntryLaws
+pub mod OverLaws
+pub mod Places

@@ -1,0 +1,6 @@
+pub mod Strings
+pub mod Plain
+pub mod Items
+pub mod Values
+pub mod Names
+pub mod Says

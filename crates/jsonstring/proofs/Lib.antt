@@ -1,0 +1,4 @@
+pub mod Turn
+pub mod PlainLaws
+pub mod LooseLaws
+pub mod ClashLaws

@@ -1,2 +1,0 @@
-pub mod TagText
-pub mod Copy
