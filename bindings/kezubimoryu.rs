@@ -3,7 +3,7 @@
 #![allow(dead_code)]
 
 /// The version of the library, as in the header.
-pub const KEZ_VERSION: &str = "0.4.1";
+pub const KEZ_VERSION: &str = "0.4.2";
 /// No input that is read is longer, nor an event in strict form, nor NSON. A strict form is never longer than what it
 /// was read from, so a buffer as long as the packed bytes or the text is always enough for it.
 pub const KEZ_MOST: usize = 65536;

@@ -19,7 +19,7 @@ extern "C" {
 #endif
 
 /* The version of this library; the tool and the pkg-config file have it from here. */
-#define KEZ_VERSION "0.4.1"
+#define KEZ_VERSION "0.4.2"
 
 /* Room. A buffer as long as what is read is always enough for an event in strict form, which is never longer than the
  * packed bytes, the NSON or the JSON it was read from; three times the packed bytes for a canonical text. NSON is never

@@ -59,6 +59,19 @@ none-said s = refl
 
 -- ---- one field
 
+-- a number past the seven sets none of them
+pub with-other
+    : (f : Fields) (k : ℕ) (p : Spot) → (k ≡ 0 → ⊥) → (k ≡ 1 → ⊥) → (k ≡ 2 → ⊥) → (k ≡ 3 → ⊥) → (k ≡ 4 → ⊥) → (k ≡ 5 → ⊥) → (k ≡ 6 → ⊥)
+    → withSpot f k p ≡ f
+with-other f zero p a b c d e g h = absurd (a refl)
+with-other f (suc zero) p a b c d e g h = absurd (b refl)
+with-other f (suc (suc zero)) p a b c d e g h = absurd (c refl)
+with-other f (suc (suc (suc zero))) p a b c d e g h = absurd (d refl)
+with-other f (suc (suc (suc (suc zero)))) p a b c d e g h = absurd (e refl)
+with-other f (suc (suc (suc (suc (suc zero))))) p a b c d e g h = absurd (g refl)
+with-other f (suc (suc (suc (suc (suc (suc zero)))))) p a b c d e g h = absurd (h refl)
+with-other f (suc (suc (suc (suc (suc (suc (suc k))))))) p a b c d e g h = refl
+
 -- a field that was found says what its spot says
 says-found : (s : List ℕ) (p : Spot) (k : ℕ) → 0 < p .from → says k s p ≡ saysAs k s p
 unfolding says

@@ -81,6 +81,22 @@ fn none_found() -> Fields
     }
 }
 
+// A field's number.
+fn number_of(field: Field) -> usize
+    ensures { λ r. ⌜ r ≡ fieldNumber field ⌝ }
+{
+    match field {
+        Field::Id => 0,
+        Field::Pubkey => 1,
+        Field::Sig => 2,
+        Field::CreatedAt => 3,
+        Field::Kind => 4,
+        Field::Tags => 5,
+        Field::Content => 6,
+        Field::Other => 7,
+    }
+}
+
 impl Fields {
     // What is known of a field.
     fn spot(self, field: Field) -> Spot
@@ -98,19 +114,39 @@ impl Fields {
         }
     }
 
-    // The fields with one more found.
+    // The fields with one more found. By number, and each with its own return: seen otherwise, as with a match on the
+    // name, is a copy of all seven for each member.
     fn with(mut self, field: Field, p: Spot) -> Fields
         ensures { λ r. ⌜ r ≡ withSpot self (fieldNumber field) p ⌝ }
     {
-        match field {
-            Field::Id => self.id = p,
-            Field::Pubkey => self.pubkey = p,
-            Field::Sig => self.sig = p,
-            Field::CreatedAt => self.created_at = p,
-            Field::Kind => self.kind = p,
-            Field::Tags => self.tags = p,
-            Field::Content => self.content = p,
-            Field::Other => (),
+        let k = number_of(field);
+        if k == 0 {
+            self.id = p;
+            return self;
+        }
+        if k == 1 {
+            self.pubkey = p;
+            return self;
+        }
+        if k == 2 {
+            self.sig = p;
+            return self;
+        }
+        if k == 3 {
+            self.created_at = p;
+            return self;
+        }
+        if k == 4 {
+            self.kind = p;
+            return self;
+        }
+        if k == 5 {
+            self.tags = p;
+            return self;
+        }
+        if k == 6 {
+            self.content = p;
+            return self;
         }
         self
     }

@@ -85,6 +85,13 @@ module _ (s : List ℕ) where
       no-text : textOf s (partOf 0 0 false) ≡ []
       no-text = text-plain s (partOf 0 0 false) refl
 
+  -- a replaceable kind's: no look at the tags
+  pub replaceable-key
+      : (h : Head) → isReplaceable (h .kind) ≡ true
+      → keyThere s (keyAt s h) ≡ key.keyed (record { pubkey = take 32 (drop 32 s); kind = h .kind; text = [] })
+  unfolding keyFor
+  replaceable-key h e = key-there h ∙ rw e
+
   -- THE key: on an accepted input it is that of the event shown
   pub key-shown : (h : Head) (n : Numbered s h) → keyThere s (keyAt s h) ≡ keyOf (n .event)
   key-shown h n = key-there h ∙ rw (n .pubkey, n .kind, n .tags, tags-again s (h .«tag_count») (h .«tags_at») (n .parts) (n .reads))

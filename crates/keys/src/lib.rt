@@ -121,7 +121,8 @@ fn find_label(kind: u64, s: &[u8], at: usize, count: u64) -> KeyRead
     KeyRead::Keyless
 }
 
-fn is_replaceable(kind: u64) -> bool
+// Whether the key of a kind is its author and itself, with no label.
+pub fn is_replaceable(kind: u64) -> bool
     ensures { λ r. ⌜ r ≡ isReplaceable kind ⌝ }
 {
     if kind == 0 {

@@ -4,6 +4,8 @@ use notepack::Head;
 use notepack::HeadRead;
 ghost use mathlib.Core.Path.{_≡_};
 ghost use lib.ListN.{take};
+ghost use Rattle.keys.specs.Key.{sameKey};
+ghost use Rattle.keys.specs.Place.{keyAt, keyThere};
 ghost use Rattle.rivals.specs.Rivals.{keepsBy, rivals};
 ghost use Rattle.rivals.specs.Answers.{rivalsRead, keptBytes};
 
@@ -36,6 +38,18 @@ fn kept_of(s: &[u8], h: Head, t: &[u8], k: Head) -> Kept
     Kept::First
 }
 
+// Whether two packed events have the same key. A replaceable kind's is told by kind and author, with no look at the tags.
+fn same_keys(s: &[u8], h: Head, t: &[u8], k: Head) -> bool
+    ensures { λ r. ⌜ r ≡ sameKey (keyThere (now (s .entry)) (keyAt (now (s .entry)) h)) (keyThere (now (t .entry)) (keyAt (now (t .entry)) k)) ⌝ }
+{
+    if h.kind == k.kind {
+        if keys::is_replaceable(h.kind) {
+            return scan::same_bytes(scan::part(s, 32, 32), scan::part(t, 32, 32));
+        }
+    }
+    keys::same_key(s, keys::key_at(s, h), t, keys::key_at(t, k))
+}
+
 // Which of two packed events is kept: first, second, not rivals, or a refusal.
 pub fn compare(s: &[u8], t: &[u8]) -> RivalsRead
     ensures { λ r. ⌜ rivalsRead r ≡ rivals (now (s .entry)) (now (t .entry)) ⌝ }
@@ -48,9 +62,7 @@ pub fn compare(s: &[u8], t: &[u8]) -> RivalsRead
             match second {
                 HeadRead::Refused(r) => RivalsRead::SecondRefused(r),
                 HeadRead::Found(k) => {
-                    let a = keys::key_at(s, h);
-                    let b = keys::key_at(t, k);
-                    if keys::same_key(s, a, t, b) {
+                    if same_keys(s, h, t, k) {
                         return RivalsRead::Told(kept_of(s, h, t, k));
                     }
                     RivalsRead::Told(Kept::NotRivals)

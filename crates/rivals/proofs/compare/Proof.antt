@@ -9,28 +9,21 @@ use Rattle.rivals.proofs.compare.Tie as tie
 
 kept : tie.Need-returns
 kept c =
-    let keyed = c .before .before .before in
-    let second = c .before .before .before .before .before .before in
-    let first = c .before .before .before .before .before .before .before .before .before .before in
-    let a = c .before .before .before .before .before .before .before .before .before .before .before .before .before .before .before .args in
-    told-rivals (a .s .now) (a .t .now) _ _ _ _ (first .before .before .read-packed .ensures) (ap headRead (first .first2 .given .1)) (second .before .before .read-packed2 .ensures) (ap headRead (second .second2 .given .1)) (keyed .before .key-at .ensures) (keyed .key-at2 .ensures) (c .before .before .same-key .ensures) _ (c .before .if1 .taken) (c .kept-of .ensures)
-
-strangers : tie.Need-returns-4
-strangers c =
-    let keyed = c .before .before in
-    let second = c .before .before .before .before .before in
-    let first = c .before .before .before .before .before .before .before .before .before in
-    let a = c .before .before .before .before .before .before .before .before .before .before .before .before .before .before .args in
-    told-strangers (a .s .now) (a .t .now) _ _ _ _ (first .before .before .read-packed .ensures) (ap headRead (first .first2 .given .1)) (second .before .before .read-packed2 .ensures) (ap headRead (second .second2 .given .1)) (keyed .before .key-at .ensures) (keyed .key-at2 .ensures) (c .before .same-key .ensures) (c .if1 .left)
+    let a = c .before .before .before .before .before .before .before .before .before .before .before .before .before .args in
+    told-rivals (a .s .now) (a .t .now) _ _ _ _ (c .before .before .before .before .before .before .before .before .before .before .read-packed .ensures) (ap headRead (c .before .before .before .before .before .before .before .before .first2 .given .1)) (c .before .before .before .before .before .before .read-packed2 .ensures) (ap headRead (c .before .before .before .before .second2 .given .1)) (c .before .before .same-keys .ensures) _ (c .before .if1 .taken) (c .kept-of .ensures)
 
 refused : tie.Need-returns-2
 refused c = let a = c .before .before .before .before .before .before .args in refused-first (a .s .now) (a .t .now) _ _ _ (c .before .before .before .read-packed .ensures) (ap headRead (c .before .first .given .1))
 
 refused-2 : tie.Need-returns-3
 refused-2 c =
-    let first = c .before .before .before .before .before in
     let a = c .before .before .before .before .before .before .before .before .before .before .args in
-    refused-second (a .s .now) (a .t .now) _ _ _ _ _ (first .before .before .read-packed .ensures) (ap headRead (first .first2 .given .1)) (c .before .before .before .read-packed2 .ensures) (ap headRead (c .before .second .given .1))
+    refused-second (a .s .now) (a .t .now) _ _ _ _ _ (c .before .before .before .before .before .before .before .read-packed .ensures) (ap headRead (c .before .before .before .before .before .first2 .given .1)) (c .before .before .before .read-packed2 .ensures) (ap headRead (c .before .second .given .1))
+
+strangers : tie.Need-returns-4
+strangers c =
+    let a = c .before .before .before .before .before .before .before .before .before .before .before .before .args in
+    told-strangers (a .s .now) (a .t .now) _ _ _ _ (c .before .before .before .before .before .before .before .before .before .read-packed .ensures) (ap headRead (c .before .before .before .before .before .before .before .first2 .given .1)) (c .before .before .before .before .before .read-packed2 .ensures) (ap headRead (c .before .before .before .second2 .given .1)) (c .before .same-keys .ensures) (c .if1 .left)
 
 pub compare-spec : {M : Type 1} → statement M
 compare-spec =
@@ -42,8 +35,6 @@ compare-spec =
     (λ c κs. search needs)
     (λ c. search needs)
     (λ c. search needs)
-    (λ c κs. search needs)
-    (λ c κs. search needs)
     (λ c κs. search needs)
     (λ c κs. search needs)
     kept

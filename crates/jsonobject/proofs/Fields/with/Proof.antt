@@ -1,6 +1,8 @@
 -- `with` tells the fields with one more found.
--- Field by field.
+-- Number by number; behind the seven `with-other`.
+use mathlib.Core.Path.{refl, sym}
 use borrow.Author.Needs.{needs}
+use Rattle.jsonobject.proofs.Known.{with-other}
 use Rattle.jsonobject.proofs.Fields.with.Statement.{statement}
 use Rattle.jsonobject.proofs.Fields.with.Tie as tie
 
@@ -8,19 +10,12 @@ pub with-spec : {M : Type 1} → statement M
 with-spec =
     tie.close
     (tie.spec
-    (λ c. search needs)
-    (λ c. search needs)
-    (λ c. search needs)
-    (λ c. search needs)
-    (λ c. search needs)
-    (λ c. search needs)
-    (λ c. search needs)
-    (λ c. search needs)
-    (λ c. simp (c .enum-told .given .1))
-    (λ c. simp (c .enum-told2 .given .1))
-    (λ c. simp (c .enum-told3 .given .1))
-    (λ c. simp (c .enum-told4 .given .1))
-    (λ c. simp (c .enum-told5 .given .1))
-    (λ c. simp (c .enum-told6 .given .1))
-    (λ c. simp (c .enum-told7 .given .1))
-    (λ c. simp (c .enum-told8 .given .1)))
+    (λ c κs. search needs)
+    (λ c. rw (← c .before .number-of .ensures, c .if1 .taken) refl)
+    (λ c. rw (← c .before .before .number-of .ensures, c .if2 .taken) refl)
+    (λ c. rw (← c .before .before .before .number-of .ensures, c .if3 .taken) refl)
+    (λ c. rw (← c .before .before .before .before .number-of .ensures, c .if4 .taken) refl)
+    (λ c. rw (← c .before .before .before .before .before .number-of .ensures, c .if5 .taken) refl)
+    (λ c. rw (← c .before .before .before .before .before .before .number-of .ensures, c .if6 .taken) refl)
+    (λ c. rw (← c .before .before .before .before .before .before .before .number-of .ensures, c .if7 .taken) refl)
+    (λ c. rw (← c .before .before .before .before .before .before .before .number-of .ensures) (sym (with-other _ _ _ (c .before .before .before .before .before .before .if1 .left) (c .before .before .before .before .before .if2 .left) (c .before .before .before .before .if3 .left) (c .before .before .before .if4 .left) (c .before .before .if5 .left) (c .before .if6 .left) (c .if7 .left)))))
