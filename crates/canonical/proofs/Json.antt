@@ -10,7 +10,7 @@ use Rattle.scan.proofs.Step.{pick-by}
 use Rattle.escape.specs.Escape.{canonicalByte, nsonByte, escaped}
 use Rattle.escape.proofs.TextLaws.{escaped-none, escaped-more}
 use Rattle.jsontext.specs.Grammar as json
-use Rattle.jsontext.specs.Escape.{unescape}
+use Rattle.jsontext.specs.inner.Escape.{unescape}
 use Rattle.jsontext.proofs.Meaning.{Spelling, itself, lettered, unescape-back}
 
 letter-of : (b k c : ℕ) → json.Letter c k → eqb b k ≡ true → Spelling b (0x5C ∷ c ∷ [])

@@ -1,5 +1,5 @@
 -- The laws of the model: two events with equal fields are equal, C's two numbers tell every answer apart.
--- And each limit of document 01 rules something out: one past it is not valid.
+-- And each limit of rules 1 rules something out: one past it is not valid.
 use Prim.Native.Nat.{ℕ, _≤_, _<_}
 use mathlib.Core.Path.{_≡_, ap}
 use mathlib.Core.List.{[]}

@@ -1,4 +1,4 @@
-// What every reader and writer shares: how a refusal is told, and the limits of document 01.
+// What every reader and writer shares: how a refusal is told, and the limits (docs/RULES.md, parts 1 and 10).
 
 // A refusal returns its number and its place.
 pub struct Refusal {
@@ -12,7 +12,7 @@ pub enum Writing {
     Refused(Refusal),
 }
 
-// The numbers of refusal, as document 01's table has them.
+// The numbers of refusal, as docs/RULES.md, part 10, has them.
 
 // input over 65,536 bytes
 pub const INPUT_TOO_LONG: u8 = 1;

@@ -3,11 +3,12 @@
 use mathlib.Core.Path.{refl}
 use Rattle.scan.specs.Place.{within}
 use Rattle.varint.specs.Uleb.{ulebIn, uleb}
-use Rattle.varint.specs.Varint.{spelled, varintAt, shortestAt}
+use Rattle.varint.specs.Varint.{spelled, varintAt}
+use Rattle.varint.specs.inner.Shortest.{shortestAt}
 use Rattle.hex.specs.Hex.{valueOf, unhex, allDigits, goesAsBytes}
 use Rattle.notepack.specs.Strict.{packElement}
 use Rattle.nson.proofs.Example.{example-field, example-length, example-read, example-refused}
-use Rattle.exampletable.specs.Table.{CheckedExamples}
+use Rattle.exampletable.specs.inner.Table.{CheckedExamples}
 
 pub checked-examples : CheckedExamples
 unfolding ulebIn uleb spelled varintAt shortestAt within valueOf unhex allDigits goesAsBytes packElement

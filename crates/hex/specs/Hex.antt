@@ -7,11 +7,6 @@ use lib.Dec.{ltb, eqb}
 use Rattle.scan.specs.Choice.{pick}
 use Rattle.scan.specs.Place.{within}
 
--- 0-9 a-f, and no other byte
-pub data LowerHex : ℕ → Type 0 where
-  number : {b : ℕ} → 48 ≤ b → b ≤ 57 → LowerHex b
-  letter : {b : ℕ} → 97 ≤ b → b ≤ 102 → LowerHex b
-
 -- a digit's value; 16 where the byte is no digit
 unfoldable pub valueOf : ℕ → ℕ
 valueOf b = pick (within 48 57 b) (b - 48) (pick (within 97 102 b) (b - 87) 16)

@@ -11,10 +11,6 @@ use Rattle.event.specs.Event.{Text, Tag}
 unfoldable pub quoted : (ℕ → List ℕ) → Text → List ℕ
 quoted f t = 0x22 ∷ (escaped f t ++ (0x22 ∷ []))
 
--- the comma in front of n items more
-abbrev pub comma : ℕ → List ℕ
-comma n = pick (ltb 0 n) (0x2C ∷ []) []
-
 -- items with a comma between each two
 abbrev pub commaed : List (List ℕ) → List ℕ
 commaed [] = []

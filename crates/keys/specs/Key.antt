@@ -1,4 +1,4 @@
--- The key of an event (document 01, "Rivals"): which records are versions of one another. Assumes nothing.
+-- The key of an event (rules 8): which records are versions of one another. Assumes nothing.
 use Prim.Native.Nat.{ℕ}
 use mathlib.Core.Bool.{Bool, true, false}
 use mathlib.Core.List.{List, [], _∷_}
@@ -37,7 +37,8 @@ abbrev pub labelOf : List Tag → Label
 labelOf [] = none
 labelOf (t ∷ ts) = pick (isDTag t) (secondText t) (labelOf ts)
 
--- A key: pubkey and kind, and for the labelled kinds the label. (For the replaceable ones it is empty: no kind is in both groups.)
+-- A key: pubkey and kind, and for the labelled kinds the label. (For the replaceable ones it is empty: no kind is in
+-- both groups.)
 pub record Key : Type 0 where
   pub pubkey : List ℕ
   pub kind : ℕ

@@ -5,9 +5,9 @@ ghost use mathlib.Core.Path.{_≡_};
 ghost use Rattle.scan.specs.Compare.{sameBytes};
 ghost use Rattle.hex.specs.Hex.{hexes};
 ghost use Rattle.notepack.specs.Unpack.{textOf};
-ghost use Rattle.notepack.specs.Again.{textsEnd};
+ghost use Rattle.notepack.specs.inner.Again.{textsEnd};
 ghost use Rattle.keys.specs.Key.{isReplaceable, isLabelled, sameKey};
-ghost use Rattle.keys.specs.Place.{isD, secondAt, labelAt, keyAt, keyThere};
+ghost use Rattle.keys.specs.inner.Place.{isD, secondAt, labelAt, keyAt, keyThere};
 
 // A key's kind, and where its label stands. The author's 32 bytes stand at place 32 of every packed event.
 pub struct KeyPlace {

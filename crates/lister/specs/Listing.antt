@@ -1,4 +1,4 @@
--- What the lister prints of a packed event (document 01, "Checked examples"): four lines, or the refusal.
+-- What the lister prints of a packed event (rules 4.10 and 4.11): four lines, or the refusal.
 -- Each line is ended by 0A. Assumes nothing.
 use Prim.Native.Nat.{ℕ}
 use mathlib.Core.List.{List, _++_}

@@ -8,7 +8,7 @@ use mathlib.Core.Logic.{_↔_}
 use native.Mathlib.Omega.{arith}
 use lib.ListN.{length, length-append}
 use Rattle.scan.specs.Choice.{pick, Answer, shown}
-use Rattle.scan.specs.Span.{All, IsBytes}
+use Rattle.scan.specs.Bytes.{All, IsBytes}
 use Rattle.scan.proofs.Step.{pick-by}
 use Rattle.varint.specs.Uleb.{Spells, uleb}
 use Rattle.varint.proofs.UlebLaws.{uleb-spells}

@@ -1,9 +1,9 @@
--- The layout of notepack (document 01, "Notepack layout"): which bytes lay out which event, with any spelling of each
+-- The layout of notepack (rules 2): which bytes lay out which event, with any spelling of each
 -- varint. Says nothing of refusals. Assumes nothing.
 use Prim.Native.Nat.{ℕ, _+_, _*_}
 use mathlib.Core.List.{List, [], _∷_, _++_}
 use lib.ListN.{length}
-use Rattle.scan.specs.Span.{IsBytes}
+use Rattle.scan.specs.Bytes.{IsBytes}
 use Rattle.varint.specs.Uleb.{Spells}
 use Rattle.hex.specs.Hex.{hexes}
 use Rattle.event.specs.Event.{Text, Tag, Event}

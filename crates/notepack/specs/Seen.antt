@@ -1,4 +1,4 @@
--- What is seen of packed bytes is what the event that they show has (document 01, "Views").
+-- What is seen of packed bytes is what the event that they show has (rule 4.9).
 -- Each answer in the event's own words; `proofs/Seen` shows it. Assumes nothing.
 use Prim.Native.Nat.{ℕ}
 use mathlib.Core.Path.{_≡_}

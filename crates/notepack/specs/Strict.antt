@@ -1,4 +1,4 @@
--- The strict form (document 01, "Strict form"): shortest varints everywhere, and an element goes as bytes exactly when
+-- The strict form (rules 3): shortest varints everywhere, and an element goes as bytes exactly when
 -- its text is non-empty, of even length and all of 0-9 a-f. Assumes nothing.
 use Prim.Native.Nat.{ℕ, _+_, _*_}
 use mathlib.Core.List.{List, [], _∷_, _++_}

@@ -8,10 +8,11 @@ ghost use Rattle.scan.specs.Choice.{andThen, shown};
 ghost use Rattle.hex.specs.Hex.{hexes};
 ghost use Rattle.notepack.specs.Strict.{packElement};
 ghost use Rattle.notepack.specs.Unpack.{textOf, payloadAt, textAt, numberAt, contentAt, elementAt, elementsAt, tagCountAt, tagAt, tagsAt, numbersAt, headAt};
-ghost use Rattle.notepack.specs.Again.{elementPartAt, partAgain, countAgain};
-ghost use Rattle.notepack.specs.Tally.{headLen, isHollow, more, passElements, passTag, passTags};
-ghost use Rattle.notepack.specs.Views.{numbersOf, textsIn, elementOf, view, contentOf, tagStart, elementPlace};
-ghost use Rattle.notepack.specs.Answers.{countRead, elementRead, partRead, numberRead, pass, headRead, walk, walkAt};
+ghost use Rattle.notepack.specs.inner.Again.{elementPartAt, partAgain, countAgain};
+ghost use Rattle.notepack.specs.inner.Tally.{headLen, isHollow, more, passElements, passTag, passTags};
+ghost use Rattle.notepack.specs.Views.{numbersOf, textsIn, elementOf, view, contentOf};
+ghost use Rattle.notepack.specs.inner.Places.{tagStart, elementPlace};
+ghost use Rattle.notepack.specs.inner.Answers.{countRead, elementRead, partRead, numberRead, pass, headRead, walk, walkAt};
 
 // A place in the input. A cursor past the end reads as the end.
 pub struct Cursor {

@@ -1,4 +1,4 @@
--- Which of two records is kept (document 01, "Rivals"). Assumes nothing.
+-- Which of two records is kept (rules 8). Assumes nothing.
 use Prim.Native.Nat.{ℕ}
 use mathlib.Core.List.{List}
 use lib.Dec.{ltb}

@@ -1,5 +1,5 @@
--- The strict question: whether packed bytes are the strict form of the event that they show (document 01, "Strict
--- form"). Assumes nothing.
+-- The strict question: whether packed bytes are the strict form of the event that they show (rules 3).
+-- Assumes nothing.
 use Prim.Native.Nat.{ℕ}
 use mathlib.Core.Bool.{Bool}
 use mathlib.Core.List.{List}
