@@ -2,7 +2,8 @@
 //! of them.
 //!
 //! Three parts: each limit of docs/RULES.md, met and passed; samples cut and changed at every place; then random
-//! inputs. Where COUNT is small the first two are thinned, evenly. The encoders here can also write what no encoder would.
+//! inputs. Where COUNT is small the first two are thinned, evenly. The encoders here can also write what no encoder
+//! would.
 
 #[path = "requests/boundaries.rs"]
 mod boundaries;
