@@ -99,8 +99,8 @@ kez_answer kez_notepack_element(const uint8_t *packed, size_t packed_len,
 
 /* Which of two packed events is to be kept? Two events are rivals, versions of one record, if both have a key and the
  * keys are equal. The key of kinds 0, 3 and 10000 to 19999 is author and kind; that of kinds 30000 to 39999 is author,
- * kind and label (the text behind "d" in the first d tag). Other events have no key. Of two rivals the later is kept;
- * at equal times the one with the lower id; if the ids are equal too, the first.
+ * kind and label (the second text of the first tag whose first text is "d"). Other events have no key. Of two rivals
+ * the later is kept; at equal times the one with the lower id; if the ids are equal too, the first.
  * Refusals: those of kez_notepack_read. Any refusal of the first input comes before those of the second. The place is
  * one in the input that is refused, and the answer does not say which that is; kez_notepack_read of the first tells.
  * value: 0 not rivals, 1 keep the first, 2 keep the second
@@ -147,7 +147,7 @@ kez_answer kez_json_read(const uint8_t *text, size_t text_len,
  *        1 kez_json_read alone accepts it. The strict form is at the start of json_out; nson_out is unchanged, so don't
  *        read it.
  * In both cases the length of the strict form is stored in written. That the two readers show different events is
- * proved never to happen. A host that takes NSON only accepts value 2 alone.
+ * proved never to happen. A host that takes nothing but NSON treats value 1 as a refusal.
  * Refusals: those of kez_json_read (what it refuses, kez_nson_read refuses too, perhaps with another number). Then 11
  * if json_out is too short; then 11 if kez_nson_read accepts the text and nson_out is too short. A length of text_len
  * for each buffer is always enough.
