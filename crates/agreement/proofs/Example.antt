@@ -25,6 +25,7 @@ use Rattle.json.specs.Meaning.{Values, Once, once}
 use Rattle.json.proofs.OneEvent.{values-one}
 use Rattle.json.specs.Field.{textAt, isHexOf, hexAt, digitsOnly, wholeOf, wholeAt, afterItem, itemsAt, insideAt, arrayAt, oneOrMore, tagAt, tagsAt, indexIn, fieldOf, fieldAt}
 use Rattle.json.specs.Object as object
+use Rattle.json.specs.inner.Closing as closing
 use Rattle.nson.specs.Nson.{Counts, headText, bodyText, nson}
 use Rattle.nson.specs.Read.{readNson}
 use Rattle.nson.proofs.Example.{example-read, example-refused}
@@ -52,7 +53,7 @@ abbrev lying : List ℕ
 lying = headText event ++ hexes (0x08 ∷ 0x01 ∷ 0x00 ∷ 0x03 ∷ 0x00 ∷ []) ++ bodyText event
 
 pub example-lying : (object.readJson lying ≡ shown event) × (readNson lying ≡ refused 13 353)
-unfolding headText bodyText escaped nsonByte decimal decimalIn tagsText object.readJson object.wholeAt object.objectAt object.insideAt object.membersAt object.afterMember object.closeAt object.memberAt object.colonAt fieldAt fieldOf indexIn tagsAt tagAt oneOrMore arrayAt insideAt itemsAt afterItem wholeAt wholeOf digitsOnly hexAt isHexOf textAt value.valueAt value.skipWalk value.skipWalkBy value.skipValueBy charsAt stringAt isSpace spaceAt wordAt digitsOr minusAt signAt intAt fracAt isE expAt numberFrom unsignedFrom skipNumber unescapedLetter letterEscape escapeAt orItself unescaped unescape sameBytes valueOf unhex allDigits widthAt within run runAt standsAt begins encode
+unfolding headText bodyText escaped nsonByte decimal decimalIn tagsText object.readJson object.wholeAt object.objectAt object.insideAt object.membersAt object.afterMember closing.closeAt object.memberAt object.colonAt fieldAt fieldOf indexIn tagsAt tagAt oneOrMore arrayAt insideAt itemsAt afterItem wholeAt wholeOf digitsOnly hexAt isHexOf textAt value.valueAt value.skipWalkBy value.skipValueBy charsAt stringAt isSpace spaceAt wordAt digitsOr minusAt signAt intAt fracAt isE expAt numberFrom unsignedFrom skipNumber unescapedLetter letterEscape escapeAt orItself unescaped unescape sameBytes valueOf unhex allDigits widthAt within run runAt standsAt begins encode
 example-lying = (refl, example-refused .0)
 
 -- a\"b between its quotes has four bytes, so a count of three is not true of it

@@ -1,4 +1,4 @@
--- Document 01's checked examples hold of the definitions that the promises cite.
+-- The checked examples of rule 12.4 hold of the definitions that the promises cite.
 -- By computation: each is the definition run.
 use mathlib.Core.Path.{refl}
 use Rattle.scan.specs.Place.{within}

@@ -19,6 +19,7 @@ use Rattle.jsontext.specs.Text.{charsAt, stringAt}
 use Rattle.jsontext.specs.Value as value
 use Rattle.json.specs.Field.{textAt, isHexOf, hexAt, digitsOnly, wholeOf, wholeAt, afterItem, itemsAt, insideAt, arrayAt, oneOrMore, tagAt, tagsAt, indexIn, fieldOf, fieldAt}
 use Rattle.json.specs.Object as object
+use Rattle.json.specs.inner.Closing as closing
 use Rattle.json.proofs.Whole.{Shows, sound}
 
 abbrev quoted : List ℕ → List ℕ
@@ -67,7 +68,7 @@ event =
     }
 
 pub example-read : object.readJson text ≡ shown event
-unfolding object.readJson object.wholeAt object.objectAt object.insideAt object.membersAt object.afterMember object.closeAt object.memberAt object.colonAt fieldAt fieldOf indexIn tagsAt tagAt oneOrMore arrayAt insideAt itemsAt afterItem wholeAt wholeOf digitsOnly hexAt isHexOf textAt value.valueAt value.skipWalk value.skipWalkBy value.skipValueBy value.skipInside value.skipItems value.skipAfter value.skipItem value.skipMember value.skipColon charsAt stringAt isSpace spaceAt wordAt digitsOr minusAt signAt intAt fracAt isE expAt numberFrom unsignedFrom skipNumber hexValue unitOf unitAt unescapedLetter letterEscape pairOf unicodeAt escapeAt orItself unescaped unescape sameBytes valueOf unhex allDigits widthAt within run runAt standsAt begins encode
+unfolding object.readJson object.wholeAt object.objectAt object.insideAt object.membersAt object.afterMember closing.closeAt object.memberAt object.colonAt fieldAt fieldOf indexIn tagsAt tagAt oneOrMore arrayAt insideAt itemsAt afterItem wholeAt wholeOf digitsOnly hexAt isHexOf textAt value.valueAt value.skipWalkBy value.skipValueBy value.skipInside value.skipItems value.skipAfter value.skipItem value.skipMember value.skipColon charsAt stringAt isSpace spaceAt wordAt digitsOr minusAt signAt intAt fracAt isE expAt numberFrom unsignedFrom skipNumber hexValue unitOf unitAt unescapedLetter letterEscape pairOf unicodeAt escapeAt orItself unescaped unescape sameBytes valueOf unhex allDigits widthAt within run runAt standsAt begins encode
 example-read = refl
 
 pub example-shows : Shows text event
