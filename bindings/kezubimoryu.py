@@ -9,7 +9,7 @@ import ctypes
 import os
 from collections import namedtuple
 
-__version__ = "0.4.2"
+__version__ = "0.4.3"
 
 KEZ_MOST = 65536
 KEZ_CANONICAL_MOST = 3 * KEZ_MOST

@@ -30,7 +30,7 @@ extern "C" {
 #endif
 
 /* The version of this library; the tool and the pkg-config file have it from here. */
-#define KEZ_VERSION "0.4.2"
+#define KEZ_VERSION "0.4.3"
 
 /* How long an output buffer has to be. An event in strict form is never longer than the packed bytes, the NSON or the
  * JSON it was read from, so a buffer as long as the input is always enough for it. A canonical text is never longer
