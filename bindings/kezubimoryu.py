@@ -22,7 +22,7 @@ SENTENCES = (
     "Nothing is refused.",
     "The input is longer than 65,536 bytes.",
     "The packed event is cut short, or a length in it goes beyond its end.",
-    "A varint does not fit 64 bits.",
+    "A varint's tenth byte is neither 00 nor 01.",
     "The input ends inside a varint.",
     "A text is not well-formed UTF-8.",
     "The kind is above 65,535.",
@@ -157,7 +157,7 @@ def kez_json_read(text):
 def kez_read_both(text):
     """Reads one text as kez_json_read and as kez_nson_read do. Value 2: both accept it, as the same event; 1:
     kez_json_read alone, and nson is None. What kez_json_read refuses is raised as its refusal.
-    Rules 9.1 to 9.7, 12.3.1 to 12.3.3."""
+    Rules 9.1 to 9.7, 12.3.1 to 12.3.3, 12.3.6."""
     room, length = _most(text), ctypes.c_uint64()
     nson, json = ctypes.create_string_buffer(room), ctypes.create_string_buffer(room)
     value = _call("kez_read_both", _bytes + _room + _room + (_number,), *_lend(text), nson, room, json, room,
