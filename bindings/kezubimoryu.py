@@ -1,13 +1,15 @@
 """Kezubimoryu from Python: the C entries of kezubimoryu.h under their own names, by ctypes, in this one file.
 
-Each takes bytes. A refusal is raised as Refused, with its number and place; the sentence is its text.
+Each takes bytes. A refusal is raised as Refused, with its number and place; the exception's text is a sentence.
+Each description ends with the rules of docs/RULES.md that bind the entry, and kezubimoryu.h says more. Parts 1, 10, 11
+and 12.1 of the rules bind all entries; rule 10.N is refusal N.
 The shared library is $KEZ_LIBRARY, or libkezubimoryu.so beside this file, or wherever the system finds it.
 """
 import ctypes
 import os
 from collections import namedtuple
 
-__version__ = "0.4.2"
+__version__ = "0.4.3"
 
 KEZ_MOST = 65536
 KEZ_CANONICAL_MOST = 3 * KEZ_MOST
@@ -20,7 +22,7 @@ SENTENCES = (
     "Nothing is refused.",
     "The input is longer than 65,536 bytes.",
     "The packed event is cut short, or a length in it goes beyond its end.",
-    "A varint does not fit 64 bits.",
+    "A varint's tenth byte is neither 00 nor 01.",
     "The input ends inside a varint.",
     "A text is not well-formed UTF-8.",
     "The kind is above 65,535.",
@@ -93,12 +95,13 @@ def _write(name, data, room):
 
 
 def kez_refusal_text(number):
-    """A sentence for a number of refusal."""
+    """A sentence for a refusal: rule 10.N says when refusal N is given."""
     return SENTENCES[number] if 0 <= number < len(SENTENCES) else "There is no refusal with this number."
 
 
 def kez_notepack_read(packed):
-    """The five numbers of a packed event."""
+    """Five numbers of a packed event: created_at, kind, the content's place and length, the number of tags.
+    Rules 2.1 to 2.18, 4.1, 4.8, 4.9, 12.2.1 to 12.2.3."""
     numbers = (ctypes.c_uint64 * 5)()
     at = [ctypes.cast(ctypes.byref(numbers, 8 * i), _number) for i in range(5)]
     _call("kez_notepack_read", _bytes + (_number,) * 5, *_lend(packed), *at)
@@ -106,22 +109,23 @@ def kez_notepack_read(packed):
 
 
 def kez_notepack_is_strict(packed):
-    """Are these bytes the strict form?"""
+    """Are these bytes in strict form? Rules 3.1 to 3.5, 12.2.7."""
     return bool(_call("kez_notepack_is_strict", _bytes, *_lend(packed)))
 
 
 def kez_notepack_write(packed):
-    """The strict form of a packed event."""
+    """The strict form of a packed event. Rules 3.1 to 3.3, 3.6, 3.7, 12.2.4 to 12.2.6."""
     return _write("kez_notepack_write", packed, _most(packed))
 
 
 def kez_notepack_tag_len(packed, tag):
-    """The number of texts in this tag."""
+    """The number of texts in this tag. Rules 4.4 to 4.6, 4.9, 12.2.3."""
     return _call("kez_notepack_tag_len", _bytes + (ctypes.c_uint64,), *_lend(packed), tag)
 
 
 def kez_notepack_element(packed, tag, element):
-    """Where the payload of this element stands, its length, and whether it is raw bytes whose text is their hex."""
+    """The place and length of this element's payload, and is_bytes: 0, the payload is the text; 1, the text is the
+    payload in lowercase hex. Rules 2.10 to 2.12, 4.2, 4.3, 4.5, 4.6, 4.8, 4.9, 12.2.3."""
     numbers = (ctypes.c_uint64 * 3)()
     at = [ctypes.cast(ctypes.byref(numbers, 8 * i), _number) for i in range(3)]
     _call("kez_notepack_element", _bytes + (ctypes.c_uint64,) * 2 + (_number,) * 3, *_lend(packed), tag, element, *at)
@@ -129,28 +133,31 @@ def kez_notepack_element(packed, tag, element):
 
 
 def kez_canonical_write(packed):
-    """The canonical text of NIP-01, at most three bytes for each that was packed."""
+    """The canonical text of NIP-01, at most three times as long as packed. Rules 5.1 to 5.9, 12.2.8."""
     return _write("kez_canonical_write", packed, 3 * _most(packed))
 
 
 def kez_nson_write(packed):
-    """A packed event as NSON, at most KEZ_MOST bytes."""
+    """A packed event as NSON, at most KEZ_MOST bytes. Rules 6.1 to 6.16, 12.3.10 to 12.3.12."""
     return _write("kez_nson_write", packed, KEZ_MOST)
 
 
 def kez_nson_read(text):
-    """NSON as a packed event in strict form."""
+    """NSON as a packed event in strict form.
+    Rules 6.1 to 6.12, 6.17 to 6.30, 12.3.1 to 12.3.3, 12.3.5 to 12.3.9."""
     return _write("kez_nson_read", text, _most(text))
 
 
 def kez_json_read(text):
-    """An event in plain JSON as a packed event in strict form."""
+    """An event in plain JSON as a packed event in strict form.
+    Rules 7.1 to 7.27, 12.1.9, 12.2.9, 12.2.10, 12.3.1 to 12.3.6."""
     return _write("kez_json_read", text, _most(text))
 
 
 def kez_read_both(text):
-    """One text put to both readers. Value 2: both show this event; 1: the JSON reader alone, and nson is None.
-    What the JSON reader refuses is raised as its refusal."""
+    """Reads one text as kez_json_read and as kez_nson_read do. Value 2: both accept it, as the same event; 1:
+    kez_json_read alone, and nson is None. What kez_json_read refuses is raised as its refusal.
+    Rules 9.1 to 9.7, 12.3.1 to 12.3.3, 12.3.6."""
     room, length = _most(text), ctypes.c_uint64()
     nson, json = ctypes.create_string_buffer(room), ctypes.create_string_buffer(room)
     value = _call("kez_read_both", _bytes + _room + _room + (_number,), *_lend(text), nson, room, json, room,
@@ -159,5 +166,5 @@ def kez_read_both(text):
 
 
 def kez_rivals(first, second):
-    """Which of two packed events is kept: 0 not rivals, 1 the first, 2 the second."""
+    """Which of two packed events is kept: 0 not rivals, 1 the first, 2 the second. Rules 8.1 to 8.11."""
     return _call("kez_rivals", _bytes + _bytes, *_lend(first), *_lend(second))

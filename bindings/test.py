@@ -1,4 +1,4 @@
-"""Document 003's event through the Python binding: test.py KIND.. The last line is 'N passed, M failed'."""
+"""The NSON draft's event through the Python binding. The last line is 'N passed, M failed'."""
 import hashlib
 import json
 import sys

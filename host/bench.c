@@ -39,7 +39,8 @@ static void put_varint(record *r, uint64_t n)
     put(r, &(uint8_t){(uint8_t)n}, 1);
 }
 
-/* A strict record of `size` bytes: `tags` tags of a name, 32 raw bytes and a relay, and a content made of `text` again and again. */
+/* A strict record of `size` bytes: `tags` tags of a name, 32 raw bytes and a relay, and a content that
+ * repeats `text`. */
 static void make(record *r, const char *name, size_t size, size_t tags, const char *text)
 {
     static const char relay[] = "wss://relay.example.com";

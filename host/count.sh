@@ -1,5 +1,7 @@
-# Sourced by every script that counts: its last line is 'N passed, M failed', and it ends with 0 only if M is 0 and N is not.
-#   step NAME COMMAND..   runs it and adds what its last line counts; one that says no count is one check, by its exit status
+# Sourced by every script that counts: its last line is 'N passed, M failed', and it ends with 0 only if M is 0 and N is
+# not.
+#   step NAME COMMAND..   runs it and adds what its last line counts; one that says no count is one check, by its exit
+#                         status
 #   check NAME            one check, by the exit status of the command before it
 #   fail WORDS            one check that failed, and why
 #   counted               the last line, and the exit status: the script ends with it

@@ -177,8 +177,8 @@ static kez_answer read_packed(const input *in)
     return a;
 }
 
-/* A kind of request: the words behind its name, and who prints its answer (nothing where something is broken; 0: no such
- * request). Kinds that write into a lent buffer name their entry. */
+/* A kind of request: the words behind its name, and who prints its answer (nothing where something is broken; 0: no
+ * such request). Kinds that write into a lent buffer name their entry. */
 typedef struct kind {
     const char *name;
     int words;

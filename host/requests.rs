@@ -1,7 +1,9 @@
-//! Requests of the line protocol, always the same for the same words: requests SEED COUNT [KIND..]; without a kind all of them.
+//! Requests of the line protocol, always the same for the same words: requests SEED COUNT [KIND..]; without a kind all
+//! of them.
 //!
-//! Three parts: each limit of the paper, met and passed; samples cut and changed at every place; then random inputs.
-//! Where COUNT is small the first two are thinned, evenly. The encoders here can also write what no encoder would.
+//! Three parts: each limit of docs/RULES.md, met and passed; samples cut and changed at every place; then random
+//! inputs. Where COUNT is small the first two are thinned, evenly. The encoders here can also write what no encoder
+//! would.
 
 #[path = "requests/boundaries.rs"]
 mod boundaries;

@@ -1,5 +1,5 @@
-/* Records made to be slow, each to every entry that takes its kind: the best of several calls, in microseconds. The last
- * line names the slowest. Ordinary records are measured by bench.c. */
+/* Records made to be slow, each to every entry that takes its kind: the best of several calls, in microseconds. The
+ * last line names the slowest. Ordinary records are measured by bench.c. */
 #define _GNU_SOURCE
 #include "kezubimoryu.h"
 

@@ -1,4 +1,5 @@
-/* Tests of the C entries over the library's archive, by the paper's examples. The last line is 'N passed, M failed'. */
+/* Tests of the C entries over the library's archive, by the rules of docs/RULES.md and their examples. The last line is
+ * 'N passed, M failed'. */
 #define _GNU_SOURCE
 #include "kezubimoryu.h"
 
@@ -63,7 +64,7 @@ static void event(bytes *b, uint64_t created_at, uint64_t kind)
     put_varint(b, 0);
 }
 
-/* The vector of the draft's section 9.1: its varints, each with what it counts */
+/* The vector of the notepack draft's section 9.1 (rule 12.5): its varints, each with what it counts */
 
 static const struct {
     size_t at, len, payload;
@@ -449,7 +450,7 @@ static void canonical(void)
 }
 
 
-/* zero id, pubkey and sig, created_at 1,000,000,000, kind 1, content a"b: packed, and as NSON with this nson field */
+/* The event of the NSON examples of rule 12.4: packed, and as NSON with this nson field. */
 static void a_b(bytes *packed, bytes *text, const char *nson)
 {
     start(packed);
@@ -467,8 +468,8 @@ static void a_b(bytes *packed, bytes *text, const char *nson)
     PUT(text, "\",\"kind\":1,\"content\":\"a\\\"b\",\"tags\":[]}");
 }
 
-/* The event of document 003. */
-static void document_003(bytes *packed, bytes *text)
+/* The event of the NSON draft. Rule 12.5. */
+static void draft_event(bytes *packed, bytes *text)
 {
     static const char digits[] = "0123456789abcdef",
         id[] = "57ff66490a6a2af3992accc26ae95f3f60c6e5f84ed0ddf6f59c534d3920d3d2"
@@ -535,7 +536,7 @@ static void nson_write(void)
     a_b(&b, &text, "0801000400");
     CHECK(text.len == 366, "%zu", text.len);
     writes(kez_nson_write, &b, &text);
-    document_003(&b, &text);
+    draft_event(&b, &text);
     writes(kez_nson_write, &b, &text);
     carried(41, 1, 1);
     carried(42, 1, 0);
@@ -548,7 +549,7 @@ static void nson_write(void)
 static void nson_read(void)
 {
     static bytes b, text;
-    document_003(&b, &text);
+    draft_event(&b, &text);
     writes(kez_nson_read, &text, &b);
     a_b(&b, &text, "0801000400");
     writes(kez_nson_read, &text, &b);
@@ -565,7 +566,7 @@ static void nson_read(void)
 static void json_read(void)
 {
     static bytes b, text;
-    document_003(&b, &text);
+    draft_event(&b, &text);
     writes(kez_json_read, &text, &b);
     /* the nson field is ignored, whatever it says */
     a_b(&b, &text, "0801000500");
@@ -696,11 +697,12 @@ static void refused_by_both(const bytes *text, size_t first_len, size_t second_l
     CHECK(untouched() && other_untouched_from(0), "a refusal changed what was lent");
 }
 
-/* Document 003's event by both; with a count that lies, by JSON alone; what the JSON reader refuses; and without room. */
+/* The NSON draft's event by both readers; with a wrong count, by JSON alone; what the JSON reader refuses; and without
+ * room. Rules 9.1 to 9.7. */
 static void read_both(void)
 {
     static bytes packed, text, damaged;
-    document_003(&packed, &text);
+    draft_event(&packed, &text);
     shown_by(2, &text, &packed);
     damaged = text;
     damaged.at[326] ^= 1;

@@ -1,12 +1,23 @@
 /* Kezubimoryu: Nostr events as notepack, canonical text, NSON and plain JSON.
  *
- * Every entry takes numbers and byte buffers that the caller lends, takes all inputs there are, and ends.
- * A pointer to bytes comes with its length. With length 0 it may be null or anything else: nothing is touched through
- * it. A pointer to a number is never null. What is lent to be written overlaps nothing else that is lent to the same
- * call. No entry keeps a pointer or has a state of its own, so calls from several threads need no lock.
+ * The caller lends byte buffers and numbers to each entry for one call and keeps owning them. Any bytes may be passed
+ * as input: every entry returns on every input, with a result or with a refusal.
  *
- * A packed event is notepack without a version byte, at most 65,536 bytes. Places and counts start at 0, lengths are
- * in bytes. Link with `pkg-config --cflags --libs kezubimoryu`.
+ * What the caller must see to:
+ * - A pointer to bytes comes with its true length. With length 0 the pointer may be null or dangling, since nothing is
+ *   read or written through it.
+ * - A pointer to a number is never null.
+ * - A buffer or number that an entry writes overlaps nothing else that is passed to the same call.
+ *
+ * No entry keeps a pointer after it returns, and none has state of its own, so several threads may call at once without
+ * a lock.
+ *
+ * A packed event is notepack without a version byte, at most 65,536 bytes. Places, tags and elements are counted from
+ * 0. Lengths are in bytes. Link with `pkg-config --cflags --libs kezubimoryu`.
+ *
+ * "Rule 2.4" is rule 2.4 of docs/RULES.md in the source repository. Parts 1 (the event and its limits), 10 (refusals),
+ * 11 (which fault is reported first) and 12.1 (what every call keeps to) bind every entry. The comment of each entry
+ * ends with the other rules that bind it.
  */
 #ifndef KEZUBIMORYU_H
 #define KEZUBIMORYU_H
@@ -19,134 +30,161 @@ extern "C" {
 #endif
 
 /* The version of this library; the tool and the pkg-config file have it from here. */
-#define KEZ_VERSION "0.4.2"
+#define KEZ_VERSION "0.4.3"
 
-/* Room. A buffer as long as what is read is always enough for an event in strict form, which is never longer than the
- * packed bytes, the NSON or the JSON it was read from; three times the packed bytes for a canonical text. NSON is never
- * longer than KEZ_MOST. A host that lends so much never meets refusal 11. The two sizes are enough for every input. */
+/* How long an output buffer has to be. An event in strict form is never longer than the packed bytes, the NSON or the
+ * JSON it was read from, so a buffer as long as the input is always enough for it. A canonical text is never longer
+ * than three times the packed bytes. NSON is never longer than KEZ_MOST. A host that passes buffers of these lengths
+ * never gets refusal 11. The two sizes below are enough for every input. Rules 3.7, 5.8, 6.14 and 12.3.6. */
 
-/* No input that is read is longer, nor an event in strict form, nor NSON. */
+/* No accepted input is longer; nor is an event in strict form, nor NSON. Rule 1.9. */
 #define KEZ_MOST 65536
 
-/* No canonical text is longer: three bytes for each byte that was packed. */
+/* No canonical text is longer: three bytes for each byte that was packed. Rule 5.8. */
 #define KEZ_CANONICAL_MOST (3 * KEZ_MOST)
 
-/* What every entry answers.
- * refusal is 0, and value is what the entry says below; or refusal is a number from 1 to 19, and value is its place.
- * So refusal alone tells success. On a refusal every lent buffer and number is as it was. After success the bytes
- * behind the written length are as they were. Refusal 11, a lent buffer is too short, comes after all others; its value
- * is the length needed. Every other place lies in the input or at its end. */
+/* What every entry answers. Rules 12.1.2 to 12.1.8.
+ * Success: refusal is 0, and value is what the entry's comment says.
+ * Refusal: refusal is a number from 1 to 19, and value is the place in the input where the fault was found, or the
+ * input's length if the fault is at its end. Rule 10.N says when refusal N is given, and its place. Refusals 1, 17 and
+ * 19 have no place of their own: value is then 0. With refusal 11, an output buffer that is too short, value is the
+ * length needed; 11 is given only if there is no other refusal.
+ * So refusal alone tells whether the call succeeded. After a refusal every buffer and number that was passed still
+ * holds what it held before the call. After success the bytes behind the written length are unchanged. */
 typedef struct {
     uint64_t refusal;
     uint64_t value;
 } kez_answer;
 
-/* Reads a packed event and leaves its five numbers: seconds, kind, where the content stands in packed, its length, and
- * the number of tags. Longer varints than needed are read too. An empty content stands just behind its length.
+/* Reads a packed event and stores five numbers of it: created_at (in seconds), the kind, the place of the content in
+ * packed, the content's length, and the number of tags. A varint may be longer than its number needs. The place of an
+ * empty content is that of the byte behind its length.
  * Refusals: 1 to 10.
- * value: 0 */
+ * value: 0
+ * Rules 2.1 to 2.18, 4.1, 4.8, 4.9, 12.2.1 to 12.2.3. */
 kez_answer kez_notepack_read(const uint8_t *packed, size_t packed_len,
                              uint64_t *created_at, uint64_t *kind,
                              uint64_t *content_at, uint64_t *content_len,
                              uint64_t *tag_count);
 
-/* Are these bytes the strict form: shortest varints everywhere, and an element as raw bytes exactly if its text is not
- * empty, of even length and all of 0-9 a-f? Bytes that kez_notepack_read refuses get its refusal.
- * value: 1 strict, 0 not strict */
+/* Are these bytes in strict form? They are if every varint is as short as its number allows, and if an element is
+ * stored as raw bytes exactly if its text is not empty, has an even length and consists of 0-9 and a-f alone.
+ * Refusals: those of kez_notepack_read.
+ * value: 1 strict, 0 not strict
+ * Rules 3.1 to 3.5, 12.2.7; of the input 2.1 to 2.17. */
 kez_answer kez_notepack_is_strict(const uint8_t *packed, size_t packed_len);
 
-/* Writes the one strict form of a packed event, which reads as the same event. Strict bytes come out as they are.
- * Bytes that kez_notepack_read refuses get its refusal; then 11. Room of packed_len bytes is always enough.
- * value: the length written */
+/* Writes the strict form of a packed event to out. Every event has exactly one, and it reads as the same event. Strict
+ * bytes come out unchanged. An out_len of packed_len is always enough.
+ * Refusals: those of kez_notepack_read; then 11.
+ * value: the length written
+ * Rules 3.1 to 3.3, 3.6, 3.7, 12.2.4 to 12.2.6; of the input 2.1 to 2.17. */
 kez_answer kez_notepack_write(const uint8_t *packed, size_t packed_len,
                               uint8_t *out, size_t out_len);
 
-/* How many texts are in this tag?
- * Bytes that kez_notepack_read refuses get its refusal; then 19 if there is no such tag.
- * value: that number, 1 to 255 */
+/* How many texts does this tag have?
+ * Refusals: those of kez_notepack_read; then 19 if there is no such tag.
+ * value: the number of texts, 1 to 255
+ * Rules 4.4 to 4.6, 4.9, 12.2.3; of the input 2.1 to 2.17. */
 kez_answer kez_notepack_tag_len(const uint8_t *packed, size_t packed_len, uint64_t tag);
 
-/* Where the payload of this element of this tag stands in packed, its length, and its b: 0 if the payload is the text,
- * 1 if the text is the payload's lowercase hex. Refusals as for kez_notepack_tag_len; 19 also if there is no such
- * element.
- * value: 0 */
+/* Finds one text of a tag as it is packed. Stores the place of its payload in packed, the payload's length, and in
+ * is_bytes how the payload is to be read: 0, it is the text; 1, the text is the payload written in lowercase hex.
+ * Refusals: those of kez_notepack_read; then 19 if there is no such tag or no such element in it.
+ * value: 0
+ * Rules 2.10 to 2.12, 4.2, 4.3, 4.5, 4.6, 4.8, 4.9, 12.2.3; of the input 2.1 to 2.17. */
 kez_answer kez_notepack_element(const uint8_t *packed, size_t packed_len,
                                 uint64_t tag, uint64_t element,
                                 uint64_t *at, uint64_t *len, uint64_t *is_bytes);
 
-/* Which of two packed events is to be kept, if they have the same key: the later, then the one with the lower id, then
- * the first. Bytes that kez_notepack_read refuses get its refusal: all of the first input's come before the second's, and
- * the place is in the one that is refused.
- * value: 0 not rivals, 1 keep the first, 2 keep the second */
+/* Which of two packed events is to be kept? Two events are rivals, versions of one record, if both have a key and the
+ * keys are equal. The key of kinds 0, 3 and 10000 to 19999 is author and kind; that of kinds 30000 to 39999 is author,
+ * kind and label (the text behind "d", in the first tag with "d" in front). Other events have no key. Of two rivals
+ * the later is kept; at equal times the one with the lower id; if the ids are equal too, the first.
+ * Refusals: those of kez_notepack_read. Any refusal of the first input comes before those of the second. The place is
+ * one in the input that is refused, and the answer does not say which that is; kez_notepack_read of the first tells.
+ * value: 0 not rivals, 1 keep the first, 2 keep the second
+ * Rules 8.1 to 8.11; of both inputs 2.1 to 2.17. */
 kez_answer kez_rivals(const uint8_t *first, size_t first_len,
                       const uint8_t *second, size_t second_len);
 
-/* Writes the canonical text of NIP-01, over which an event's id is taken: [0,"pubkey",created_at,kind,tags,"content"].
- * Bytes that kez_notepack_read refuses get its refusal; then 11. Room of 3 * packed_len bytes is always enough.
- * value: the length written */
+/* Writes the canonical text of NIP-01 to out: [0,"pubkey",created_at,kind,tags,"content"]. An event's id is the SHA-256
+ * of this text; the library does not compute it. An out_len of 3 * packed_len is always enough.
+ * Refusals: those of kez_notepack_read; then 11.
+ * value: the length written
+ * Rules 5.1 to 5.9, 12.2.8; of the input 2.1 to 2.17. */
 kez_answer kez_canonical_write(const uint8_t *packed, size_t packed_len,
                                uint8_t *out, size_t out_len);
 
-/* Writes a packed event as NSON; both readers below then show the same event.
- * Bytes that kez_notepack_read refuses get its refusal; then 17 if NSON can't carry the event; then 11. Room of
- * KEZ_MOST bytes is always enough.
- * value: the length written */
+/* Writes a packed event to out as NSON. kez_nson_read and kez_json_read both read that text as the same event. An
+ * out_len of KEZ_MOST is always enough.
+ * Refusals: those of kez_notepack_read; then 17 if NSON can't carry the event; then 11.
+ * value: the length written
+ * Rules 6.1 to 6.16, 12.3.10 to 12.3.12; of the input 2.1 to 2.17. */
 kez_answer kez_nson_write(const uint8_t *packed, size_t packed_len,
                           uint8_t *out, size_t out_len);
 
-/* Reads NSON by the counts in its nson field, and leaves the event in out in strict form. A count that lies is refused.
- * What this reader accepts kez_json_read accepts too, with the same bytes and the same length needed.
- * Refusals: 1, 5, 6, 9, 10, 12, 13, 14; then 11. Room of text_len bytes is always enough.
- * value: the length written */
+/* Reads NSON by the counts in its nson field, and writes the event to out in strict form. A count that disagrees with
+ * the text is refused. Whatever this entry accepts, kez_json_read accepts too: it writes the same bytes and needs the
+ * same out_len. An out_len of text_len is always enough.
+ * Refusals: 1, 5, 6, 9, 10, 12, 13, 14; then 11.
+ * value: the length written
+ * Rules 6.1 to 6.12, 6.17 to 6.30, 12.3.1 to 12.3.3, 12.3.5 to 12.3.9; of what is written 3.1 to 3.3. */
 kez_answer kez_nson_read(const uint8_t *text, size_t text_len,
                          uint8_t *out, size_t out_len);
 
-/* Reads an event as plain JSON (RFC 8259), its seven fields in any order and once each, and leaves it in out in strict
- * form. A missing field is refused; nothing is filled in. Fields of other names are ignored, the nson field among them:
- * a count that lies there is no matter to this reader.
- * Refusals: 1, 5 to 10, 12, 14, 15, 16, 18; then 11. Room of text_len bytes is always enough.
- * value: the length written */
+/* Reads an event as plain JSON (RFC 8259) and writes it to out in strict form. Each of the seven fields must be there
+ * once, in any order. A missing field is refused; none has a default. Fields of other names are ignored. The nson field
+ * is one of these, so this entry does not notice a wrong count in it. An out_len of text_len is always enough.
+ * Refusals: 1, 5 to 10, 12, 14, 15, 16, 18; then 11.
+ * value: the length written
+ * Rules 7.1 to 7.27, 12.1.9, 12.2.9, 12.2.10, 12.3.1 to 12.3.6; of what is written 3.1 to 3.3. */
 kez_answer kez_json_read(const uint8_t *text, size_t text_len,
                          uint8_t *out, size_t out_len);
 
-/* Puts one text to both readers.
- * What kez_json_read refuses gets its refusal (kez_nson_read refuses it too). Then 11 if json_out is too short for what
- * kez_json_read leaves; then 11 if kez_nson_read accepts the text and nson_out is too short for what that leaves.
- * Otherwise what kez_json_read leaves stands in json_out, and its length in written. Where kez_nson_read accepts the
- * text (value 2), what that leaves stands in nson_out; where it refuses (value 1), nson_out is as it was: don't read it.
- * Room of text_len bytes in each buffer is always enough. Cost: each reader goes through the text twice, once to decide
- * before anything is written and once to write; a call takes up to twice as long as the two readers together.
- * value: 2 both readers show this event, the same bytes in both buffers; 1 the plain JSON reader alone, in json_out.
- * That the two show different events is proved not to happen. A desk that takes NSON only asks for value 2. */
+/* Reads one text as kez_json_read does and as kez_nson_read does, and says which of the two accept it.
+ * value: 2 both accept it. They show the same event, and its strict form is at the start of both buffers.
+ *        1 kez_json_read alone accepts it. The strict form is at the start of json_out; nson_out is unchanged, so don't
+ *        read it.
+ * In both cases the length of the strict form is stored in written. That the two readers show different events is
+ * proved never to happen. A host that takes nothing but NSON treats value 1 as a refusal.
+ * Refusals: those of kez_json_read (what it refuses, kez_nson_read refuses too, perhaps with another number). Then 11
+ * if json_out is too short; then 11 if kez_nson_read accepts the text and nson_out is too short. A length of text_len
+ * for each buffer is always enough.
+ * Cost: each reader goes through the text twice, once to decide before anything is written and once to write. A call
+ * takes up to twice as long as the two readers together.
+ * Rules 9.1 to 9.7, 12.3.1 to 12.3.3, 12.3.6; of the text parts 6 and 7; of what is written 3.1 to 3.3. */
 kez_answer kez_read_both(const uint8_t *text, size_t text_len,
                          uint8_t *nson_out, size_t nson_out_len,
                          uint8_t *json_out, size_t json_out_len,
                          uint64_t *written);
 
-/* A sentence for a number of refusal. The string is a constant: it is never null and never freed. */
+/* A sentence for a refusal. The string is a constant: it is never null, and must not be freed. */
 static inline const char *kez_refusal_text(uint64_t number)
 {
     switch (number) {
     case 0: return "Nothing is refused.";
-    case 1: return "The input is longer than 65,536 bytes.";
-    case 2: return "The packed event is cut short, or a length in it goes beyond its end.";
-    case 3: return "A varint does not fit 64 bits.";
-    case 4: return "The input ends inside a varint.";
-    case 5: return "A text is not well-formed UTF-8.";
-    case 6: return "The kind is above 65,535.";
-    case 7: return "The time is above 9,223,372,036,854,775 seconds.";
-    case 8: return "There are more than 1,000 tags, or more than 255 texts in a tag.";
-    case 9: return "A tag is empty.";
-    case 10: return "Something follows after the end.";
-    case 11: return "The lent buffer is shorter than needed.";
-    case 12: return "A fixed piece, hex or time is not as it must be, or the id, pubkey or sig is not lowercase hex of its length.";
-    case 13: return "A count in the nson field disagrees with the text.";
-    case 14: return "The text is not allowed: wrong JSON syntax, type, escape, or a raw control byte.";
-    case 15: return "A field is missing.";
-    case 16: return "A field stands there twice.";
-    case 17: return "NSON can't carry this event.";
-    case 18: return "Arrays and objects are nested more than 16 deep.";
-    case 19: return "There is no such tag or element.";
+    case 1: return "The input is longer than 65,536 bytes."; /* rule 10.1 */
+    case 2: return "The packed event is cut short, or a length in it goes beyond its end."; /* rule 10.2 */
+    case 3: return "A varint's tenth byte is neither 00 nor 01."; /* rule 10.3 */
+    case 4: return "The input ends inside a varint."; /* rule 10.4 */
+    case 5: return "A text is not well-formed UTF-8."; /* rule 10.5 */
+    case 6: return "The kind is above 65,535."; /* rule 10.6 */
+    case 7: return "The time is above 9,223,372,036,854,775 seconds."; /* rule 10.7 */
+    case 8: return "There are more than 1,000 tags, or more than 255 texts in a tag."; /* rule 10.8 */
+    case 9: return "A tag is empty."; /* rule 10.9 */
+    case 10: return "Something follows after the end."; /* rule 10.10 */
+    case 11: return "The lent buffer is shorter than needed."; /* rule 10.11 */
+    case 12: /* rule 10.12 */
+        return "A fixed piece, hex or time is not as it must be, "
+               "or the id, pubkey or sig is not lowercase hex of its length.";
+    case 13: return "A count in the nson field disagrees with the text."; /* rule 10.13 */
+    case 14: return "The text is not allowed: wrong JSON syntax, type, escape, or a raw control byte."; /* rule 10.14 */
+    case 15: return "A field is missing."; /* rule 10.15 */
+    case 16: return "A field stands there twice."; /* rule 10.16 */
+    case 17: return "NSON can't carry this event."; /* rule 10.17 */
+    case 18: return "Arrays and objects are nested more than 16 deep."; /* rule 10.18 */
+    case 19: return "There is no such tag or element."; /* rule 10.19 */
     default: return "There is no refusal with this number.";
     }
 }

@@ -1,4 +1,5 @@
-/* Random inputs. The encoders here are the harness's own and can write what no encoder would; each input may then be damaged. */
+/* Random inputs. The encoders here are the harness's own and can write what no encoder would; each input may then be
+ * damaged. */
 #include "generate.h"
 
 #include <stdio.h>

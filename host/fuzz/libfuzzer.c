@@ -1,5 +1,5 @@
-/* The same properties under libFuzzer. The archive has no counters of its own, so the answers are the guide: each new pair of
- * an entry's refusal and place counts as something new. */
+/* The same properties under libFuzzer. The archive has no counters of its own, so the answers are the guide: each new
+ * pair of an entry's refusal and place counts as something new. */
 #include "generate.h"
 #include "properties.h"
 

@@ -1,5 +1,5 @@
-/* The plain harness: random SECONDS [SEED] [DIRECTORY]. Puts random inputs to every entry for so long, and says how many.
- * With a directory it writes 2,000 inputs there, for another fuzzer to start from, and checks nothing. */
+/* The plain harness: random SECONDS [SEED] [DIRECTORY]. Puts random inputs to every entry for so long, and says how
+ * many. With a directory it writes 2,000 inputs there, for another fuzzer to start from, and checks nothing. */
 #define _GNU_SOURCE
 #include "generate.h"
 #include "properties.h"

@@ -1,6 +1,6 @@
-/* Faults, planted between the library and the harness: each call of a wrapped entry comes here first (-Wl,--wrap). -DPLANTED=n
- * chooses one. Each shows itself at some inputs only, by a sum over their bytes, and host/fuzz/planted asks that it be
- * found. */
+/* Faults, planted between the library and the harness: each call of a wrapped entry comes here first (-Wl,--wrap).
+ * -DPLANTED=n chooses one. Each shows itself at some inputs only, by a sum over their bytes, and host/fuzz/planted asks
+ * that it be found. */
 #include "kezubimoryu.h"
 
 #ifndef PLANTED

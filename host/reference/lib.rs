@@ -1,5 +1,5 @@
-//! An implementation of the paper (document 01) in plain Rust, written from the paper alone:
-//! a yardstick for the library's answers and for its speed. `entries` has the library's own C entries.
+//! An implementation of the rules (docs/RULES.md) in plain Rust, not made from the Rattle code: a yardstick for the
+//! library's answers and for its speed. `entries` has the library's own C entries.
 
 pub mod answer;
 pub mod both;

@@ -1,9 +1,9 @@
-//! The paper's checked examples.
+//! The checked examples of rule 12.4, and more of docs/RULES.md.
 
 use crate::{answer, hex};
 use reference::bytes::{varint, varint_len};
 
-/// Section 9.1's vector.
+/// The vector of the notepack draft's section 9.1.
 fn vector() -> Vec<u8> {
     let mut s = [[0x00; 32], [0x11; 32], [0x22; 32], [0x22; 32]].concat();
     s.extend(b"\x80\xbc\x94\xb4\x06\x00\x05hello\x02\x03\x02e\x41");
@@ -19,7 +19,7 @@ const CANONICAL: &str = concat!(
     "[\"p\",\"bbbbbbbbbbbbbbbbbbbbbbbbbbbbbbbbbbbbbbbbbbbbbbbbbbbbbbbbbbbbbbbb\"]],\"hello\"]",
 );
 
-/// Document 003's event.
+/// The NSON draft's event.
 const NSON: &str = concat!(
     "{\"id\":\"57ff66490a6a2af3992accc26ae95f3f60c6e5f84ed0ddf6f59c534d3920d3d2\",",
     "\"pubkey\":\"79be667ef9dcbbac55a06295ce870b07029bfcdb2dce28d959f2815b16f81798\",",
@@ -38,7 +38,7 @@ fn packed(created_at: &[u8], rest: &[u8]) -> Vec<u8> {
 /// 1,000,000,000 as a varint.
 const BILLION: &[u8] = b"\x80\x94\xeb\xdc\x03";
 
-/// The paper's NSON example, with the nson field given.
+/// The NSON example of rule 12.4, with the nson field given.
 fn nson_with(nson: &str) -> String {
     let zeros = |n| "0".repeat(n);
     format!(
@@ -118,10 +118,10 @@ pub fn run() -> bool {
     same("vector nson", room("nson_read", answer_bytes(&room("nson_write", &v)).as_slice()), left(&v));
 
     let event = answer_bytes(&room("nson_read", NSON.as_bytes()));
-    same("document 003 as JSON", room("json_read", NSON.as_bytes()), left(&event));
-    same("document 003 written", room("nson_write", &event), left(NSON.as_bytes()));
+    same("the NSON draft's event as JSON", room("json_read", NSON.as_bytes()), left(&event));
+    same("the NSON draft's event written", room("nson_write", &event), left(NSON.as_bytes()));
     let by_both = |value: u8, first: &[u8], second: &[u8]| format!("ok {value} {} {} {}", second.len(), hex(first), hex(second));
-    same("document 003 by both", room("read_both", NSON.as_bytes()), by_both(2, &event, &event));
+    same("the NSON draft's event by both", room("read_both", NSON.as_bytes()), by_both(2, &event, &event));
     same("(12) by both", room("read_both", text.as_bytes()), by_both(2, &a_b, &a_b));
     same("(13) by both", room("read_both", nson_with("0801000300").as_bytes()), by_both(1, b"", &a_b));
     same("a blank by both", room("read_both", b"{\"kind\":1}"), "refused 15 9".into());

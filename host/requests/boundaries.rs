@@ -1,4 +1,4 @@
-//! Each limit of the paper, met and passed.
+//! Each limit of docs/RULES.md, met and passed.
 
 use crate::event::*;
 use crate::json::*;

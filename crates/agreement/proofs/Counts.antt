@@ -1,10 +1,12 @@
--- The NSON reader accepts no string whose nson field holds a count that lies.
--- An accepted string is the writer's own text, so its tree is the event's; the field says one size and one set of counts, the event's.
+-- In a text that the NSON reader accepts every count is true (rules 12.3.8 and 12.3.9).
+-- An accepted string is the writer's own text, so its tree is the event's; the field says one size and one set of
+-- counts, the event's.
 use Prim.Native.Nat.{ℕ, _+_, _*_}
 use mathlib.Core.Path.{_≡_, refl, sym, subst}
 use mathlib.Core.List.{List, [], _∷_, map}
 use native.Mathlib.Omega.{arith}
 use lib.ListN.{length}
+use Rattle.scan.specs.Ascii.{ascii}
 use Rattle.scan.specs.Choice.{shown}
 use Rattle.scan.specs.Place.{within}
 use Rattle.hex.specs.Hex.{hexes}
@@ -13,13 +15,13 @@ use Rattle.scan.specs.Compare.{sameBytes}
 use Rattle.event.specs.Event.{Text, Tag, Event, Valid}
 use Rattle.jsontext.proofs.OneValue.{chars-one, one-value}
 use Rattle.jsontext.specs.Grammar as json
-use Rattle.json.specs.Meaning.{kindName, contentName, tagsName, Values, IsHex, is-hex, Each, IsArray, is-array, once}
+use Rattle.json.specs.Meaning.{Values, IsHex, is-hex, Each, IsArray, is-array, once}
 use Rattle.json.proofs.OneEvent.{values-one}
 use Rattle.nson.specs.Nson.{Counts, escapedSize, counts, descriptors, nsonField}
 use Rattle.nson.specs.Carries.{Carries}
 use Rattle.nson.specs.Read.{readNson}
 use Rattle.nson.proofs.Sound.{accepted, field-true, size-true}
-use Rattle.agreement.specs.Counted.{nsonName, StringOf, string-of, number-of, TrueCounts, FieldHolds}
+use Rattle.agreement.specs.Counted.{StringOf, string-of, number-of, TrueCounts, FieldHolds}
 use Rattle.agreement.specs.Demand3.{NoLie, CountsFollowed}
 use Rattle.jsontext.proofs.Compact.{items}
 use Rattle.agreement.proofs.Tree.{textTree, tagTree, members, tree}
@@ -50,17 +52,17 @@ true-counts : (e : Event) → TrueCounts (members e) (2 * length (descriptors (c
 unfolding counts escapedSize sameBytes within
 true-counts e =
     record {
-      behind = once (plain-values nsonName (members e) refl) (subst (StringOf (json.string (nsonField (counts e)))) (field-long (counts e)) string-of);
-      kind = once (plain-values kindName (members e) refl) number-of;
-      content = once (plain-values contentName (members e) refl) string-of;
-      tags = once (plain-values tagsName (members e) refl) (is-array (each-of (IsArray StringOf) tagTree (map escapedSize) tag-of (e .tags)));
+      behind = once (plain-values (ascii "nson") (members e) refl) (subst (StringOf (json.string (nsonField (counts e)))) (field-long (counts e)) string-of);
+      kind = once (plain-values (ascii "kind") (members e) refl) number-of;
+      content = once (plain-values (ascii "content") (members e) refl) string-of;
+      tags = once (plain-values (ascii "tags") (members e) refl) (is-array (each-of (IsArray StringOf) tagTree (map escapedSize) tag-of (e .tags)));
     }
 
 -- ---- what the field holds
 
-field-values : (e : Event) → Values nsonName (members e) (json.string (nsonField (counts e)) ∷ [])
+field-values : (e : Event) → Values (ascii "nson") (members e) (json.string (nsonField (counts e)) ∷ [])
 unfolding sameBytes within
-field-values e = plain-values nsonName (members e) refl
+field-values e = plain-values (ascii "nson") (members e) refl
 
 holds-own : {e : Event} → Carries e → Valid e → FieldHolds (members e) (2 * length (descriptors (counts e))) (counts e)
 unfolding nsonField

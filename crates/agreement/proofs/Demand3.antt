@@ -1,12 +1,28 @@
 -- Demand 3, whole.
 -- Each sentence by its own law.
-use Rattle.agreement.specs.Demand3.{Demand3}
+use Rattle.agreement.specs.Demand3.{NeverTwo, BothAccept, FieldIgnored, GivenRoom, SameNeed, NeedEnough, TextEnough, NoLie, CountsFollowed, WriterWrites, OrNothing, WriterRefusals, ReadBack}
 use Rattle.agreement.proofs.Agree.{never-two, both-accept}
 use Rattle.agreement.proofs.Ignored.{field-ignored}
 use Rattle.agreement.proofs.Room.{given-room, same-need, need-enough}
 use Rattle.agreement.proofs.Shorter.{text-enough}
 use Rattle.agreement.proofs.Counts.{no-lie, counts-followed}
 use Rattle.agreement.proofs.Writer.{writer-writes, or-nothing, writer-refusals, read-back}
+
+-- all its sentences
+pub record Demand3 : Type 0 where
+  pub never-two : NeverTwo
+  pub both-accept : BothAccept
+  pub field-ignored : FieldIgnored
+  pub given-room : GivenRoom
+  pub same-need : SameNeed
+  pub need-enough : NeedEnough
+  pub text-enough : TextEnough
+  pub no-lie : NoLie
+  pub counts-followed : CountsFollowed
+  pub writer-writes : WriterWrites
+  pub or-nothing : OrNothing
+  pub writer-refusals : WriterRefusals
+  pub read-back : ReadBack
 
 -- THE demand
 pub demand-3 : Demand3

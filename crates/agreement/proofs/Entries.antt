@@ -11,7 +11,7 @@ use lib.Seq.{take-at}
 use borrow.Author.Tests.{leb-true, leb-false, le-leb, lt-leb}
 use Rattle.scan.specs.Choice.{pick, Answer, shown, refused}
 use Rattle.scan.proofs.Step.{false-true}
-use Rattle.event.specs.Tells.{among, Tells, value, refusal}
+use Rattle.event.specs.inner.Tells.{among, Tells, value, refusal}
 use Rattle.buffer.specs.Entry.{written, filled, writes, leaves}
 
 -- a value was read, and its text fitted
@@ -42,7 +42,8 @@ module _ {A : Type 0} (text : A → List ℕ) where
       go false t e = no-number e
   wrote (refused k p) d n = no-number
 
-  -- 11, where it is none of the reading's own numbers: the reading showed a value, whose text has that length and no room
+  -- 11, where it is none of the reading's own numbers: the reading showed a value, whose text has that length and no
+  -- room
   pub lacked : {numbers : List ℕ} {most : ℕ} {P : A → Type 0} {a : Answer A} (d : List ℕ) (n : ℕ) → among numbers 11 ≡ false → Tells numbers most P a
       → writes text a d ≡ refused 11 n → Lacking text a d n
   unfolding written

@@ -4,8 +4,9 @@ use Prim.Native.Nat.{ℕ}
 use mathlib.Core.Path.{refl, subst}
 use mathlib.Core.List.{List, map}
 use native.Mathlib.Omega.{arith}
+use Rattle.scan.specs.Ascii.{ascii}
 use Rattle.scan.specs.Place.{within}
-use Rattle.scan.specs.Span.{All, none, also, IsBytes}
+use Rattle.scan.specs.Bytes.{All, none, also, IsBytes}
 use Rattle.utf8.specs.Utf8.{Utf8}
 use Rattle.hex.specs.Hex.{hexes}
 use Rattle.decimal.specs.Decimal.{decimal}
@@ -13,7 +14,7 @@ use Rattle.decimal.proofs.Spelling.{decimal-digits, number-decimal}
 use Rattle.scan.specs.Compare.{sameBytes}
 use Rattle.event.specs.Event.{Text, Tag, Event, ValidTag, Valid}
 use Rattle.jsontext.specs.Grammar as json
-use Rattle.json.specs.Meaning.{idName, pubkeyName, sigName, createdAtName, kindName, tagsName, contentName, Values, IsText, is-text, IsHex, is-hex, IsNumber, is-number, Each, is-array, IsTag, once, Says, first, later, Shallow, no-member, known, ignored, IsEvent, is-event}
+use Rattle.json.specs.Meaning.{Values, IsText, is-text, IsHex, is-hex, IsNumber, is-number, Each, is-array, IsTag, once, Says, first, later, Shallow, no-member, known, ignored, IsEvent, is-event}
 use Rattle.nson.specs.Nson.{counts, nsonField}
 use Rattle.nson.specs.Carries.{Fits, Carries}
 use Rattle.jsontext.proofs.Compact.{hexes-chars, name-chars, items}
@@ -57,27 +58,27 @@ says : {e : Event} → Carries e → Valid e → Says (members e) e
 unfolding sameBytes
 says {e} c v =
     record {
-      id = once (values e idName) (hex-is (v .id32 .each));
-      pubkey = once (values e pubkeyName) (hex-is (v .pubkey32 .each));
-      sig = once (values e sigName) (hex-is (v .sig64 .each));
-      createdAt = once (values e createdAtName) (number-is (e .createdAt));
-      kind = once (values e kindName) (number-is (e .kind));
-      tags = once (values e tagsName) (is-array (each-is IsTag tagTree (tags-are (c .texts) (v .each))));
-      content = once (values e contentName) (text-is (c .content) (v .text));
+      id = once (values e (ascii "id")) (hex-is (v .id32 .each));
+      pubkey = once (values e (ascii "pubkey")) (hex-is (v .pubkey32 .each));
+      sig = once (values e (ascii "sig")) (hex-is (v .sig64 .each));
+      createdAt = once (values e (ascii "created_at")) (number-is (e .createdAt));
+      kind = once (values e (ascii "kind")) (number-is (e .kind));
+      tags = once (values e (ascii "tags")) (is-array (each-is IsTag tagTree (tags-are (c .texts) (v .each))));
+      content = once (values e (ascii "content")) (text-is (c .content) (v .text));
     }
 
 -- the one name that is ignored has a string
 shallow : (e : Event) → Shallow (members e)
 unfolding within
 shallow e =
-    known (name-chars idName refl) first
-    (known (name-chars pubkeyName refl) (later first)
-    (known (name-chars sigName refl) (later (later first))
-    (known (name-chars createdAtName refl) (later (later (later first)))
+    known (name-chars (ascii "id") refl) first
+    (known (name-chars (ascii "pubkey") refl) (later first)
+    (known (name-chars (ascii "sig") refl) (later (later first))
+    (known (name-chars (ascii "created_at") refl) (later (later (later first)))
     (ignored {v = json.string (nsonField (counts e))} (omega arith)
-    (known (name-chars kindName refl) (later (later (later (later first))))
-    (known (name-chars contentName refl) (later (later (later (later (later (later first))))))
-    (known (name-chars tagsName refl) (later (later (later (later (later first))))) no-member)))))))
+    (known (name-chars (ascii "kind") refl) (later (later (later (later first))))
+    (known (name-chars (ascii "content") refl) (later (later (later (later (later (later first))))))
+    (known (name-chars (ascii "tags") refl) (later (later (later (later (later first))))) no-member)))))))
 
 -- THE meaning: the tree of an event's text is the event
 pub tree-event : {e : Event} → Carries e → Valid e → IsEvent (tree e) e

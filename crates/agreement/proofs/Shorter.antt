@@ -1,5 +1,7 @@
--- The strict form of the event of a JSON text is no longer than the text: a reader that is lent as many bytes as the text has never lacks room.
--- Piece by piece: a text is no longer than its spelling, an element than its string with a comma, a field than its member; then over the members.
+-- The strict form of the event of a JSON text is no longer than the text: a reader that is lent as many bytes as the
+-- text has never lacks room.
+-- Piece by piece: a text is no longer than its spelling, an element than its string with a comma, a field than its
+-- member; then over the members.
 use Prim.Native.Nat.{ℕ, zero, suc, _+_, _*_, _-_, _^_, _<_, _≤_}
 use mathlib.Core.Path.{_≡_, refl, subst}
 use mathlib.Core.Bool.{Bool, true, false}
@@ -8,8 +10,8 @@ use native.Mathlib.Omega.{arith}
 use native.Mathlib.Nat.{pow-succ'}
 use lib.ListN.{length, set, length-append}
 use Rattle.scan.specs.Choice.{pick, shown}
-use Rattle.scan.specs.Span.{All}
-use Rattle.scan.specs.Span as span
+use Rattle.scan.specs.Bytes.{All}
+use Rattle.scan.specs.Bytes as span
 use Rattle.varint.specs.Uleb.{uleb}
 use Rattle.varint.proofs.UlebLaws.{length-uleb}
 use Rattle.hex.specs.Hex.{unhex, goesAsBytes}
@@ -20,8 +22,9 @@ use Rattle.jsontext.specs.Grammar as json
 use Rattle.jsontext.proofs.Meaning.{chars-same}
 use Rattle.notepack.specs.Strict.{packElement, packElements, packTag, packTags, pack}
 use Rattle.json.specs.Meaning.{IsText, is-text, IsHex, is-hex, IsNumber, is-number, Each, IsArray, is-array, IsTag, IsEvent}
-use Rattle.json.specs.Field.{Value, missing, bytes, number, tags, text}
-use Rattle.json.specs.Object.{Fields, isMissing, field, readJson}
+use Rattle.json.specs.Field.{Value, missing, bytes, number, tags, text, Fields, field}
+use Rattle.json.specs.Object.{readJson}
+use Rattle.json.specs.inner.Closing.{isMissing}
 use Rattle.json.proofs.Says.{FieldSays, id-says, pubkey-says, sig-says, time-says, kind-says, tags-says, content-says, ignored-says, fieldsOf}
 use Rattle.json.proofs.Tracks.{Tracks, no-more, then, event-tracks, no-event}
 use Rattle.json.proofs.Whole.{sound}

@@ -2,7 +2,7 @@
 -- By induction on their items.
 use Prim.Native.Nat.{ℕ}
 use mathlib.Core.List.{List, [], _∷_, map}
-use Rattle.scan.specs.Span.{All, none, also}
+use Rattle.scan.specs.Bytes.{All, none, also}
 use Rattle.jsontags.specs.TagText.{commaed, array}
 use Rattle.jsontext.specs.Grammar as json
 use Rattle.jsontext.proofs.Compact.{items, arrayOf, more-items, array-text, array-none}

@@ -6,7 +6,7 @@ use mathlib.Core.Bool.{true}
 use mathlib.Core.List.{List, [], _∷_}
 use lib.Dec.{eqb}
 use borrow.Author.Tests.{eqb-true, eqb-false}
-use Rattle.scan.specs.Span.{All}
+use Rattle.scan.specs.Bytes.{All}
 use Rattle.scan.proofs.Step.{pick-by}
 use Rattle.scan.proofs.AllLaws.{all-map}
 use Rattle.utf8.specs.Utf8 as utf8

@@ -1,4 +1,5 @@
--- Demand 3's sentences on the NSON writer: it writes the event's text exactly if NSON can carry it and there is room, and both readers show the event again.
+-- Demand 3's sentences on the NSON writer: it writes the event's text exactly if NSON can carry it and there is room,
+-- and both readers show the event again.
 -- By the cases of the reading, of what can be carried, and of room.
 use Prim.Native.Nat.{ℕ}
 use mathlib.Core.Path.{_≡_, refl, sym, ap, _∙_}
@@ -17,7 +18,8 @@ use Rattle.notepack.specs.Unpack.{unpack}
 use Rattle.notepack.specs.Strict.{pack}
 use Rattle.notepack.proofs.Sound as packed
 use Rattle.nson.specs.Nson.{nson}
-use Rattle.nson.specs.Carries.{Carries, carries}
+use Rattle.nson.specs.Carries.{Carries}
+use Rattle.nson.specs.inner.Decision.{carries}
 use Rattle.nson.proofs.Complete as complete
 use Rattle.nson.proofs.Decision.{carries-exactly}
 use Rattle.nson.specs.Entries.{carried, nsonWrites, writerLeaves}

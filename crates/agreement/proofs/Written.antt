@@ -5,20 +5,19 @@ use mathlib.Core.Path.{refl, subst}
 use mathlib.Core.List.{List, [], _∷_, append-nil}
 use native.Mathlib.Omega.{arith}
 use lib.ListN.{length}
+use Rattle.scan.specs.Ascii.{ascii}
 use Rattle.scan.specs.Place.{within}
-use Rattle.scan.specs.Span.{All, none, also, IsBytes}
+use Rattle.scan.specs.Bytes.{All, none, also, IsBytes}
 use Rattle.scan.proofs.AllLaws.{all-append}
 use Rattle.utf8.specs.Utf8.{Utf8}
 use Rattle.escape.specs.Escape.{nsonByte}
 use Rattle.event.specs.Event.{Text, Tag, Event, ValidTag, Valid}
 use Rattle.jsontags.specs.TagText.{quoted, tagText, tagsText}
 use Rattle.jsontext.specs.Grammar as json
-use Rattle.json.specs.Meaning.{idName, pubkeyName, sigName, createdAtName, kindName, tagsName, contentName}
 use Rattle.nson.specs.Nson.{Counts, counts, word, words, tagCounts, descriptors, nsonField, nson}
 use Rattle.nson.specs.Carries.{Fits, Carries}
 use Rattle.nson.proofs.Counts.{Short, TagCounts, Holds}
 use Rattle.nson.proofs.Carrying.{descriptors-length, carried-holds}
-use Rattle.agreement.specs.Counted.{nsonName}
 use Rattle.jsontext.proofs.Compact.{hexes-chars, name-chars, decimal-number, string-spells, member-spells, more-members, object-text}
 use Rattle.agreement.proofs.Texts.{nson-chars}
 use Rattle.agreement.proofs.Spelled.{Spelt, array-spells}
@@ -81,14 +80,14 @@ tree-spells : {e : Event} → Carries e → Valid e → json.SpellsMembers (memb
 unfolding within
 tree-spells {e} c v =
     let fit = c .content in
-    let tags = member-spells (name-chars tagsName refl) (tags-spell (c .texts) (v .each)) in
-    let content = member-spells (name-chars contentName refl) (string-spells (nson-chars (v .text) (fit .plain))) in
-    let kind = member-spells (name-chars kindName refl) (json.is-number (decimal-number (e .kind))) in
-    let nson = member-spells (name-chars nsonName refl) (string-spells (field-chars c v)) in
-    let time = member-spells (name-chars createdAtName refl) (json.is-number (decimal-number (e .createdAt))) in
-    let sig = member-spells (name-chars sigName refl) (string-spells (hexes-chars (v .sig64 .each))) in
-    let pubkey = member-spells (name-chars pubkeyName refl) (string-spells (hexes-chars (v .pubkey32 .each))) in
-    let id = member-spells (name-chars idName refl) (string-spells (hexes-chars (v .id32 .each))) in
+    let tags = member-spells (name-chars (ascii "tags") refl) (tags-spell (c .texts) (v .each)) in
+    let content = member-spells (name-chars (ascii "content") refl) (string-spells (nson-chars (v .text) (fit .plain))) in
+    let kind = member-spells (name-chars (ascii "kind") refl) (json.is-number (decimal-number (e .kind))) in
+    let nson = member-spells (name-chars (ascii "nson") refl) (string-spells (field-chars c v)) in
+    let time = member-spells (name-chars (ascii "created_at") refl) (json.is-number (decimal-number (e .createdAt))) in
+    let sig = member-spells (name-chars (ascii "sig") refl) (string-spells (hexes-chars (v .sig64 .each))) in
+    let pubkey = member-spells (name-chars (ascii "pubkey") refl) (string-spells (hexes-chars (v .pubkey32 .each))) in
+    let id = member-spells (name-chars (ascii "id") refl) (string-spells (hexes-chars (v .id32 .each))) in
     more-members id (more-members pubkey (more-members sig (more-members time (more-members nson (more-members kind (more-members content (json.last-member tags)))))))
 
 -- THE text: what the NSON writer writes is a JSON text, and its tree is `tree`

@@ -1,10 +1,11 @@
--- Demand 3, sentence by sentence: each formal line stands under the words that it is of. `proofs/Demand3` proves them all. Assumes nothing.
+-- Demand 3 (rules 12.3), sentence by sentence: each formal line stands under the words that it is of. `proofs/Demand3`
+-- proves them all. Assumes nothing.
 use Prim.Native.Nat.{ℕ, _<_, _≤_}
 use mathlib.Core.Path.{_≡_}
 use mathlib.Core.List.{List, _++_}
 use lib.ListN.{length, take, drop}
 use Rattle.scan.specs.Choice.{Answer, shown, refused, read}
-use Rattle.scan.specs.Span.{IsBytes}
+use Rattle.scan.specs.Bytes.{IsBytes}
 use Rattle.event.specs.Event.{Event}
 use Rattle.jsontext.specs.Grammar as json
 use Rattle.notepack.specs.Unpack.{unpack}
@@ -19,23 +20,24 @@ use Rattle.agreement.specs.Counted.{OtherField, TrueCounts, FieldHolds}
 
 -- ---- the readers
 
--- "The desk that knows NSON and the partner that doesn't never show two different events for one byte string."
+-- No byte string is two events (12.3.1).
 abbrev pub NeverTwo : Type 0
 NeverTwo = (s : List ℕ) (a b : Event) → readNson s ≡ shown a → readJson s ≡ shown b → a ≡ b
 
--- "Take any byte string at all. If the NSON reader [..] accepts it, then the plain JSON reader [..] accepts it too":
--- what either is lent does not matter here
+-- What the NSON reader accepts the plain JSON reader accepts, as the same event (12.3.2); what either is lent does not
+-- matter here.
 abbrev pub BothAccept : Type 0
 BothAccept = (s : List ℕ) (e : Event) → readNson s ≡ shown e → readJson s ≡ shown e
 
--- "the plain JSON reader, which ignores that field": with another value there, with the field added or without it, it shows the same event
+-- The nson field is nothing to the plain JSON reader (12.3.4): with another value there, with the field added or
+-- without it, it shows the same event.
 abbrev pub FieldIgnored : Type 0
 FieldIgnored =
     (s t : List ℕ) (m k : json.Members) (e : Event) → json.JsonText (json.object m) s → json.JsonText (json.object k) t → OtherField m k → length t ≤ 65_536
     → readJson s ≡ shown e → readJson t ≡ shown e
 
--- "given room. Both then show the same event: the same length written and the same bytes."
--- "the NSON and JSON readers show the event whose strict form they leave" (document 01). d₁ and d₂ are what the two were lent.
+-- Given room, both write the same bytes, which are the strict form of the event (12.3.3). d₁ and d₂ are what the two
+-- were lent.
 pub record SameShown (s d₁ d₂ : List ℕ) (n : ℕ) : Type 0 where
   pub event : Event
   pub nson-shows : readNson s ≡ shown event
@@ -49,34 +51,33 @@ pub record SameShown (s d₁ d₂ : List ℕ) (n : ℕ) : Type 0 where
 abbrev pub GivenRoom : Type 0
 GivenRoom = (s d₁ d₂ : List ℕ) (n : ℕ) → nsonReads s d₁ ≡ shown n → n ≤ length d₂ → SameShown s d₁ d₂ n
 
--- "Where the NSON reader lacks nothing but room": lent d it wrote n bytes, or refused with 11 and named n
+-- Room is all that the NSON reader can lack: lent d it wrote n bytes, or refused with 11 and named n.
 pub data OnlyRoom (s : List ℕ) (n : ℕ) : Type 0 where
   had : (d : List ℕ) → nsonReads s d ≡ shown n → OnlyRoom s n
   lacked : (d : List ℕ) → nsonReads s d ≡ refused 11 n → OnlyRoom s n
 
--- "either reader, lent too little, names the same length needed", whatever it was lent
+-- Lent fewer than n bytes, either reader answers 11 with n (12.3.5).
 abbrev pub SameNeed : Type 0
 SameNeed = (s : List ℕ) (n : ℕ) → OnlyRoom s n → (d : List ℕ) → length d < n → (nsonReads s d ≡ refused 11 n) × (jsonReads s d ≡ refused 11 n)
 
--- and that length is enough for either
+-- With n bytes or more either reader writes n (12.3.5).
 abbrev pub NeedEnough : Type 0
 NeedEnough = (s : List ℕ) (n : ℕ) → OnlyRoom s n → (d : List ℕ) → n ≤ length d → (nsonReads s d ≡ shown n) × (jsonReads s d ≡ shown n)
 
--- "Room is enough when the lent buffer is no shorter than the bytes to be written" (document 01): a buffer as long as the text always is
+-- A buffer as long as the text has room (12.3.6).
 abbrev pub TextEnough : Type 0
 TextEnough = (s : List ℕ) (e : Event) → (readJson s ≡ shown e → length (pack e) ≤ length s) × (readNson s ≡ shown e → length (pack e) ≤ length s)
 
 -- ---- the counts
 
--- "The NSON reader accepts no string whose nson field holds a count that lies": whatever size and counts the nson field of the accepted
--- text holds, they are true
+-- Whatever size and counts the nson field of an accepted text holds, they are true (12.3.8).
 abbrev pub NoLie : Type 0
 NoLie =
     (s : List ℕ) (e : Event) → readNson s ≡ shown e → (m : json.Members) → json.JsonText (json.object m) s → (size : ℕ) (c : Counts) → FieldHolds m size c
     → TrueCounts m size c
 
--- and it does hold some: an accepted string is a JSON text, of one object and of no other value, and its nson field holds the very size and
--- counts that the reader follows
+-- And it does hold some (12.3.9): an accepted string is a JSON text, of one object and of no other value, and its nson
+-- field holds the very size and counts that the reader follows.
 pub record Followed (s : List ℕ) : Type 0 where
   pub members : json.Members
   pub text : json.JsonText (json.object members) s
@@ -91,15 +92,14 @@ CountsFollowed = (s : List ℕ) (e : Event) → readNson s ≡ shown e → Follo
 
 -- ---- the writer
 
--- "In the other direction, take any bytes as a packed event. If the notepack reader accepts them and NSON can carry the event by document 01,
--- the NSON writer, given room, .."
+-- A packed event that is accepted, that NSON can carry, and that has room in d ..
 pub record Writable (s d : List ℕ) : Type 0 where
   pub event : Event
   pub accepted : unpack s ≡ shown event
   pub carries : Carries event
   pub room : length (nson event) ≤ length d
 
--- ".. writes it": its length, its text from the start of d, and behind it d as it was
+-- .. is written (12.3.10): its length is told, its text stands at the start of d, and behind it d is as it was.
 pub record Writes (s d : List ℕ) (e : Event) : Type 0 where
   pub written : nsonWrites s d ≡ shown (length (nson e))
   pub left : writerLeaves s d ≡ nson e ++ drop (length (nson e)) d
@@ -107,14 +107,15 @@ pub record Writes (s d : List ℕ) (e : Event) : Type 0 where
 abbrev pub WriterWrites : Type 0
 WriterWrites = (s d : List ℕ) (w : Writable s d) → Writes s d (w .event)
 
--- "otherwise it writes nothing"
+-- Any other is refused, and d stays as it was (12.3.11).
 pub data Refused : Answer ℕ → Type 0 where
   is-refused : {n p : ℕ} → Refused (refused n p)
 
 abbrev pub OrNothing : Type 0
 OrNothing = (s d : List ℕ) → (Writable s d → ⊥) → Refused (nsonWrites s d) × (writerLeaves s d ≡ d)
 
--- and it says why: the notepack reader's own refusal; 17 at 0 where NSON can't carry the event; 11 with the length needed
+-- The refusal says why (12.3.11): it is that of the reader of packed events; or 17 at 0, where NSON can't carry the
+-- event; or 11 with the length needed.
 abbrev pub WriterRefusals : Type 0
 WriterRefusals =
     (s d : List ℕ)
@@ -122,8 +123,8 @@ WriterRefusals =
     × ((e : Event) → unpack s ≡ shown e → (Carries e → ⊥) → nsonWrites s d ≡ refused 17 0)
     × ((e : Event) → unpack s ≡ shown e → Carries e → length d < length (nson e) → nsonWrites s d ≡ refused 11 (length (nson e)))
 
--- "The NSON reader and the plain JSON reader, given room, both accept what was written and show the event as it was":
--- t is what was written, d₂ the buffer that a reader is lent. (`IsBytes s`: the packed input is bytes.)
+-- Both readers show again what was written (12.3.12): t is what was written, d₂ the buffer that a reader is lent.
+-- (`IsBytes s`: the packed input is bytes.)
 pub record ShowsAgain (t d₂ : List ℕ) (e : Event) : Type 0 where
   pub nson-shows : readNson t ≡ shown e
   pub json-shows : readJson t ≡ shown e
@@ -135,20 +136,3 @@ pub record ShowsAgain (t d₂ : List ℕ) (e : Event) : Type 0 where
 abbrev pub ReadBack : Type 0
 ReadBack =
     (s d d₂ : List ℕ) (e : Event) (n : ℕ) → IsBytes s → unpack s ≡ shown e → nsonWrites s d ≡ shown n → ShowsAgain (take n (writerLeaves s d)) d₂ e
-
--- ---- all of it
-
-pub record Demand3 : Type 0 where
-  pub never-two : NeverTwo
-  pub both-accept : BothAccept
-  pub field-ignored : FieldIgnored
-  pub given-room : GivenRoom
-  pub same-need : SameNeed
-  pub need-enough : NeedEnough
-  pub text-enough : TextEnough
-  pub no-lie : NoLie
-  pub counts-followed : CountsFollowed
-  pub writer-writes : WriterWrites
-  pub or-nothing : OrNothing
-  pub writer-refusals : WriterRefusals
-  pub read-back : ReadBack

@@ -1,5 +1,7 @@
--- How the two readers compare, and what is left in each buffer, for each outcome of the two measurings: by the cases of the two readings.
--- Demand 3 is not used there. It then says which outcomes there are: 2 exactly where the NSON reader accepts, 1 exactly where JSON alone does.
+-- How the two readers compare, and what is left in each buffer, for each outcome of the two measurings: by the cases of
+-- the two readings.
+-- Demand 3 is not used there. It then says which outcomes there are: 2 exactly where the NSON reader accepts, 1 exactly
+-- where JSON alone does.
 use Prim.Native.Nat.{ℕ, _≤_, _<_}
 use mathlib.Core.Path.{_≡_, refl, sym, ap, _∙_}
 use mathlib.Core.Bool.{Bool, true, false}
@@ -19,9 +21,11 @@ use Rattle.scan.proofs.CompareLaws.{same-same}
 use Rattle.scan.proofs.Many.{shown-same}
 use Rattle.notepack.specs.Strict.{pack}
 use Rattle.json.specs.Object.{readJson}
-use Rattle.json.specs.Entries.{jsonLeaves, jsonNeeds}
+use Rattle.json.specs.Entries.{jsonLeaves}
+use Rattle.json.specs.inner.Needs.{jsonNeeds}
 use Rattle.nson.specs.Read.{readNson}
-use Rattle.nson.specs.Entries.{nsonLeaves, nsonNeeds}
+use Rattle.nson.specs.Entries.{nsonLeaves}
+use Rattle.nson.specs.inner.Needs.{nsonNeeds}
 use Rattle.agreement.proofs.Agree.{both-accept}
 use Rattle.agreement.proofs.Entries.{fits}
 use Rattle.bothreaders.specs.Both.{Compared, compared, bothOf, firstOf, secondOf, both, bothFirst, bothSecond}

@@ -1,5 +1,6 @@
--- Both readers over one text s, the NSON reader lent d₁ and the plain JSON reader d₂: how what they show compares, the length written, and what
--- is left in each buffer. Where the plain JSON reader refuses, its refusal is the answer. Assumes nothing.
+-- Both readers over one text s, the NSON reader lent d₁ and the plain JSON reader d₂: how what they show compares, the
+-- length written, and what is left in each buffer. Where the plain JSON reader refuses, its refusal is the answer.
+-- Assumes nothing.
 use Prim.Native.Nat.{ℕ}
 use mathlib.Core.List.{List}
 use lib.ListN.{length}
@@ -12,7 +13,8 @@ use Rattle.notepack.specs.Strict.{pack}
 use Rattle.json.specs.Object.{readJson}
 use Rattle.nson.specs.Read.{readNson}
 
--- 1: the plain JSON reader shows the event and the NSON reader does not (or another, which demand 3 rules out); 2: both show it. And the length of the event's strict form.
+-- 1: the plain JSON reader shows the event and the NSON reader does not (or another, which rule 12.3.1 rules out); 2:
+-- both show it. And the length of the event's strict form.
 pub record Compared : Type 0 where
   pub which : ℕ
   pub len : ℕ

@@ -1,4 +1,5 @@
-// Both readers over one text: the plain JSON reader's refusal, or what it shows and whether the NSON reader shows the same.
+// Both readers over one text: the plain JSON reader's refusal, or what it shows and whether the NSON reader shows the
+// same.
 use event::Refusal;
 use event::Writing;
 ghost use mathlib.Core.Path.{_≡_};
@@ -8,7 +9,7 @@ ghost use Rattle.scan.specs.Compare.{sameBytes};
 ghost use Rattle.json.specs.Entries.{jsonLeaves};
 ghost use Rattle.nson.specs.Entries.{nsonLeaves};
 ghost use Rattle.bothreaders.specs.Both.{both, bothFirst, bothSecond};
-ghost use Rattle.bothreaders.specs.Answers.{bothRead};
+ghost use Rattle.bothreaders.specs.inner.Answers.{bothRead};
 
 // Which readers show the event, with the length of its strict form; or the refusal.
 pub enum BothRead {

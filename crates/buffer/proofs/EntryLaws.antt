@@ -1,4 +1,5 @@
--- An entry that measured its text and refused where it does not fit leaves the text from the start and the rest unchanged.
+-- An entry that measured its text and refused where it does not fit leaves the text from the start and the rest
+-- unchanged.
 -- The one place where `puts` is turned into `++`.
 use Prim.Native.Nat.{ℕ, _+_, _<_, _≤_}
 use mathlib.Core.Path.{_≡_, ap, _∙_}
@@ -8,7 +9,7 @@ use native.Mathlib.Omega.{arith}
 use lib.ListN.{length, drop}
 use borrow.Author.Tests.{le-leb, lt-leb}
 use Rattle.scan.specs.Choice.{Answer, shown, refused}
-use Rattle.buffer.specs.Store.{Buffer, puts, Wrote}
+use Rattle.buffer.specs.inner.Store.{Buffer, puts, Wrote}
 use Rattle.buffer.specs.Entry.{written, filled}
 use Rattle.buffer.proofs.Laws.{puts-eq}
 

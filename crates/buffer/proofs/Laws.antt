@@ -1,4 +1,5 @@
--- The laws of `puts`: what is written in parts is written whole, and what fits is there from the start with the rest unchanged.
+-- The laws of `puts`: what is written in parts is written whole, and what fits is there from the start with the rest
+-- unchanged.
 -- `Wrote` goes by composition with no condition on room; `Left` is a loop's invariant, what is still to be written.
 use Prim.Native.Nat.{ℕ, zero, suc, _+_, _-_, _<_, _≤_}
 use mathlib.Core.Path.{_≡_, refl, sym, ap, _∙_}
@@ -14,7 +15,7 @@ use lib.Seq.{sets, sets-eq}
 use lib.Dec.{ltb}
 use borrow.Author.Tests.{lt-ltb, le-ltb}
 use Rattle.scan.specs.Choice.{pick}
-use Rattle.buffer.specs.Store.{Buffer, put, puts, Wrote}
+use Rattle.buffer.specs.inner.Store.{Buffer, put, puts, Wrote}
 
 -- on the way: writing `left` to d′ at o completes what writing `all` to d at `at` makes
 pub record Left (d : List ℕ) (at : ℕ) (all : List ℕ) (d′ : List ℕ) (o : ℕ) (left : List ℕ) : Type 0 where

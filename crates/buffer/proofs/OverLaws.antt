@@ -9,7 +9,7 @@ use native.Mathlib.Omega.{arith}
 use native.Mathlib.Decide.{decLt}
 use lib.ListN.{length, set, length-set}
 use lib.Seq.{set-set, set-comm}
-use Rattle.buffer.specs.Store.{Buffer, puts, Wrote}
+use Rattle.buffer.specs.inner.Store.{Buffer, puts, Wrote}
 use Rattle.buffer.proofs.Laws.{Left, byte, length-puts, puts-append, put-room, puts-full, puts-eq}
 
 -- a store before the place where writing goes on

@@ -9,7 +9,7 @@ use native.Mathlib.Omega.{arith}
 use native.Mathlib.Decide.{decLt}
 use lib.Seq.{take-append-le}
 use lib.ListN.{length, take, drop, take-append-drop, length-take, length-drop, length-append}
-use Rattle.buffer.specs.Store.{Buffer, puts, Wrote}
+use Rattle.buffer.specs.inner.Store.{Buffer, puts, Wrote}
 use Rattle.scan.proofs.Step.{rest-none}
 use Rattle.buffer.proofs.Laws.{puts-append, puts-eq, puts-full, cut}
 

@@ -2,7 +2,7 @@
 ghost use Prim.Native.Nat.{_+_, _≤_};
 ghost use mathlib.Core.List.{[], _∷_};
 ghost use lib.ListN.{length, take, drop};
-ghost use Rattle.buffer.specs.Store.{Wrote};
+ghost use Rattle.buffer.specs.inner.Store.{Wrote};
 
 // One byte.
 pub fn put_byte(out: &mut [u8], at: usize, b: u8) -> usize

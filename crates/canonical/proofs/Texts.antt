@@ -5,7 +5,7 @@ use mathlib.Core.Path.{_≡_, sym, _∙_}
 use mathlib.Core.List.{List, [], _∷_, _++_, append-assoc}
 use native.Mathlib.Omega.{arith}
 use lib.ListN.{length, length-append}
-use Rattle.scan.specs.Span.{IsBytes}
+use Rattle.scan.specs.Bytes.{IsBytes}
 use Rattle.decimal.specs.Decimal.{decimal}
 use Rattle.escape.specs.declared.Escaping.the-variants.{Canonical}
 use Rattle.escape.specs.Escape.{canonicalByte, escaped}

@@ -7,9 +7,9 @@ use mathlib.Core.List.{List, [], _∷_, _++_, map, append-assoc}
 use native.Mathlib.Omega.{arith}
 use lib.ListN.{length, take, drop, length-append, length-take}
 use Rattle.scan.specs.Choice.{Answer, shown, refused}
-use Rattle.scan.specs.Span.{IsBytes}
+use Rattle.scan.specs.Bytes.{IsBytes}
 use Rattle.scan.proofs.AllLaws.{all-take, all-drop}
-use Rattle.buffer.specs.Store.{Wrote}
+use Rattle.buffer.specs.inner.Store.{Wrote}
 use Rattle.buffer.specs.Entry.{writes, leaves}
 use Rattle.buffer.proofs.EntryLaws.{short, fitted}
 use Rattle.decimal.specs.Decimal.{decimal}
@@ -21,8 +21,8 @@ use Rattle.event.specs.Event.{Event, Valid}
 use Rattle.notepack.specs.declared.Head.{Head}
 use Rattle.notepack.specs.Strict.{packTags, pack}
 use Rattle.notepack.specs.Unpack.{textOf, unpack}
-use Rattle.notepack.specs.Again.{tagsAgain, eventAgain}
-use Rattle.notepack.specs.Answers.{Walked, walkAt}
+use Rattle.notepack.specs.inner.Again.{tagsAgain, eventAgain}
+use Rattle.notepack.specs.inner.Answers.{Walked, walkAt}
 use Rattle.notepack.proofs.Sound.{sound}
 use Rattle.notepack.proofs.Walking.{walk-refuses}
 use Rattle.notepack.proofs.Again.{Accepted}
@@ -30,7 +30,7 @@ use Rattle.jsontags.specs.TagText.{quoted, commaed, tagText, tagsText}
 use Rattle.jsontags.proofs.Texts.{quoted-hexes, length-quoted, length-array}
 use Rattle.jsontags.proofs.Room.{arrays-room}
 use Rattle.canonical.specs.Canonical.{canonical}
-use Rattle.canonical.specs.Front.{canonicalFront}
+use Rattle.canonical.specs.inner.Front.{canonicalFront}
 use Rattle.canonical.proofs.Texts.{length-canonical}
 
 -- the writer's pieces in a row are the text

@@ -1,7 +1,8 @@
--- The canonical text of NIP-01 (document 01, "Canonical text"), over which an event's id is taken: JSON without white
+-- The canonical text of NIP-01 (rules 5), over which an event's id is taken: JSON without white
 -- space. Assumes nothing.
 use Prim.Native.Nat.{ℕ}
 use mathlib.Core.List.{List, [], _∷_}
+use Rattle.scan.specs.Ascii.{ascii}
 use Rattle.hex.specs.Hex.{hexes}
 use Rattle.decimal.specs.Decimal.{decimal}
 use Rattle.escape.specs.Escape.{canonicalByte}
@@ -11,7 +12,7 @@ use Rattle.jsontags.specs.TagText.{quoted, array, tagsText}
 -- [0,"pubkey",created_at,kind,tags,"content"], item by item
 abbrev pub items : Event → List (List ℕ)
 items e =
-    (0x30 ∷ [])
+    ascii "0"
     ∷ quoted canonicalByte (hexes (e .pubkey))
     ∷ decimal (e .createdAt)
     ∷ decimal (e .kind)

@@ -1,2 +1,2 @@
 pub mod Canonical
-pub mod Front
+pub mod inner

@@ -9,15 +9,15 @@ ghost use Prim.Native.Nat.{_+_, _*_, _≤_};
 ghost use mathlib.Core.Path.{_≡_};
 ghost use mathlib.Core.List.{map};
 ghost use lib.ListN.{length};
-ghost use Rattle.buffer.specs.Store.{Wrote};
+ghost use Rattle.buffer.specs.inner.Store.{Wrote};
 ghost use Rattle.buffer.specs.Entry.{writes, leaves};
-ghost use Rattle.event.specs.Answers.{writing};
+ghost use Rattle.event.specs.inner.Told.{writing};
 ghost use Rattle.escape.specs.Escape.{canonicalByte};
 ghost use Rattle.notepack.specs.Unpack.{textOf, unpack};
-ghost use Rattle.notepack.specs.Again.{textsAgain, textsEnd, tagsAgain, eventAgain};
+ghost use Rattle.notepack.specs.inner.Again.{textsAgain, textsEnd, tagsAgain, eventAgain};
 ghost use Rattle.jsontags.specs.TagText.{quoted, commaed, tagText};
 ghost use Rattle.canonical.specs.Canonical.{canonical};
-ghost use Rattle.canonical.specs.Front.{canonicalFront};
+ghost use Rattle.canonical.specs.inner.Front.{canonicalFront};
 
 // A length, and the place behind what was measured.
 struct Measured {

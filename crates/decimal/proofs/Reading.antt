@@ -13,11 +13,13 @@ use lib.Dec.{leb}
 use borrow.Author.Tests.{le-leb, lt-leb, leb-true, eq-eqb, ne-eqb}
 use Rattle.scan.specs.Choice.{pick}
 use Rattle.scan.specs.Place.{within, run, runAt}
-use Rattle.scan.specs.Span.{Span, here, All}
+use Rattle.scan.specs.Bytes.{All}
+use Rattle.scan.specs.inner.Span.{here, Span}
 use Rattle.scan.proofs.Step.{byte-none, pick-true, pick-by}
 use Rattle.scan.proofs.SpanLaws.{span-length, none-span, from-span, place}
 use Rattle.scan.proofs.PlaceLaws.{span-run, run-span}
-use Rattle.decimal.specs.Decimal.{DecimalDigit, digit, isDigit, numberOf, decimal, Digits, number, over, digitsTo, digitsAt}
+use Rattle.decimal.specs.Decimal.{DecimalDigit, digit, isDigit, numberOf, decimal}
+use Rattle.decimal.specs.inner.Run.{number, over, Digits, digitsTo, digitsAt}
 use Rattle.decimal.proofs.Spelling.{length-some, decimal-digits, number-decimal}
 
 -- ---- the test of a digit

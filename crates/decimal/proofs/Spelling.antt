@@ -1,5 +1,7 @@
--- The decimal spelling: its digits, its length, and that it reads back to its number and is the only one without a leading zero.
--- Everything goes by `decimal-last` and `decimal-more`: a number below 10 is one digit, and any other is the spelling of n / 10 and then n % 10.
+-- The decimal spelling: its digits, its length, and that it reads back to its number and is the only one without a
+-- leading zero.
+-- Everything goes by `decimal-last` and `decimal-more`: a number below 10 is one digit, and any other is the spelling
+-- of n / 10 and then n % 10.
 use Prim.Native.Nat.{ℕ, zero, suc, _+_, _*_, _-_, _/_, _%_, _^_, _<_, _≤_}
 use mathlib.Core.Path.{_≡_, refl, sym, ap, _∙_}
 use mathlib.Core.List.{List, [], _∷_, _++_, append-nil, append-assoc}
@@ -9,7 +11,7 @@ use native.Mathlib.Omega.{arith}
 use native.Mathlib.Decide.{decLt, decLe, ℕ-discrete}
 use lib.ListN.{length, getD, length-append, List·getD-append}
 use borrow.Author.Tests.{lt-ltb, le-ltb}
-use Rattle.scan.specs.Span.{All, none, also}
+use Rattle.scan.specs.Bytes.{All, none, also}
 use Rattle.scan.proofs.AllLaws.{all-append}
 use Rattle.decimal.specs.Decimal.{DecimalDigit, digit, behind, numberOf, decimalIn, decimal}
 
@@ -150,7 +152,8 @@ decimal-behind n h (also {b = b} {l = l} (digit p q) r) =
     let d : 48 + m % 10 ≡ b = omega arith in
     decimal-behind m (omega arith) r ∙ rw (decimal-more m (omega arith), t, d) (append-assoc (decimal n) (b ∷ []) l)
 
--- the spelling is the only one: digits with no leading zero, unless 0 stands alone, are what is written for their number
+-- the spelling is the only one: digits with no leading zero, unless 0 stands alone, are what is written for their
+-- number
 pub decimal-unique : (b : ℕ) (l : List ℕ) → All DecimalDigit (b ∷ l) → (b ≡ 48 → l ≡ []) → decimal (numberOf (b ∷ l)) ≡ b ∷ l
 decimal-unique b l (also (digit p q) r) lone =
     dite (ℕ-discrete b 48)

@@ -13,11 +13,13 @@ use mir.Syntax.{w64}
 use mir.Val.{Fits}
 use borrow.Author.Tests.{le-leb, lt-leb, leb-true, leb-false}
 use Rattle.scan.specs.Place.{runAt}
-use Rattle.scan.specs.Span.{Span, here, step, All, none, also}
+use Rattle.scan.specs.Bytes.{All, none, also}
+use Rattle.scan.specs.inner.Span.{here, step, Span}
 use Rattle.scan.proofs.Step.{false-true}
 use Rattle.scan.proofs.SpanLaws.{join, open-span, none-span, span-length}
 use Rattle.scan.proofs.PlaceLaws.{run-span}
-use Rattle.decimal.specs.Decimal.{DecimalDigit, digit, isDigit, behind, numberOf, Digits, number, over, digitsAt}
+use Rattle.decimal.specs.Decimal.{DecimalDigit, digit, isDigit, behind, numberOf}
+use Rattle.decimal.specs.inner.Run.{number, over, Digits, digitsAt}
 use Rattle.scan.proofs.AllLaws.{all-append}
 use Rattle.decimal.proofs.Spelling.{behind-append, behind-grows}
 use Rattle.decimal.proofs.Reading.{passes-digit, run-stops, accepts-number, accepts-over, accepts-none}

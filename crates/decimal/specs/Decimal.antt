@@ -1,13 +1,10 @@
 -- Decimal numbers: the spelling without leading zeros, and a run of digits as it is read. Assumes nothing.
 use Prim.Native.Nat.{ℕ, zero, suc, _+_, _*_, _-_, _/_, _%_, _≤_}
-use mathlib.Core.Bool.{Bool, true, false}
+use mathlib.Core.Bool.{Bool}
 use mathlib.Core.List.{List, [], _∷_, _++_}
-use lib.ListN.{take, drop}
-use lib.Dec.{ltb, leb, eqb}
+use lib.Dec.{ltb}
 use Rattle.scan.specs.Choice.{pick}
-use Rattle.scan.specs.Place.{within, runAt}
-use Rattle.decimal.specs.declared.DecimalRead.{DecimalRead}
-use Rattle.decimal.specs.declared.DecimalRead.the-variants.{Number, Over, NoDigit}
+use Rattle.scan.specs.Place.{within}
 
 -- 0-9
 pub data DecimalDigit : ℕ → Type 0 where
@@ -33,24 +30,3 @@ decimalIn (suc k) n = let longer = decimalIn k (n / 10) ++ ((48 + n % 10) ∷ []
 -- the digits of n, with no leading zero
 unfoldable pub decimal : ℕ → List ℕ
 decimal n = decimalIn n n
-
--- what the run of digits at a place is: a number up to a maximum, over it, or no digit at all
-pub data Digits : Type 0 where
-  number : (value next : ℕ) → Digits
-  over : (next : ℕ) → Digits
-  none : Digits
-
--- the run of digits at `at` that ends at `end`
-unfoldable pub digitsTo : ℕ → List ℕ → ℕ → ℕ → Digits
-digitsTo max s at end =
-    let n = numberOf (take (end - at) (drop at s)) in pick (eqb end at) none (pick (leb n max) (number n end) (over end))
-
--- the longest run of digits at a place
-unfoldable pub digitsAt : ℕ → List ℕ → ℕ → Digits
-digitsAt max s at = digitsTo max s at (runAt isDigit s at)
-
--- the meaning of the code's answer
-abbrev pub decimalRead : DecimalRead → Digits
-decimalRead (Number n c) = number n (c .at)
-decimalRead (Over c) = over (c .at)
-decimalRead NoDigit = none

@@ -3,8 +3,9 @@ ghost use Prim.Native.Nat.{_+_, _*_, _≤_};
 ghost use mathlib.Core.Path.{_≡_};
 ghost use lib.ListN.{length};
 ghost use lib.Dec.{leb};
-ghost use Rattle.buffer.specs.Store.{Wrote};
-ghost use Rattle.decimal.specs.Decimal.{decimal, digitsAt, decimalRead};
+ghost use Rattle.buffer.specs.inner.Store.{Wrote};
+ghost use Rattle.decimal.specs.Decimal.{decimal};
+ghost use Rattle.decimal.specs.inner.Run.{digitsAt, decimalRead};
 
 // A place in the input. A cursor past the end reads as the end.
 pub struct Cursor {

@@ -8,14 +8,15 @@ use native.Mathlib.Omega.{arith}
 use lib.ListN.{length, getD, take, drop, length-append, length-take, length-drop, take-append-drop}
 use lib.Seq.{drop-drop, drop-append-le, take-all, length-take-le, getD-take, getD-drop}
 use Rattle.scan.specs.Choice.{pick}
-use Rattle.scan.specs.Blocks.{beforeStop}
+use Rattle.scan.specs.inner.Blocks.{beforeStop}
 use Rattle.scan.proofs.Step.{rest-none, rest-more, rest-block}
 use Rattle.scan.proofs.BlockLaws.{stop-within, stop-here}
-use Rattle.buffer.specs.Store.{Wrote}
+use Rattle.buffer.specs.inner.Store.{Wrote}
 use Rattle.buffer.proofs.Laws.{Left, also}
 use Rattle.buffer.proofs.OverLaws.{wide}
-use Rattle.escape.specs.Escape.{backslashed, escaped, isUncarried, controls}
-use Rattle.escape.specs.Block.{byteBy, isEscaped, escapeLetter, runOf}
+use Rattle.escape.specs.Escape.{backslashed, escaped}
+use Rattle.escape.specs.inner.Controls.{isUncarried, controls}
+use Rattle.escape.specs.inner.Block.{byteBy, isEscaped, escapeLetter, runOf}
 use Rattle.escape.proofs.ByteLaws.{escaping-by, byte-tests}
 use Rattle.escape.proofs.TextLaws.{escaped-append, length-least}
 

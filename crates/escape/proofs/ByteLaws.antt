@@ -16,8 +16,10 @@ use Rattle.scan.specs.Place.{within}
 use Rattle.scan.proofs.Step.{pick-by}
 use Rattle.escape.specs.declared.Escaping.{Escaping}
 use Rattle.escape.specs.declared.Escaping.the-variants.{Canonical, Nson}
-use Rattle.escape.specs.Escape.{backslashed, nsonByte, canonicalByte, byteOf, meaning}
-use Rattle.escape.specs.Block.{byteBy, isEscaped, escapeLetter}
+use Rattle.escape.specs.Escape.{backslashed, nsonByte, canonicalByte}
+use Rattle.escape.specs.inner.Back.{meaning}
+use Rattle.escape.specs.inner.Which.{byteOf}
+use Rattle.escape.specs.inner.Block.{byteBy, isEscaped, escapeLetter}
 
 -- what a byte becomes: itself, or a backslash and a letter that means it
 pub data Form (b : ℕ) : List ℕ → Type 0 where

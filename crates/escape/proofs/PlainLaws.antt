@@ -7,12 +7,14 @@ use mathlib.Core.List.{List, [], _∷_, _++_}
 use native.Mathlib.Omega.{arith}
 use lib.ListN.{length, length-append}
 use borrow.Author.Tests.{ne-eqb}
-use Rattle.scan.specs.Span.{All, also}
+use Rattle.scan.specs.Bytes.{All, also}
 use Rattle.utf8.specs.Utf8.{octet, Char, one, Utf8, char}
 use Rattle.utf8.proofs.WidthLaws.{char-length}
 use Rattle.utf8.proofs.Laws.{utf8-rest, utf8-char}
-use Rattle.escape.specs.Escape.{backslashed, nsonByte, canonicalByte, escaped, meaning, plainFrom, plain, Carried, newline, other, nsonText}
-use Rattle.escape.specs.Quoted.{Quoted, none, bare, escape, NsonBare, nson-bare, NsonLetter, letter-n, letter-quote, letter-backslash, CanonicalBare, canonical-bare, CanonicalLetter, letter-nson, letter-r, letter-t, letter-b, letter-f}
+use Rattle.escape.specs.Escape.{backslashed, nsonByte, canonicalByte, escaped, Carried, newline, other}
+use Rattle.escape.specs.inner.Controls.{nsonText}
+use Rattle.escape.specs.inner.Back.{meaning, plainFrom, plain}
+use Rattle.escape.specs.inner.Quoted.{Quoted, none, bare, escape, NsonBare, nson-bare, NsonLetter, letter-n, letter-quote, letter-backslash, CanonicalBare, canonical-bare, CanonicalLetter, letter-nson, letter-r, letter-t, letter-b, letter-f}
 use Rattle.escape.proofs.TextLaws.{High, Side, ascii, above, char-side}
 use Rattle.escape.proofs.QuotedLaws.{nson-text}
 

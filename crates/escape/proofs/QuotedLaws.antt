@@ -11,10 +11,11 @@ use native.Mathlib.Decide.{decLt, ℕ-discrete}
 use lib.ListN.{length, length-append}
 use lib.Dec.{eqb}
 use borrow.Author.Tests.{eqb-true, eqb-false, eq-eqb, ne-eqb, lt-ltb, le-ltb}
-use Rattle.scan.specs.Span.{All, also}
+use Rattle.scan.specs.Bytes.{All, also}
 use Rattle.scan.proofs.Step.{pick-by}
-use Rattle.escape.specs.Escape.{backslashed, nsonByte, canonicalByte, escaped, Carried, newline, other, isUncarried, controls, nsonText}
-use Rattle.escape.specs.Quoted.{Quoted, none, bare, escape, NsonBare, nson-bare, NsonLetter, letter-n, letter-quote, letter-backslash, CanonicalBare, canonical-bare, CanonicalLetter, letter-nson, letter-r, letter-t, letter-b, letter-f}
+use Rattle.escape.specs.Escape.{backslashed, nsonByte, canonicalByte, escaped, Carried, newline, other}
+use Rattle.escape.specs.inner.Controls.{isUncarried, controls, nsonText}
+use Rattle.escape.specs.inner.Quoted.{Quoted, none, bare, escape, NsonBare, nson-bare, NsonLetter, letter-n, letter-quote, letter-backslash, CanonicalBare, canonical-bare, CanonicalLetter, letter-nson, letter-r, letter-t, letter-b, letter-f}
 use Rattle.escape.proofs.ByteLaws.{nson-escaping}
 use Rattle.escape.proofs.TextLaws.{form-length, length-least}
 

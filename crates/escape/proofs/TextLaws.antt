@@ -8,13 +8,15 @@ use mathlib.Core.List.{List, [], _∷_, _++_, append-assoc, append-nil}
 use native.Mathlib.Omega.{arith}
 use lib.ListN.{length, length-append}
 use borrow.Author.Tests.{ne-eqb}
-use Rattle.scan.specs.Span.{All, none, also, IsBytes}
+use Rattle.scan.specs.Bytes.{All, none, also, IsBytes}
 use Rattle.scan.proofs.AllLaws.{all-append}
 use Rattle.utf8.specs.Utf8.{Octet, octet, Tail, Char, one, two, three-E0, three-E1, three-ED, three-EE, four-F0, four-F1, four-F4, Utf8, char}
 use Rattle.utf8.proofs.Laws.{utf8-append, utf8-char, utf8-ascii}
 use Rattle.escape.specs.declared.Escaping.{Escaping}
 use Rattle.escape.specs.declared.Escaping.the-variants.{Canonical, Nson}
-use Rattle.escape.specs.Escape.{nsonByte, canonicalByte, byteOf, growth, escaped, plainFrom, plain}
+use Rattle.escape.specs.Escape.{nsonByte, canonicalByte, escaped}
+use Rattle.escape.specs.inner.Back.{plainFrom, plain}
+use Rattle.escape.specs.inner.Which.{byteOf, growth}
 use Rattle.escape.proofs.ByteLaws.{Form, itself, letter, ReadBack, nson-escaping, canonical-escaping}
 
 -- ---- with no condition

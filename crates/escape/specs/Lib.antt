@@ -1,3 +1,2 @@
 pub mod Escape
-pub mod Quoted
-pub mod Block
+pub mod inner

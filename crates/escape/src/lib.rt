@@ -3,9 +3,11 @@ ghost use Prim.Native.Nat.{_+_, _*_, _≤_};
 ghost use mathlib.Core.Path.{_≡_};
 ghost use lib.ListN.{length};
 ghost use Rattle.scan.specs.Choice.{pick};
-ghost use Rattle.buffer.specs.Store.{Wrote};
-ghost use Rattle.escape.specs.Escape.{nsonByte, byteOf, growth, escaped, isUncarried, controls, nsonText};
-ghost use Rattle.escape.specs.Block.{byteBy, isEscaped, escapeLetter, runOf};
+ghost use Rattle.buffer.specs.inner.Store.{Wrote};
+ghost use Rattle.escape.specs.Escape.{nsonByte, escaped};
+ghost use Rattle.escape.specs.inner.Controls.{isUncarried, controls, nsonText};
+ghost use Rattle.escape.specs.inner.Which.{byteOf, growth};
+ghost use Rattle.escape.specs.inner.Block.{byteBy, isEscaped, escapeLetter, runOf};
 
 // Which escaping.
 pub enum Escaping {

@@ -1,4 +1,5 @@
--- The laws of `Tells`: a definition made of `andThen`, `pick` and `many` tells what its pieces tell, so each reader is one line a definition.
+-- The laws of `Tells`: a definition made of `andThen`, `pick` and `many` tells what its pieces tell, so each reader is
+-- one line a definition.
 use Prim.Native.Nat.{ℕ, zero, suc, _≤_}
 use mathlib.Core.Path.{_≡_, refl, sym, _∙_}
 use mathlib.Core.Bool.{Bool, true, false}
@@ -8,7 +9,7 @@ use lib.Dec.{eqb}
 use borrow.Author.Tests.{eqb-true}
 use Rattle.scan.specs.Choice.{pick, Answer, shown, refused, Read, read, andThen, many}
 use Rattle.scan.proofs.Step.{pick-true, false-true}
-use Rattle.event.specs.Tells.{among, Tells, value, refusal}
+use Rattle.event.specs.inner.Tells.{among, Tells, value, refusal}
 
 -- a read that ends where the input ends, or before
 abbrev pub Inside : {A : Type 0} → List ℕ → ℕ → Answer (Read A) → Type 0

@@ -1,9 +1,10 @@
--- What an event is (document 01, "The event"), and when it is valid. Assumes nothing.
+-- What an event is, and when it is valid (docs/RULES.md, part 1; "rules 1" for short, and so everywhere). Assumes
+-- nothing.
 use Prim.Native.Nat.{ℕ, _≤_}
 use mathlib.Core.Path.{_≡_}
 use mathlib.Core.List.{List}
 use lib.ListN.{length}
-use Rattle.scan.specs.Span.{All, IsBytes}
+use Rattle.scan.specs.Bytes.{All, IsBytes}
 use Rattle.utf8.specs.Utf8.{Utf8}
 
 -- a text is its bytes

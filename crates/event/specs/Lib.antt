@@ -1,3 +1,3 @@
 pub mod Event
 pub mod Answers
-pub mod Tells
+pub mod inner

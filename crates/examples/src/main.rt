@@ -1,4 +1,4 @@
-// Document 01's checked examples of varints and elements, run by the proved functions: each line is what was found.
+// The checked examples of varints and elements (rule 12.4), run by the proved functions: each line is what was found.
 use libc::STDOUT_FILENO;
 use varint::Cursor;
 use varint::VarintRead;

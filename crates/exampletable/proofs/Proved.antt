@@ -1,13 +1,14 @@
--- Document 01's checked examples hold of the definitions that the promises cite.
+-- The checked examples of rule 12.4 hold of the definitions that the promises cite.
 -- By computation: each is the definition run.
 use mathlib.Core.Path.{refl}
 use Rattle.scan.specs.Place.{within}
 use Rattle.varint.specs.Uleb.{ulebIn, uleb}
-use Rattle.varint.specs.Varint.{spelled, varintAt, shortestAt}
+use Rattle.varint.specs.Varint.{spelled, varintAt}
+use Rattle.varint.specs.inner.Shortest.{shortestAt}
 use Rattle.hex.specs.Hex.{valueOf, unhex, allDigits, goesAsBytes}
 use Rattle.notepack.specs.Strict.{packElement}
 use Rattle.nson.proofs.Example.{example-field, example-length, example-read, example-refused}
-use Rattle.exampletable.specs.Table.{CheckedExamples}
+use Rattle.exampletable.specs.inner.Table.{CheckedExamples}
 
 pub checked-examples : CheckedExamples
 unfolding ulebIn uleb spelled varintAt shortestAt within valueOf unhex allDigits goesAsBytes packElement

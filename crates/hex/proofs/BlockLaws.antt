@@ -13,7 +13,7 @@ use lib.Dec.{eqb}
 use borrow.Author.Tests.{lt-ltb, le-ltb, eq-eqb, ne-eqb}
 use Rattle.scan.proofs.Step.{rest-none, rest-more, rest-block}
 use Rattle.hex.specs.Hex.{valueOf, allDigits}
-use Rattle.hex.specs.Block.{isOther, othersOf}
+use Rattle.hex.specs.inner.Block.{isOther, othersOf}
 
 -- ---- the count
 

@@ -10,7 +10,8 @@ use lib.Dec.{leb}
 use borrow.Author.Tests.{lt-ltb, le-ltb, le-leb, lt-leb, leb-true}
 use Rattle.scan.specs.Place.{within}
 use Rattle.scan.proofs.Step.{pick-true, pick-by}
-use Rattle.hex.specs.Hex.{LowerHex, number, letter, valueOf, digitOf}
+use Rattle.hex.specs.Hex.{valueOf, digitOf}
+use Rattle.hex.specs.inner.LowerHex.{number, letter, LowerHex}
 
 -- what passes the test of a range is in it
 pub in-range : (low high b : ℕ) → within low high b ≡ true → (low ≤ b) × (b ≤ high)

@@ -8,11 +8,11 @@ use native.Mathlib.Omega.{arith}
 use lib.ListN.{length, getD, take, drop, length-take, length-drop, take-append-drop}
 use lib.Seq.{drop-drop, take-all}
 use Rattle.scan.proofs.Step.{rest-none, rest-more}
-use Rattle.buffer.specs.Store.{Wrote}
+use Rattle.buffer.specs.inner.Store.{Wrote}
 use Rattle.buffer.proofs.Laws.{Left, part, also, finish, kept}
 use Rattle.buffer.proofs.Places.{ends-behind}
 use Rattle.hex.specs.Hex.{valueOf, unhex}
-use Rattle.hex.specs.Block.{valuesOf, pairsOf}
+use Rattle.hex.specs.inner.Block.{valuesOf, pairsOf}
 use Rattle.hex.proofs.Texts.{unhex-append, length-unhex}
 
 -- ---- values

@@ -1,4 +1,5 @@
--- Texts of digits and their bytes: `hexes` and `unhex` give each other back, keep `++`, and double and halve the length.
+-- Texts of digits and their bytes: `hexes` and `unhex` give each other back, keep `++`, and double and halve the
+-- length.
 -- By induction on the bytes, or on the text two digits at a time; each step is one law of `Digits`.
 use Prim.Native.Nat.{ℕ, _+_, _*_, _/_, _%_, _<_}
 use mathlib.Core.Path.{_≡_, refl, sym, ap, _∙_}
@@ -9,9 +10,10 @@ use lib.ListN.{length}
 use lib.Dec.{ltb, eqb}
 use borrow.Author.Tests.{lt-ltb, ltb-true, eq-eqb, ne-eqb, eqb-true, eqb-false}
 use Rattle.scan.specs.Choice.{pick}
-use Rattle.scan.specs.Span.{All, none, also, IsBytes}
+use Rattle.scan.specs.Bytes.{All, none, also, IsBytes}
 use Rattle.scan.proofs.Step.{pick-true, false-true}
-use Rattle.hex.specs.Hex.{LowerHex, valueOf, digitOf, hexes, unhex, allDigits, goesAsBytes}
+use Rattle.hex.specs.Hex.{valueOf, digitOf, hexes, unhex, allDigits, goesAsBytes}
+use Rattle.hex.specs.inner.LowerHex.{LowerHex}
 use Rattle.hex.proofs.Digits.{digit-value, value-digit, digit-written, value-of-digit, digit-of-value, digit-ascii}
 
 -- ---- bytes as digits

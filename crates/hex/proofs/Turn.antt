@@ -9,7 +9,7 @@ use lib.ListN.{length, getD, set, take, drop, length-set, length-take, length-dr
 use lib.Seq.{take-append-le, append-snoc}
 use Rattle.scan.specs.Place.{within}
 use Rattle.scan.proofs.Step.{rest-more}
-use Rattle.buffer.specs.Store.{Wrote}
+use Rattle.buffer.specs.inner.Store.{Wrote}
 use Rattle.buffer.proofs.Laws.{then}
 use Rattle.buffer.proofs.Places.{past}
 use Rattle.hex.specs.Hex.{valueOf, digitOf, hexes, unhex}

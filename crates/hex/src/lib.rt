@@ -2,9 +2,9 @@
 ghost use Prim.Native.Nat.{_+_, _*_, _/_, _%_, _≤_};
 ghost use mathlib.Core.Path.{_≡_};
 ghost use lib.ListN.{length};
-ghost use Rattle.buffer.specs.Store.{Wrote};
+ghost use Rattle.buffer.specs.inner.Store.{Wrote};
 ghost use Rattle.hex.specs.Hex.{valueOf, digitOf, hexes, unhex, allDigits, goesAsBytes};
-ghost use Rattle.hex.specs.Block.{isOther, othersOf, valuesOf, pairsOf};
+ghost use Rattle.hex.specs.inner.Block.{isOther, othersOf, valuesOf, pairsOf};
 
 // A digit's value; 16 where the byte is none of 0-9 a-f.
 pub fn value_of(b: u8) -> u8
@@ -86,7 +86,8 @@ fn put_pairs(out: &mut [u8], at: usize, v: &[u8]) -> usize
     at + n
 }
 
-// The bytes of 64 digits: first all values, then all pairs. Each is a loop for vectors, which one loop over both is not.
+// The bytes of 64 digits: first all values, then all pairs. Each is a loop for vectors, which one loop over both is
+// not.
 fn unhex_block(out: &mut [u8], at: usize, t: &[u8]) -> usize
     requires { ⌜ length (now t) ≡ 64 ⌝ }
     requires { ⌜ at + 32 ≤ length (now out) ⌝ }

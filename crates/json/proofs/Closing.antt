@@ -4,8 +4,8 @@ use Prim.Native.Nat.{ℕ, _+_}
 use mathlib.Core.Path.{_≡_, refl}
 use Rattle.scan.specs.Choice.{Answer, shown, refused, Read, read, andThen}
 use Rattle.event.specs.Event.{Event}
-use Rattle.json.specs.Field.{Value, missing, bytes, number, tags, text}
-use Rattle.json.specs.Object.{Fields, field, bytesIn, numberIn, tagsIn, textIn, closeAt}
+use Rattle.json.specs.Field.{Value, missing, bytes, number, tags, text, Fields, field}
+use Rattle.json.specs.inner.Closing.{closeAt, bytesIn, numberIn, tagsIn, textIn}
 use Rattle.json.proofs.Names.{by-seven}
 use Rattle.json.proofs.Says.{fieldsOf, Holds, holds}
 

@@ -4,21 +4,22 @@ use Prim.Native.Nat.{ℕ}
 use mathlib.Core.Path.{_≡_, refl}
 use mathlib.Core.List.{List, [], _∷_, _++_}
 use lib.ListN.{replicate}
+use Rattle.scan.specs.Ascii.{ascii}
 use Rattle.scan.specs.Choice.{shown}
 use Rattle.scan.specs.Place.{begins, standsAt, within, run, runAt}
 use Rattle.utf8.specs.Encode.{encode}
-use Rattle.utf8.specs.Width.{widthAt}
+use Rattle.utf8.specs.inner.Width.{widthAt}
 use Rattle.hex.specs.Hex.{valueOf, unhex, allDigits}
 use Rattle.scan.specs.Compare.{sameBytes}
 use Rattle.event.specs.Event.{Event}
-use Rattle.jsontext.specs.Escape.{hexValue, unitOf, unitAt, unescapedLetter, letterEscape, pairOf, unicodeAt, escapeAt, orItself, unescaped, unescape}
+use Rattle.jsontext.specs.inner.Escape.{hexValue, unitOf, unitAt, unescapedLetter, letterEscape, pairOf, unicodeAt, escapeAt, orItself, unescaped, unescape}
 use Rattle.jsontext.specs.Token.{isSpace, spaceAt, wordAt, digitsOr, minusAt, signAt, intAt, fracAt, isE, expAt, numberFrom, unsignedFrom, skipNumber}
 use Rattle.decimal.specs.Decimal.{isDigit}
 use Rattle.jsontext.specs.Text.{charsAt, stringAt}
 use Rattle.jsontext.specs.Value as value
-use Rattle.json.specs.Meaning.{idName, pubkeyName, sigName, createdAtName, tagsName, contentName}
 use Rattle.json.specs.Field.{textAt, isHexOf, hexAt, digitsOnly, wholeOf, wholeAt, afterItem, itemsAt, insideAt, arrayAt, oneOrMore, tagAt, tagsAt, indexIn, fieldOf, fieldAt}
 use Rattle.json.specs.Object as object
+use Rattle.json.specs.inner.Closing as closing
 use Rattle.json.proofs.Whole.{Shows, sound}
 
 abbrev quoted : List ℕ → List ℕ
@@ -40,11 +41,11 @@ kind = member (0x5C ∷ 0x75 ∷ 0x30 ∷ 0x30 ∷ 0x36 ∷ 0x62 ∷ 0x69 ∷ 0x
 
 -- [["d",""]]
 abbrev tags : List ℕ
-tags = member tagsName (0x5B ∷ 0x5B ∷ (comma (quoted (0x64 ∷ [])) (quoted []) ++ (0x5D ∷ 0x5D ∷ [])))
+tags = member (ascii "tags") (0x5B ∷ 0x5B ∷ (comma (quoted (0x64 ∷ [])) (quoted []) ++ (0x5D ∷ 0x5D ∷ [])))
 
 -- a line feed as an escape
 abbrev content : List ℕ
-content = member contentName (quoted (0x61 ∷ 0x5C ∷ 0x6E ∷ []))
+content = member (ascii "content") (quoted (0x61 ∷ 0x5C ∷ 0x6E ∷ []))
 
 abbrev zeros : ℕ → List ℕ
 zeros n = quoted (replicate n 0x30)
@@ -52,7 +53,7 @@ zeros n = quoted (replicate n 0x30)
 abbrev text : List ℕ
 text =
     let back = comma other (comma kind (comma tags (content ++ (0x20 ∷ 0x7D ∷ 0x0A ∷ [])))) in
-    0x7B ∷ 0x20 ∷ comma (member sigName (zeros 128)) (comma (member idName (zeros 64)) (comma (member createdAtName (0x37 ∷ [])) (comma (member pubkeyName (zeros 64)) back)))
+    0x7B ∷ 0x20 ∷ comma (member (ascii "sig") (zeros 128)) (comma (member (ascii "id") (zeros 64)) (comma (member (ascii "created_at") (0x37 ∷ [])) (comma (member (ascii "pubkey") (zeros 64)) back)))
 
 abbrev event : Event
 event =
@@ -67,7 +68,7 @@ event =
     }
 
 pub example-read : object.readJson text ≡ shown event
-unfolding object.readJson object.wholeAt object.objectAt object.insideAt object.membersAt object.afterMember object.closeAt object.memberAt object.colonAt fieldAt fieldOf indexIn tagsAt tagAt oneOrMore arrayAt insideAt itemsAt afterItem wholeAt wholeOf digitsOnly hexAt isHexOf textAt value.valueAt value.skipWalk value.skipWalkBy value.skipValueBy value.skipInside value.skipItems value.skipAfter value.skipItem value.skipMember value.skipColon charsAt stringAt isSpace spaceAt wordAt digitsOr minusAt signAt intAt fracAt isE expAt numberFrom unsignedFrom skipNumber hexValue unitOf unitAt unescapedLetter letterEscape pairOf unicodeAt escapeAt orItself unescaped unescape sameBytes valueOf unhex allDigits widthAt within run runAt standsAt begins encode
+unfolding object.readJson object.wholeAt object.objectAt object.insideAt object.membersAt object.afterMember closing.closeAt object.memberAt object.colonAt fieldAt fieldOf indexIn tagsAt tagAt oneOrMore arrayAt insideAt itemsAt afterItem wholeAt wholeOf digitsOnly hexAt isHexOf textAt value.valueAt value.skipWalkBy value.skipValueBy value.skipInside value.skipItems value.skipAfter value.skipItem value.skipMember value.skipColon charsAt stringAt isSpace spaceAt wordAt digitsOr minusAt signAt intAt fracAt isE expAt numberFrom unsignedFrom skipNumber hexValue unitOf unitAt unescapedLetter letterEscape pairOf unicodeAt escapeAt orItself unescaped unescape sameBytes valueOf unhex allDigits widthAt within run runAt standsAt begins encode
 example-read = refl
 
 pub example-shows : Shows text event

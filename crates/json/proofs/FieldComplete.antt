@@ -1,4 +1,5 @@
--- Completeness of each field: a value of the grammar that says x of a field, within its limit, is read as x, to its end.
+-- Completeness of each field: a value of the grammar that says x of a field, within its limit, is read as x, to its
+-- end.
 -- Each definition of `specs/Field` is rewritten by the *accepts* of its tokens; arrays once for every kind of item.
 use Prim.Native.Nat.{ℕ, zero, suc, _+_, _*_, _≤_}
 use mathlib.Core.Path.{_≡_, refl, sym, ap, _∙_}
@@ -9,8 +10,9 @@ use lib.ListN.{length, getD}
 use borrow.Author.Tests.{le-leb, eq-eqb, ne-eqb}
 use Rattle.scan.specs.Choice.{Answer, Read, read}
 use Rattle.scan.specs.Place as place
-use Rattle.scan.specs.Span.{Span, step, All}
-use Rattle.scan.specs.Span as span
+use Rattle.scan.specs.Bytes.{All}
+use Rattle.scan.specs.inner.Span.{step, Span}
+use Rattle.scan.specs.Bytes as span
 use Rattle.scan.proofs.SpanLaws.{cut, close-span}
 use Rattle.hex.specs.Hex.{hexes}
 use Rattle.hex.proofs.Texts.{length-hexes, hexes-digits, unhex-hexes, digits-pass}

@@ -1,4 +1,5 @@
--- Soundness of each field: what is read of its value stands there by the grammar, says what was read, and keeps its limit.
+-- Soundness of each field: what is read of its value stands there by the grammar, says what was read, and keeps its
+-- limit.
 -- A walk over the definitions of `specs/Field`; arrays once for every kind of item.
 use Prim.Native.Nat.{ℕ, zero, suc, _+_, _*_, _-_, _<_, _≤_}
 use mathlib.Core.Path.{_≡_, refl}
@@ -10,8 +11,9 @@ use lib.Seq.{take-at}
 use lib.Dec.{leb, eqb}
 use borrow.Author.Tests.{leb-true, eqb-true, eqb-false}
 use Rattle.scan.specs.Choice.{pick, Answer, refused, Read, read}
-use Rattle.scan.specs.Span.{Span, here, All}
-use Rattle.scan.specs.Span as span
+use Rattle.scan.specs.Bytes.{All}
+use Rattle.scan.specs.inner.Span.{here, Span}
+use Rattle.scan.specs.Bytes as span
 use Rattle.scan.proofs.Step.{pick-true}
 use Rattle.scan.proofs.SpanLaws.{join, bite, span-length, part-of-span}
 use Rattle.scan.proofs.Reading.{Reads, reads, fails, pick-reads, then-reads, from-reads}

@@ -1,4 +1,5 @@
--- The seven names and their numbers: a text has the number k exactly if it is the name of field k, and 7 exactly if it is none of the seven.
+-- The seven names and their numbers: a text has the number k exactly if it is the name of field k, and 7 exactly if it
+-- is none of the seven.
 -- By the steps of `indexIn`; that the seven differ from each other is found by computation.
 use Prim.Native.Nat.{ℕ, zero, suc, _<_}
 use mathlib.Core.Path.{_≡_, refl, sym}

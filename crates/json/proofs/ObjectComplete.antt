@@ -1,5 +1,7 @@
--- Completeness of the object: an object of the grammar whose tree is an event is read as that event, to its closing brace.
--- Along the members with the fields that they leave (`Tracks`); each member takes a byte, so the input's length is fuel enough.
+-- Completeness of the object: an object of the grammar whose tree is an event is read as that event, to its closing
+-- brace.
+-- Along the members with the fields that they leave (`Tracks`); each member takes a byte, so the input's length is fuel
+-- enough.
 use Prim.Native.Nat.{ℕ, zero, suc, _+_, _<_, _≤_}
 use mathlib.Core.Path.{_≡_, sym, ap, _∙_}
 use mathlib.Core.Bool.{true}
@@ -7,7 +9,7 @@ use mathlib.Core.List.{List}
 use native.Mathlib.Omega.{arith}
 use lib.ListN.{length, getD, set, length-append}
 use Rattle.scan.specs.Choice.{Answer, Read, read}
-use Rattle.scan.specs.Span.{Span, step}
+use Rattle.scan.specs.inner.Span.{step, Span}
 use Rattle.scan.proofs.SpanLaws.{cut, close-span, span-length, span-fits}
 use Rattle.scan.proofs.Reading.{read-same}
 use Rattle.event.specs.Event.{Event}
@@ -17,8 +19,9 @@ use Rattle.jsontext.proofs.TokenLaws.{Stop, stop-brace, space-accepts}
 use Rattle.jsontext.proofs.FirstByte.{first-at, begins-value, begins-members}
 use Rattle.jsontext.proofs.ValueComplete.{ws-stop, not-space, separator-accepts, separator-stop, comma-solid, colon-solid, brace-solid, separator-some}
 use Rattle.json.specs.Meaning.{IsEvent, is-event}
-use Rattle.json.specs.Field.{Value, fieldOf}
-use Rattle.json.specs.Object.{Fields, isMissing, field, colonAt, memberAt, closeAt, afterMember, membersAt, insideAt, objectAt}
+use Rattle.json.specs.Field.{Value, fieldOf, Fields, field}
+use Rattle.json.specs.Object.{colonAt, memberAt, afterMember, membersAt, insideAt, objectAt}
+use Rattle.json.specs.inner.Closing.{isMissing, closeAt}
 use Rattle.json.proofs.Says.{FieldSays}
 use Rattle.json.proofs.Tracks.{Tracks, no-more, then, no-event, event-tracks}
 use Rattle.json.proofs.Closing.{close-event}

@@ -1,5 +1,7 @@
--- Soundness of the object: what is read as an event stands there as an object of the grammar, and the object's tree is that event.
--- A walk over the definitions of `specs/Object`: the members read are tracked (`Tracks`), and tracked members say their event.
+-- Soundness of the object: what is read as an event stands there as an object of the grammar, and the object's tree is
+-- that event.
+-- A walk over the definitions of `specs/Object`: the members read are tracked (`Tracks`), and tracked members say their
+-- event.
 use Prim.Native.Nat.{ℕ, zero, suc, _+_, _<_, _≤_}
 use mathlib.Core.Path.{_≡_, refl}
 use mathlib.Core.Bool.{true}
@@ -7,7 +9,7 @@ use mathlib.Core.List.{List, [], _∷_, _++_, append-assoc}
 use lib.ListN.{length, getD, set}
 use lib.Dec.{eqb}
 use Rattle.scan.specs.Choice.{pick, Answer, refused, Read, read}
-use Rattle.scan.specs.Span.{Span, here}
+use Rattle.scan.specs.inner.Span.{here, Span}
 use Rattle.scan.proofs.SpanLaws.{join, bite}
 use Rattle.scan.proofs.Reading.{Reads, reads, fails, pick-reads, then-reads, from-reads}
 use Rattle.event.specs.Event.{Text, Event}
@@ -16,8 +18,9 @@ use Rattle.jsontext.specs.Token.{spaceAt}
 use Rattle.jsontext.proofs.TokenLaws.{bind, space-consumes}
 use Rattle.jsontext.proofs.FirstByte.{begins-member, some-bytes}
 use Rattle.json.specs.Meaning.{IsEvent}
-use Rattle.json.specs.Field.{Value, fieldOf}
-use Rattle.json.specs.Object.{Fields, noFields, isMissing, field, colonAt, memberAt, afterMember, membersAt, insideAt, objectAt}
+use Rattle.json.specs.Field.{Value, fieldOf, Fields, field}
+use Rattle.json.specs.Object.{noFields, colonAt, memberAt, afterMember, membersAt, insideAt, objectAt}
+use Rattle.json.specs.inner.Closing.{isMissing}
 use Rattle.json.proofs.Says.{FieldSays, Holds}
 use Rattle.json.proofs.Tracks.{Tracks, no-more, then, tracks-event}
 use Rattle.json.proofs.Closing.{Closes, closes, lacks, close-told}

@@ -1,11 +1,13 @@
 -- At most one event for a text, by the grammar alone: a JSON text spells one value, and a value is one event.
--- White space before the value ends where the value begins, so two values of one text start alike; what a value says is told by its shape.
+-- White space before the value ends where the value begins, so two values of one text start alike; what a value says is
+-- told by its shape.
 use Prim.Native.Nat.{ℕ}
 use mathlib.Core.Path.{_≡_, refl, ap}
 use mathlib.Core.List.{List, [], _∷_}
 use native.Mathlib.Omega.{arith}
 use lib.ListN.{length, getD}
-use Rattle.scan.specs.Span.{Span, IsBytes}
+use Rattle.scan.specs.Bytes.{IsBytes}
+use Rattle.scan.specs.inner.Span.{Span}
 use Rattle.scan.proofs.Step.{byte-none}
 use Rattle.scan.proofs.SpanLaws.{cut, input-span}
 use Rattle.hex.proofs.Texts.{hexes-injective}

@@ -1,4 +1,4 @@
--- The refusals of the plain JSON reader, each with its number and its place as document 01's table has them.
+-- The refusals of the plain JSON reader, each with its number and its place as rules 10 and 11 have them.
 -- By the steps of the definitions, behind what the grammar says was read before.
 use Prim.Native.Nat.{ℕ, zero, suc, _+_, _<_, _≤_}
 use mathlib.Core.Path.{_≡_, refl, sym, ap, _∙_}
@@ -8,10 +8,11 @@ use native.Mathlib.Omega.{arith}
 use lib.ListN.{length, getD}
 use borrow.Author.Tests.{le-leb, lt-leb, ne-eqb}
 use Rattle.scan.specs.Choice.{Answer, refused, Read, read}
-use Rattle.scan.specs.Span.{Span, step, All}
+use Rattle.scan.specs.Bytes.{All}
+use Rattle.scan.specs.inner.Span.{step, Span}
 use Rattle.scan.proofs.Step.{false-true}
 use Rattle.scan.proofs.SpanLaws.{cut, span-length, span-fits}
-use Rattle.utf8.specs.Width.{widthAt}
+use Rattle.utf8.specs.inner.Width.{widthAt}
 use Rattle.decimal.specs.Decimal.{DecimalDigit, numberOf}
 use Rattle.event.specs.Event.{Text, Tag, Event, ValidTag}
 use Rattle.jsontext.specs.Grammar as json
@@ -21,8 +22,9 @@ use Rattle.jsontext.proofs.TextLaws.{string-ill-formed}
 use Rattle.jsontext.proofs.FirstByte.{first-at, begins-value, begins-items, begins-members}
 use Rattle.jsontext.proofs.ValueComplete.{not-space, separator-accepts, comma-solid, brace-solid}
 use Rattle.json.specs.Meaning.{IsText, Each, none, also, is-array, IsTag, IsEvent}
-use Rattle.json.specs.Field.{textAt, isHexOf, hexAt, digitsOnly, wholeOf, wholeAt, afterItem, itemsAt, insideAt, arrayAt, oneOrMore, tagAt, tagsAt, fieldOf, fieldAt}
-use Rattle.json.specs.Object.{Fields, noFields, isMissing, field, memberAt, closeAt, objectAt, readJson}
+use Rattle.json.specs.Field.{textAt, isHexOf, hexAt, digitsOnly, wholeOf, wholeAt, afterItem, itemsAt, insideAt, arrayAt, oneOrMore, tagAt, tagsAt, fieldOf, fieldAt, Fields, field}
+use Rattle.json.specs.Object.{noFields, memberAt, objectAt, readJson}
+use Rattle.json.specs.inner.Closing.{isMissing, closeAt}
 use Rattle.json.specs.Object as object
 use Rattle.json.proofs.Says.{holds}
 use Rattle.json.proofs.Tracks.{Tracks, some-field}

@@ -1,4 +1,5 @@
--- What the seven fields say, for every field number at once: `FieldSays k v x`, the value v says x of field k, within its limit.
+-- What the seven fields say, for every field number at once: `FieldSays k v x`, the value v says x of field k, within
+-- its limit.
 -- So the record `Says` with `Valid` is one statement for all k below 7, and what holds of it is proved once.
 use Prim.Native.Nat.{ℕ, _<_, _≤_}
 use mathlib.Core.Path.{_≡_, refl}
@@ -6,13 +7,13 @@ use mathlib.Core.Bool.{false}
 use mathlib.Core.List.{List, [], _∷_}
 use native.Mathlib.Omega.{arith}
 use lib.ListN.{length}
-use Rattle.scan.specs.Span.{All}
+use Rattle.scan.specs.Bytes.{All}
 use Rattle.utf8.specs.Utf8.{Utf8}
 use Rattle.event.specs.Event.{Text, Tag, Event, Bytes, ValidTag, Valid}
 use Rattle.jsontext.specs.Grammar as json
 use Rattle.json.specs.Meaning.{IsText, IsHex, IsNumber, IsArray, IsTag, Once, once, Says}
-use Rattle.json.specs.Field.{Value, missing, bytes, number, tags, text}
-use Rattle.json.specs.Object.{Fields, isMissing, field}
+use Rattle.json.specs.Field.{Value, missing, bytes, number, tags, text, Fields, field}
+use Rattle.json.specs.inner.Closing.{isMissing}
 use Rattle.json.proofs.Names.{name, by-seven}
 
 -- what the value of field k says. From 7 on the name is ignored, and so is the value, which nests at most 16 deep.

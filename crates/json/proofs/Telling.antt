@@ -11,14 +11,16 @@ use lib.Dec.{leb, eqb}
 use Rattle.scan.specs.Choice.{Answer, refused, Read}
 use Rattle.decimal.specs.Decimal.{numberOf}
 use Rattle.event.specs.Event.{Event}
-use Rattle.event.specs.Tells.{among, Tells, value, refusal}
+use Rattle.event.specs.inner.Tells.{among, Tells, value, refusal}
 use Rattle.event.proofs.TellsLaws.{Inside, then-tells, pick-tells, wider}
 use Rattle.jsontext.specs.Token.{spaceAt}
-use Rattle.jsontext.specs.Value.{valueNumbers}
+use Rattle.jsontext.specs.inner.Numbers.{valueNumbers}
 use Rattle.jsontext.proofs.TokenLaws.{space-inside}
 use Rattle.jsontext.proofs.Telling.{byte-inside, space-behind, number-tells, string-tells, value-tells}
-use Rattle.json.specs.Field.{textAt, isHexOf, hexAt, digitsOnly, wholeOf, wholeAt, afterItem, itemsAt, insideAt, arrayAt, oneOrMore, tagAt, tagsAt, under, fieldOf, fieldAt}
-use Rattle.json.specs.Object.{Fields, noFields, isMissing, field, colonAt, memberAt, afterMember, membersAt, objectAt, readJson, jsonNumbers}
+use Rattle.json.specs.Field.{textAt, isHexOf, hexAt, digitsOnly, wholeOf, wholeAt, afterItem, itemsAt, insideAt, arrayAt, oneOrMore, tagAt, tagsAt, under, fieldOf, fieldAt, Fields, field}
+use Rattle.json.specs.Object.{noFields, colonAt, memberAt, afterMember, membersAt, objectAt, readJson}
+use Rattle.json.specs.inner.Closing.{isMissing}
+use Rattle.json.specs.inner.Numbers.{jsonNumbers}
 use Rattle.json.specs.Object as object
 use Rattle.json.proofs.Closing.{Closes, closes, lacks, close-told}
 

@@ -1,4 +1,5 @@
--- `Tracks f m g`: behind the members m the fields f have become g. So it is exactly if each of the seven stands once in m, having been missing, or not at all (`Found`).
+-- `Tracks f m g`: behind the members m the fields f have become g. So it is exactly if each of the seven stands once in
+-- m, having been missing, or not at all (`Found`).
 -- Both directions by induction over the members, for every field number at once.
 use Prim.Native.Nat.{ℕ, _<_, _≤_}
 use mathlib.Core.Path.{_≡_, refl, sym, ap, _∙_}
@@ -15,8 +16,9 @@ use Rattle.jsontext.specs.Grammar as json
 use Rattle.jsontext.proofs.OneValue.{chars-one}
 use Rattle.jsontext.proofs.Meaning.{unescape-chars}
 use Rattle.json.specs.Meaning.{Values, no-value, named, other, Once, once, Shallow, no-member, known, ignored, IsEvent, is-event}
-use Rattle.json.specs.Field.{Value, missing, fieldOf}
-use Rattle.json.specs.Object.{Fields, noFields, isMissing, field}
+use Rattle.json.specs.Field.{Value, missing, fieldOf, Fields, field}
+use Rattle.json.specs.Object.{noFields}
+use Rattle.json.specs.inner.Closing.{isMissing}
 use Rattle.json.proofs.Names.{name, by-seven, name-number, number-name, known-number, number-known}
 use Rattle.json.proofs.Says.{FieldSays, ignored-says, says-some, says-shallow, fieldsOf, Holds, holds, says-all, all-says}
 

@@ -1,4 +1,5 @@
--- The reader and the meaning are one: `readJson` shows an event exactly if the input is a JSON text whose tree is that event, of at most 65,536 bytes.
+-- The reader and the meaning are one: `readJson` shows an event exactly if the input is a JSON text whose tree is that
+-- event, of at most 65,536 bytes.
 -- The object's two laws, with the white space around it and the input's end.
 use Prim.Native.Nat.{ℕ, _≤_}
 use mathlib.Core.Path.{_≡_, refl}
@@ -10,7 +11,7 @@ use lib.ListN.{length, getD}
 use lib.Dec.{leb, eqb}
 use borrow.Author.Tests.{le-leb, leb-true, eq-eqb, eqb-true}
 use Rattle.scan.specs.Choice.{shown}
-use Rattle.scan.specs.Span.{Span}
+use Rattle.scan.specs.inner.Span.{Span}
 use Rattle.scan.proofs.Step.{byte-none}
 use Rattle.scan.proofs.SpanLaws.{join, cut, input-span, whole-span}
 use Rattle.scan.proofs.Reading.{Gives, gives, lacks, shown-gives, pick-gives, read-gives}
@@ -58,7 +59,8 @@ read-shows s =
     (λ f. lacks)))))
     (λ f. lacks)
 
--- THE soundness: what the reader shows is the event of a JSON text (RFC 8259) that stands there whole, within 65,536 bytes
+-- THE soundness: what the reader shows is the event of a JSON text (RFC 8259) that stands there whole, within 65,536
+-- bytes
 pub sound : {s : List ℕ} {e : Event} → readJson s ≡ shown e → Shows s e
 sound {s} f = shown-gives (rw f at (read-shows s))
 

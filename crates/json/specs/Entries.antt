@@ -1,9 +1,8 @@
--- The plain JSON reader as an entry: s is the input, d the lent buffer. An answer is the length written, or a refusal with its number and
--- place. Demand 3 and the contracts of the code cite these names and no others. Assumes nothing.
+-- The plain JSON reader as an entry: s is the input, d the lent buffer. An answer is the length written, or a refusal
+-- with its number and place. Demand 3 and the contracts of the code cite these names and no others. Assumes nothing.
 use Prim.Native.Nat.{ℕ}
 use mathlib.Core.List.{List}
-use lib.ListN.{length}
-use Rattle.scan.specs.Choice.{Answer, shown, andThen}
+use Rattle.scan.specs.Choice.{Answer}
 use Rattle.buffer.specs.Entry.{writes, leaves}
 use Rattle.notepack.specs.Strict.{pack}
 use Rattle.json.specs.Object.{readJson}
@@ -14,7 +13,3 @@ jsonReads s d = writes pack (readJson s) d
 
 abbrev pub jsonLeaves : List ℕ → List ℕ → List ℕ
 jsonLeaves s d = leaves pack (readJson s) d
-
--- the length that it needs, whatever is lent
-abbrev pub jsonNeeds : List ℕ → Answer ℕ
-jsonNeeds s = andThen (readJson s) λ e. shown (length (pack e))

@@ -1,8 +1,9 @@
--- The value of each field as it is read at its first byte, with document 01's refusals and their places. Assumes nothing.
+-- The value of each field as it is read at its first byte, with the refusals and places of rules 7, 10 and 11. Assumes
+-- nothing.
 use Prim.Native.Nat.{ℕ, zero, suc, _+_, _*_, _-_}
 use mathlib.Core.Bool.{Bool, true, false}
 use mathlib.Core.List.{List, [], _∷_}
-use lib.ListN.{length, take, drop}
+use lib.ListN.{length, take, drop, getD}
 use lib.Dec.{leb, eqb}
 use Rattle.scan.specs.Choice.{pick, Answer, shown, refused, Read, read, andThen}
 use Rattle.scan.specs.Place.{byteAt}
@@ -11,7 +12,7 @@ use Rattle.decimal.specs.Decimal.{numberOf, isDigit}
 use Rattle.scan.specs.Compare.{sameBytes}
 use Rattle.event.specs.Event.{Text, Tag}
 use Rattle.jsontext.specs.declared.Spelled.{Spelled}
-use Rattle.jsontext.specs.Escape.{unescape}
+use Rattle.jsontext.specs.inner.Escape.{unescape}
 use Rattle.jsontext.specs.Token.{spaceAt, skipNumber}
 use Rattle.jsontext.specs.Text.{stringAt}
 use Rattle.jsontext.specs.Value.{valueAt}
@@ -110,3 +111,13 @@ fieldAt k s at =
     (pick (eqb k 4) (under number (wholeAt 65_535 6 s at))
     (pick (eqb k 5) (under tags (tagsAt s at))
     (pick (eqb k 6) (under text (textAt s at)) (under (λ x. missing) (valueAt 16 s at))))))))
+
+-- ---- what has been found of all seven
+
+-- what the seven fields say, by number
+abbrev pub Fields : Type 0
+Fields = List Value
+
+-- field number k
+abbrev pub field : Fields → ℕ → Value
+field f k = getD f k missing

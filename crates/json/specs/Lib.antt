@@ -2,3 +2,4 @@ pub mod Meaning
 pub mod Field
 pub mod Object
 pub mod Entries
+pub mod inner

@@ -1,9 +1,10 @@
--- Which event a JSON value is (document 01, "Plain JSON reader"): a statement about RFC 8259's tree alone, with no reader in it. Assumes nothing.
+-- Which event a JSON value is (rules 7): a statement about RFC 8259's tree alone, with no reader in it. Assumes
+-- nothing.
 use Prim.Native.Nat.{ℕ, _≤_}
 use mathlib.Core.Path.{_≡_}
 use mathlib.Core.List.{List, [], _∷_}
 use Rattle.scan.specs.Ascii.{ascii}
-use Rattle.scan.specs.Span.{All}
+use Rattle.scan.specs.Bytes.{All}
 use Rattle.hex.specs.Hex.{hexes}
 use Rattle.decimal.specs.Decimal.{DecimalDigit, numberOf}
 use Rattle.event.specs.Event.{Text, Tag, Event, Valid}
@@ -11,29 +12,8 @@ use Rattle.jsontext.specs.Grammar as json
 
 -- ---- the seven names
 
-abbrev pub idName : Text
-idName = ascii "id"
-
-abbrev pub pubkeyName : Text
-pubkeyName = ascii "pubkey"
-
-abbrev pub sigName : Text
-sigName = ascii "sig"
-
-abbrev pub createdAtName : Text
-createdAtName = ascii "created_at"
-
-abbrev pub kindName : Text
-kindName = ascii "kind"
-
-abbrev pub tagsName : Text
-tagsName = ascii "tags"
-
-abbrev pub contentName : Text
-contentName = ascii "content"
-
 abbrev pub names : List Text
-names = idName ∷ pubkeyName ∷ sigName ∷ createdAtName ∷ kindName ∷ tagsName ∷ contentName ∷ []
+names = ascii "id" ∷ ascii "pubkey" ∷ ascii "sig" ∷ ascii "created_at" ∷ ascii "kind" ∷ ascii "tags" ∷ ascii "content" ∷ []
 
 -- the values of the members that have a name, in their order; a name is the characters that it is spelled with
 pub data Values (t : Text) : json.Members → List json.Json → Type 0 where
@@ -73,13 +53,13 @@ pub data Once {A : Type 0} (m : json.Members) (t : Text) (Is : json.Json → A �
 
 -- the members of an object that say an event: the seven once each, nothing filled in, other names ignored
 pub record Says (m : json.Members) (e : Event) : Type 0 where
-  pub id : Once m idName IsHex (e .id)
-  pub pubkey : Once m pubkeyName IsHex (e .pubkey)
-  pub sig : Once m sigName IsHex (e .sig)
-  pub createdAt : Once m createdAtName IsNumber (e .createdAt)
-  pub kind : Once m kindName IsNumber (e .kind)
-  pub tags : Once m tagsName (IsArray IsTag) (e .tags)
-  pub content : Once m contentName IsText (e .content)
+  pub id : Once m (ascii "id") IsHex (e .id)
+  pub pubkey : Once m (ascii "pubkey") IsHex (e .pubkey)
+  pub sig : Once m (ascii "sig") IsHex (e .sig)
+  pub createdAt : Once m (ascii "created_at") IsNumber (e .createdAt)
+  pub kind : Once m (ascii "kind") IsNumber (e .kind)
+  pub tags : Once m (ascii "tags") (IsArray IsTag) (e .tags)
+  pub content : Once m (ascii "content") IsText (e .content)
 
 -- a name is one of the seven
 pub data OneOf : List Text → Text → Type 0 where

@@ -1,32 +1,18 @@
--- The plain JSON reader: the object's members one after the other, the seven fields remembered, then what the whole says. Assumes nothing.
+-- The plain JSON reader: the object's members one after the other, the seven fields remembered, then what the whole
+-- says. Assumes nothing.
 use Prim.Native.Nat.{ℕ, zero, suc, _+_}
-use mathlib.Core.Bool.{Bool, true, false}
 use mathlib.Core.List.{List, [], _∷_}
-use lib.ListN.{length, getD, set}
+use lib.ListN.{length, set}
 use lib.Dec.{leb, eqb}
 use Rattle.scan.specs.Choice.{pick, Answer, shown, refused, Read, read, andThen}
 use Rattle.scan.specs.Place.{byteAt}
-use Rattle.event.specs.Event.{Text, Tag, Event}
+use Rattle.event.specs.Event.{Event}
 use Rattle.jsontext.specs.Token.{spaceAt}
-use Rattle.json.specs.Field.{Value, missing, bytes, number, tags, text, textAt, fieldOf, fieldAt}
-
--- what the seven fields say, by number
-abbrev pub Fields : Type 0
-Fields = List Value
+use Rattle.json.specs.Field.{missing, textAt, fieldOf, fieldAt, Fields, field}
+use Rattle.json.specs.inner.Closing.{isMissing, closeAt}
 
 abbrev pub noFields : Fields
 noFields = missing ∷ missing ∷ missing ∷ missing ∷ missing ∷ missing ∷ missing ∷ []
-
-abbrev pub isMissing : Value → Bool
-isMissing missing = true
-isMissing (bytes l) = false
-isMissing (number n) = false
-isMissing (tags l) = false
-isMissing (text t) = false
-
--- field number k
-abbrev pub field : Fields → ℕ → Value
-field f k = getD f k missing
 
 -- behind the name of field k: a colon, then its value
 unfoldable pub colonAt : ℕ → Fields → List ℕ → ℕ → Answer (Read Fields)
@@ -38,48 +24,6 @@ unfoldable pub memberAt : Fields → List ℕ → ℕ → Answer (Read Fields)
 memberAt f s at =
     andThen (textAt s at) λ n.
     let k = fieldOf (n .value) in pick (isMissing (field f k)) (colonAt k f s (spaceAt s (n .next))) (refused 16 at)
-
--- ---- what a field says at the closing brace: where it is missing, or of another kind, there is nothing to give but 15
-
-abbrev pub bytesIn : ℕ → Value → Answer (List ℕ)
-bytesIn at missing = refused 15 at
-bytesIn at (bytes l) = shown l
-bytesIn at (number n) = refused 15 at
-bytesIn at (tags l) = refused 15 at
-bytesIn at (text t) = refused 15 at
-
-abbrev pub numberIn : ℕ → Value → Answer ℕ
-numberIn at missing = refused 15 at
-numberIn at (bytes l) = refused 15 at
-numberIn at (number n) = shown n
-numberIn at (tags l) = refused 15 at
-numberIn at (text t) = refused 15 at
-
-abbrev pub tagsIn : ℕ → Value → Answer (List Tag)
-tagsIn at missing = refused 15 at
-tagsIn at (bytes l) = refused 15 at
-tagsIn at (number n) = refused 15 at
-tagsIn at (tags l) = shown l
-tagsIn at (text t) = refused 15 at
-
-abbrev pub textIn : ℕ → Value → Answer Text
-textIn at missing = refused 15 at
-textIn at (bytes l) = refused 15 at
-textIn at (number n) = refused 15 at
-textIn at (tags l) = refused 15 at
-textIn at (text t) = shown t
-
--- at the closing brace: the event, where each of the seven says its part
-unfoldable pub closeAt : Fields → ℕ → Answer (Read Event)
-closeAt f at =
-    andThen (bytesIn at (field f 0)) λ i.
-    andThen (bytesIn at (field f 1)) λ p.
-    andThen (bytesIn at (field f 2)) λ g.
-    andThen (numberIn at (field f 3)) λ n.
-    andThen (numberIn at (field f 4)) λ k.
-    andThen (tagsIn at (field f 5)) λ l.
-    andThen (textIn at (field f 6)) λ t.
-    read (record { id = i; pubkey = p; sig = g; createdAt = n; kind = k; tags = l; content = t }) (at + 1)
 
 -- behind a member, at p: the closing brace, or a comma and more
 unfoldable pub afterMember : (ℕ → Answer (Read Event)) → Fields → List ℕ → ℕ → Answer (Read Event)
@@ -109,7 +53,3 @@ wholeAt s =
 -- the event that a text shows, or the refusal: 1 first of all
 unfoldable pub readJson : List ℕ → Answer Event
 readJson s = pick (leb (length s) 65_536) (wholeAt s) (refused 1 0)
-
--- the numbers that it refuses with (document 01, "Plain JSON reader")
-abbrev pub jsonNumbers : List ℕ
-jsonNumbers = 1 ∷ 5 ∷ 6 ∷ 7 ∷ 8 ∷ 9 ∷ 10 ∷ 12 ∷ 14 ∷ 15 ∷ 16 ∷ 18 ∷ []

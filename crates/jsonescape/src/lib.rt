@@ -3,7 +3,7 @@ use jsontext::Escape;
 ghost use Prim.Native.Nat.{_+_, _-_, _*_, _^_, _≤_, _<_};
 ghost use mathlib.Core.Path.{_≡_};
 ghost use lib.ListN.{length};
-ghost use Rattle.jsontext.specs.Escape.{hexValue, unitOf, unitAt, unescapedLetter, letterEscape, pairOf, unicodeAt, escapeAt};
+ghost use Rattle.jsontext.specs.inner.Escape.{hexValue, unitOf, unitAt, unescapedLetter, letterEscape, pairOf, unicodeAt, escapeAt};
 
 const NO_UNIT: u32 = 0x10000;
 

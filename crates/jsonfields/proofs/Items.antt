@@ -1,4 +1,5 @@
--- Arrays of items, for texts in a tag and for tags alike: what was read taken apart, how much it takes in the strict form, and the turns of the loop that measures.
+-- Arrays of items, for texts in a tag and for tags alike: what was read taken apart, how much it takes in the strict
+-- form, and the turns of the loop that measures.
 -- The invariant puts what is counted so far in front of the items that are still to be read.
 use Prim.Native.Nat.{ℕ, zero, suc, _+_, _*_, _-_, _≤_, _<_}
 use mathlib.Core.Path.{_≡_, refl, sym, ap, _∙_, subst}
@@ -13,7 +14,7 @@ use Rattle.scan.specs.Choice.{pick, Answer, shown, refused, Read, read, andThen
 use Rattle.scan.proofs.Many.{then-shown}
 use Rattle.scan.proofs.Reading.{read-same}
 use Rattle.event.specs.declared.Refusal.{Refusal}
-use Rattle.event.specs.Answers.{told}
+use Rattle.event.specs.inner.Told.{told}
 use Rattle.jsontext.specs.Token.{spaceAt}
 use Rattle.scan.proofs.Fits.{byte-positive}
 use Rattle.jsontext.proofs.TokenLaws.{space-onward}
@@ -22,8 +23,8 @@ use Rattle.jsonfields.specs.declared.Cursor.{Cursor}
 use Rattle.jsonfields.specs.declared.Sized.{Sized}
 use Rattle.jsonfields.specs.declared.LenRead.{LenRead}
 use Rattle.jsonfields.specs.declared.LenRead.the-variants as len-by
-use Rattle.jsonfields.specs.Size.{total, sized}
-use Rattle.jsonfields.specs.Answers.{lenRead}
+use Rattle.jsonfields.specs.inner.Size.{total, sized}
+use Rattle.jsonfields.specs.inner.Answers.{lenRead}
 
 -- ---- a value under a measure
 
@@ -136,7 +137,8 @@ module _ {A : Type 0} (item : ℕ → Answer (Read A)) (size : A → ℕ) (s : L
 abbrev pub gathered : {A : Type 0} → (A → ℕ) → (n len : ℕ) → List A → Sized
 gathered size n len l = record { count = n + length l; len = len + total size l }
 
--- What the loop knows: the whole is what was counted and the items from here on; and each took at most m bytes more than it does here.
+-- What the loop knows: the whole is what was counted and the items from here on; and each took at most m bytes more
+-- than it does here.
 pub record InItems {A : Type 0} (item : ℕ → Answer (Read A)) (size : A → ℕ) (s : List ℕ) (limit m at i n len : ℕ) : Type 0 where
   pub same : under (sized size) (insideAt item limit s at) ≡ under (gathered size n len) (itemsAt item (limit - n) s i)
   pub few : n ≤ limit

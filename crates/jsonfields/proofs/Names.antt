@@ -1,5 +1,6 @@
 -- The number of the field that has a name, when its length leaves one or two names to compare.
--- A name that was compared and is the same has its number; a text whose number is below 7 is that name, so one that is none of them has 7.
+-- A name that was compared and is the same has its number; a text whose number is below 7 is that name, so one that is
+-- none of them has 7.
 use Prim.Native.Nat.{ℕ, suc, _+_, _<_, _≤_}
 use mathlib.Core.Path.{_≡_, refl, sym, ap, _∙_, subst}
 use mathlib.Core.Bool.{Bool, true, false}
@@ -17,7 +18,7 @@ use Rattle.scan.specs.Compare.{sameBytes}
 use Rattle.scan.proofs.Step.{pick-by, false-true}
 use Rattle.scan.proofs.SpanLaws.{whole-span, input-span}
 use Rattle.scan.proofs.PlaceLaws.{span-stands, stands-span}
-use Rattle.buffer.specs.Store.{Buffer, Wrote}
+use Rattle.buffer.specs.inner.Store.{Buffer, Wrote}
 use Rattle.buffer.proofs.Laws.{puts-eq}
 use Rattle.event.specs.Event.{Text}
 use Rattle.json.specs.Meaning.{names}
@@ -25,7 +26,7 @@ use Rattle.json.specs.Field.{indexIn, fieldOf}
 use Rattle.json.proofs.Names.{name, number-name, name-number, by-seven}
 use Rattle.jsonfields.specs.declared.Field.{Field}
 use Rattle.jsonfields.specs.declared.Field.the-variants as field-by
-use Rattle.jsonfields.specs.Spots.{fieldNumber}
+use Rattle.jsonfields.specs.inner.Spots.{fieldNumber}
 
 index-most : (l : List Text) (t : Text) → indexIn l t ≤ length l
 unfolding indexIn

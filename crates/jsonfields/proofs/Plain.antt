@@ -12,11 +12,11 @@ use Rattle.hex.proofs.Texts.{digits-pass, go-digits}
 use Rattle.event.specs.Event.{Text}
 use Rattle.notepack.specs.Strict.{packElement}
 use Rattle.jsontext.specs.declared.Spelled.{Spelled}
-use Rattle.jsontext.specs.Escape.{unescape}
+use Rattle.jsontext.specs.inner.Escape.{unescape}
 use Rattle.jsontext.specs.Text.{stringAt}
 use Rattle.jsonstring.proofs.PlainLaws.{digits-own}
 use Rattle.json.specs.Field.{under, textOf, textAt, isHexOf}
-use Rattle.jsonfields.specs.Size.{elementSize}
+use Rattle.jsonfields.specs.inner.Size.{elementSize}
 
 -- ---- digits are their own text
 

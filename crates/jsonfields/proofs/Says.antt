@@ -1,5 +1,7 @@
--- What a spot says is the field's value as json/specs/Field reads it, and its length is that of the value's strict form.
--- One equation and one record of what a field takes, kind by kind: hex, a number, tags, a text, a value that is ignored.
+-- What a spot says is the field's value as json/specs/Field reads it, and its length is that of the value's strict
+-- form.
+-- One equation and one record of what a field takes, kind by kind: hex, a number, tags, a text, a value that is
+-- ignored.
 use Prim.Native.Nat.{ℕ, _+_, _*_, _-_, _≤_, _<_, _^_}
 use mathlib.Core.Path.{_≡_, refl, sym, ap, _∙_, subst}
 use mathlib.Core.Bool.{Bool, true, false}
@@ -8,7 +10,8 @@ use native.Mathlib.Omega.{arith}
 use lib.ListN.{length, getD, length-append}
 use lib.Dec.{eqb}
 use borrow.Author.Tests.{eqb-true}
-use Rattle.scan.specs.Choice.{pick, Answer, shown, refused, Read, read, andThen, orElse}
+use Rattle.scan.specs.Choice.{pick, Answer, shown, refused, Read, read, andThen}
+use Rattle.scan.specs.inner.Otherwise.{orElse}
 use Rattle.scan.proofs.Step.{pick-true}
 use Rattle.scan.proofs.Many.{then-shown}
 use Rattle.scan.proofs.Reading.{read-same}
@@ -25,8 +28,8 @@ use Rattle.jsontext.specs.Value.{valueAt}
 use Rattle.jsontext.proofs.TokenLaws.{space-onward}
 use Rattle.json.specs.Field.{Value, missing, bytes, number, tags, text, under, textOf, textAt, isHexOf, hexAt, wholeAt, insideAt, arrayAt, tagAt, tagsAt, fieldAt}
 use Rattle.jsonfields.specs.declared.Spot.{Spot}
-use Rattle.jsonfields.specs.Size.{tagSize, sized}
-use Rattle.jsonfields.specs.Spots.{hexSpot, textSpot, numberSpot, tagsSpot, ignoredSpot, spelledOf, hexSpotAt, tagsSpotAt, spotAt}
+use Rattle.jsonfields.specs.inner.Size.{tagSize, sized}
+use Rattle.jsonfields.specs.inner.Spots.{hexSpot, textSpot, numberSpot, tagsSpot, ignoredSpot, spelledOf, hexSpotAt, tagsSpotAt, spotAt}
 use Rattle.jsonfields.proofs.Names.{by-eight}
 use Rattle.jsonfields.proofs.Strings.{string-ends, part-most, spelled-most}
 use Rattle.jsonfields.proofs.Items.{under-read, never-shown}

@@ -1,4 +1,5 @@
--- Where a string that was read ends, and how long its text can get: no longer than it is spelled, and as a strict element ten bytes more.
+-- Where a string that was read ends, and how long its text can get: no longer than it is spelled, and as a strict
+-- element ten bytes more.
 -- By soundness of the string, and along the runs and escapes of its bytes.
 use Prim.Native.Nat.{ℕ, zero, suc, _+_, _*_, _-_, _/_, _≤_, _<_, _^_}
 use mathlib.Core.Path.{_≡_, refl, sym, ap, _∙_}
@@ -9,7 +10,7 @@ use native.Mathlib.Omega.{arith}
 use native.Mathlib.Decide.{decLt}
 use lib.ListN.{length, take, drop, length-take, length-drop, length-append}
 use Rattle.scan.specs.Choice.{read}
-use Rattle.scan.specs.Span.{Span}
+use Rattle.scan.specs.inner.Span.{Span}
 use Rattle.scan.proofs.SpanLaws.{span-length, span-fits}
 use Rattle.scan.proofs.Many.{then-shown}
 use Rattle.scan.proofs.Reading.{read-same}
@@ -19,14 +20,14 @@ use Rattle.notepack.specs.Strict.{packElement}
 use Rattle.notepack.proofs.Lengths.{length-as-bytes, length-as-text}
 use Rattle.jsontext.specs.declared.Spelled.{Spelled}
 use Rattle.jsontext.specs.Grammar as json
-use Rattle.jsontext.specs.Escape.{escapeAt, orItself, unescape}
-use Rattle.jsonunescape.specs.Run.{backslashAt}
+use Rattle.jsontext.specs.inner.Escape.{escapeAt, orItself, unescape}
+use Rattle.jsonunescape.specs.inner.Run.{backslashAt}
 use Rattle.jsontext.specs.Text.{stringAt}
 use Rattle.jsontext.proofs.Meaning.{unescape-chars, chars-same}
 use Rattle.jsontext.proofs.TextLaws.{string-reads}
 use Rattle.jsonunescape.proofs.Unescape.{run-onward, run-inside, run-slash, length-run, unescape-end, taken, length-escape}
 use Rattle.json.specs.Field.{textOf, textAt}
-use Rattle.jsonfields.specs.Size.{elementSize}
+use Rattle.jsonfields.specs.inner.Size.{elementSize}
 
 -- ---- general: belongs to crate jsontext
 

@@ -1,4 +1,5 @@
--- Hex, digits and tags as they are read: each way out of the code is one law, and a tag takes little more in the strict form than it does here.
+-- Hex, digits and tags as they are read: each way out of the code is one law, and a tag takes little more in the strict
+-- form than it does here.
 -- By the definitions' tests; the bound is gathered text by text.
 use Prim.Native.Nat.{ℕ, zero, suc, _+_, _*_, _-_, _%_, _≤_, _<_, _^_}
 use mathlib.Core.Path.{_≡_, refl, sym, ap, _∙_, subst}
@@ -9,7 +10,8 @@ use lib.ListN.{length, take, drop, getD, length-append, length-take, length-drop
 use lib.Dec.{eqb, leb}
 use borrow.Author.Tests.{eq-eqb, ne-eqb, eqb-true, eqb-false, le-leb, lt-leb, leb-true}
 use Rattle.scan.specs.Choice.{pick, shown, refused, Read, read, andThen}
-use Rattle.scan.specs.Span.{Span, All, none, also}
+use Rattle.scan.specs.Bytes.{All, none, also}
+use Rattle.scan.specs.inner.Span.{Span}
 use Rattle.scan.proofs.Step.{pick-by}
 use Rattle.scan.proofs.SpanLaws.{span-length, span-fits, whole-span}
 use Rattle.scan.proofs.Many.{then-shown}
@@ -18,14 +20,15 @@ use Rattle.scan.proofs.Fits.{byte-positive}
 use Rattle.varint.specs.Uleb.{uleb}
 use Rattle.varint.proofs.UlebLaws.{length-ten}
 use Rattle.hex.specs.Hex.{goesAsBytes}
-use Rattle.decimal.specs.Decimal.{Digits, number, over, numberOf, isDigit, digitsAt}
+use Rattle.decimal.specs.Decimal.{numberOf, isDigit}
+use Rattle.decimal.specs.inner.Run.{number, over, Digits, digitsAt}
 use Rattle.decimal.specs.Decimal as decimal
 use Rattle.decimal.proofs.Reading.{consumes-number, consumes-over, consumes-none, digit-passes}
 use Rattle.event.specs.Event.{Text, Tag}
 use Rattle.notepack.specs.Strict.{packElement, packElements, packTag, packTags}
 use Rattle.notepack.proofs.Lengths.{tag-form}
 use Rattle.event.specs.declared.Refusal.{Refusal}
-use Rattle.event.specs.Answers.{told}
+use Rattle.event.specs.inner.Told.{told}
 use Rattle.jsontext.specs.Token.{spaceAt, skipNumber, past, Done}
 use Rattle.jsontext.specs.Grammar as json
 use Rattle.jsontext.proofs.TokenLaws.{number-consumes, space-onward}
@@ -35,8 +38,8 @@ use Rattle.jsonfields.specs.declared.Sized.{Sized}
 use Rattle.jsonfields.specs.declared.Cursor as own
 use Rattle.jsonfields.specs.declared.SizedRead.{SizedRead}
 use Rattle.jsonfields.specs.declared.SizedRead.the-variants as sized-by
-use Rattle.jsonfields.specs.Size.{elementSize, tagSize, total, sized}
-use Rattle.jsonfields.specs.Answers.{sizedRead}
+use Rattle.jsonfields.specs.inner.Size.{elementSize, tagSize, total, sized}
+use Rattle.jsonfields.specs.inner.Answers.{sizedRead}
 use Rattle.jsonfields.proofs.Strings.{text-bound}
 use Rattle.jsonfields.proofs.Items.{Took, items-took, Bound, took-bound, never-shown, under-read, under-refused, inside-by}
 

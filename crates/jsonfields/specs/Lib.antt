@@ -1,3 +1,1 @@
-pub mod Size
-pub mod Spots
-pub mod Answers
+pub mod inner

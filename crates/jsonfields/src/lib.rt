@@ -1,4 +1,5 @@
-// The value of each field of an event in plain JSON: read at its first byte, checked, and told by where it stands and how it goes into the strict form.
+// The value of each field of an event in plain JSON: read at its first byte, checked, and told by where it stands and
+// how it goes into the strict form.
 use decimal::DecimalRead;
 use event::Refusal;
 use jsonstring::StringRead;
@@ -13,9 +14,9 @@ ghost use Rattle.jsontext.specs.Token.{spaceAt};
 ghost use Rattle.jsontext.specs.Text.{stringAt};
 ghost use Rattle.jsontext.specs.Value.{valueAt};
 ghost use Rattle.json.specs.Field.{under, textOf, textAt, isHexOf, wholeOf, wholeAt, insideAt, tagAt, fieldOf};
-ghost use Rattle.jsonfields.specs.Size.{elementSize, tagSize, sized};
-ghost use Rattle.jsonfields.specs.Spots.{fieldNumber, numberSpot, textSpot, ignoredSpot, hexSpotAt, tagsSpotAt, spotAt};
-ghost use Rattle.jsonfields.specs.Answers.{nameRead, lenRead, sizedRead, spotRead};
+ghost use Rattle.jsonfields.specs.inner.Size.{elementSize, tagSize, sized};
+ghost use Rattle.jsonfields.specs.inner.Spots.{fieldNumber, numberSpot, textSpot, ignoredSpot, hexSpotAt, tagsSpotAt, spotAt};
+ghost use Rattle.jsonfields.specs.inner.Answers.{nameRead, lenRead, sizedRead, spotRead};
 
 // A place in the input. A cursor past the end reads as the end.
 pub struct Cursor {

@@ -14,14 +14,15 @@ use Rattle.varint.specs.Uleb.{uleb}
 use Rattle.hex.specs.Hex.{unhex}
 use Rattle.event.specs.Event.{Event}
 use Rattle.notepack.specs.Strict.{pack, packTags}
-use Rattle.json.specs.Field.{Value, missing, textOf}
-use Rattle.json.specs.Object.{noFields, isMissing, field, closeAt}
+use Rattle.json.specs.Field.{Value, missing, textOf, field}
+use Rattle.json.specs.Object.{noFields}
+use Rattle.json.specs.inner.Closing.{isMissing, closeAt}
 use Rattle.jsonfields.specs.declared.Spot.{Spot}
-use Rattle.jsonfields.specs.Spots.{spelledOf}
+use Rattle.jsonfields.specs.inner.Spots.{spelledOf}
 use Rattle.jsonfields.proofs.Names.{by-eight}
 use Rattle.jsonfields.proofs.Says.{tagsReadAt, saysAs, packValue}
 use Rattle.jsonobject.specs.declared.Fields.{Fields}
-use Rattle.jsonobject.specs.Spotted.{noSpot, spotsOf, noneFound, spotOf, withSpot, eachFound, allFound, measured}
+use Rattle.jsonobject.specs.inner.Spotted.{noSpot, spotsOf, noneFound, spotOf, withSpot, eachFound, allFound, measured}
 
 -- ---- what they say
 

@@ -1,5 +1,6 @@
 -- The turns of the loop over the members: those from the first on are those from here on, with what is found so far.
--- A member takes a byte or more, so that the fuel is enough; and little more in the strict form than here, so that the lengths can be summed.
+-- A member takes a byte or more, so that the fuel is enough; and little more in the strict form than here, so that the
+-- lengths can be summed.
 use Prim.Native.Nat.{ℕ, zero, suc, _+_, _*_, _-_, _≤_, _<_, _^_}
 use mathlib.Core.Path.{_≡_, refl, sym, ap, _∙_}
 use mathlib.Core.Bool.{Bool, true, false}
@@ -14,13 +15,13 @@ use Rattle.scan.proofs.Reading.{Reads, reads, read-same}
 use Rattle.scan.proofs.Many.{then-shown}
 use Rattle.scan.proofs.Fits.{byte-positive}
 use Rattle.event.specs.declared.Refusal.{Refusal}
-use Rattle.event.specs.Answers.{told}
+use Rattle.event.specs.inner.Told.{told}
 use Rattle.jsontext.specs.Token.{spaceAt}
 use Rattle.jsontext.proofs.TokenLaws.{space-onward, space-inside}
 use Rattle.json.specs.Field.{under, textAt, fieldOf}
 use Rattle.json.proofs.FieldSound.{field-says}
 use Rattle.jsonfields.specs.declared.Spot.{Spot}
-use Rattle.jsonfields.specs.Spots.{spotAt}
+use Rattle.jsonfields.specs.inner.Spots.{spotAt}
 use Rattle.jsonfields.proofs.Strings.{string-ends, text-string}
 use Rattle.jsonfields.proofs.Items.{never-shown, under-read}
 use Rattle.jsonfields.proofs.Names.{number-most}
@@ -29,8 +30,8 @@ use Rattle.jsonobject.specs.declared.Cursor.{Cursor}
 use Rattle.jsonobject.specs.declared.Fields.{Fields}
 use Rattle.jsonobject.specs.declared.FieldsRead.{FieldsRead}
 use Rattle.jsonobject.specs.declared.FieldsRead.the-variants as fields-by
-use Rattle.jsonobject.specs.Spotted.{spotsOf, noneFound, spotOf, withSpot, allFound, measured, Object, colonSpotsAt, memberSpotsAt, closeSpotsAt, afterSpots, membersSpotsAt}
-use Rattle.jsonobject.specs.Answers.{fieldsRead}
+use Rattle.jsonobject.specs.inner.Spotted.{spotsOf, noneFound, spotOf, withSpot, allFound, measured, Object, colonSpotsAt, memberSpotsAt, closeSpotsAt, afterSpots, membersSpotsAt}
+use Rattle.jsonobject.specs.inner.Answers.{fieldsRead}
 use Rattle.jsonobject.proofs.Known.{weight, none-weight, weight-with, measured-most}
 
 -- ---- a member goes on, and takes little more than it does here

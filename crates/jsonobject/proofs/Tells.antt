@@ -1,5 +1,5 @@
--- An object by its spots is the object as json/specs/Object reads it: `object-said`. And what holds of every spot that is read for a field
--- holds of the object's seven: `object-each`. Read by read, and by induction on the members.
+-- An object by its spots is the object as json/specs/Object reads it: `object-said`. And what holds of every spot that
+-- is read for a field holds of the object's seven: `object-each`. Read by read, and by induction on the members.
 use Prim.Native.Nat.{ℕ, zero, suc, _+_, _≤_, _<_, _^_}
 use mathlib.Core.Path.{_≡_, refl, sym, ap, _∙_, subst}
 use mathlib.Core.Bool.{Bool, true, false}
@@ -13,15 +13,16 @@ use Rattle.scan.proofs.Reading.{read-same}
 use Rattle.event.specs.Event.{Text, Event}
 use Rattle.notepack.specs.Strict.{pack}
 use Rattle.jsontext.specs.Token.{spaceAt}
-use Rattle.json.specs.Field.{under, textAt, fieldOf, fieldAt}
-use Rattle.json.specs.Object.{noFields, isMissing, field, colonAt, memberAt, closeAt, afterMember, membersAt, insideAt, objectAt}
+use Rattle.json.specs.Field.{under, textAt, fieldOf, fieldAt, field}
+use Rattle.json.specs.Object.{noFields, colonAt, memberAt, afterMember, membersAt, insideAt, objectAt}
+use Rattle.json.specs.inner.Closing.{isMissing, closeAt}
 use Rattle.jsonfields.specs.declared.Spot.{Spot}
-use Rattle.jsonfields.specs.Spots.{spotAt}
+use Rattle.jsonfields.specs.inner.Spots.{spotAt}
 use Rattle.jsonfields.proofs.Items.{never-shown, under-read}
 use Rattle.jsonfields.proofs.Names.{number-most}
 use Rattle.jsonfields.proofs.Says.{saysAs, packValue, field-said, takes}
 use Rattle.jsonobject.specs.declared.Fields.{Fields}
-use Rattle.jsonobject.specs.Spotted.{spotsOf, noneFound, spotOf, withSpot, allFound, measured, Object, colonSpotsAt, memberSpotsAt, closeSpotsAt, afterSpots, membersSpotsAt, insideSpotsAt, objectSpotsAt}
+use Rattle.jsonobject.specs.inner.Spotted.{spotsOf, noneFound, spotOf, withSpot, allFound, measured, Object, colonSpotsAt, memberSpotsAt, closeSpotsAt, afterSpots, membersSpotsAt, insideSpotsAt, objectSpotsAt}
 use Rattle.jsonobject.proofs.Known.{fieldsOf, eventBy, none-said, field-missing, fields-with, close-found, Each, Once, none-once, once-with, all-found, measured-pack}
 
 -- ---- the same is read

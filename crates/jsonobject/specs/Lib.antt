@@ -1,2 +1,1 @@
-pub mod Spotted
-pub mod Answers
+pub mod inner

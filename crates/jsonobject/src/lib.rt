@@ -1,4 +1,5 @@
-// An event's object in plain JSON: its members in any order, each of the seven fields once, and the length that the event takes in the strict form.
+// An event's object in plain JSON: its members in any order, each of the seven fields once, and the length that the
+// event takes in the strict form.
 use event::Refusal;
 use jsonfields::Field;
 use jsonfields::NameRead;
@@ -7,9 +8,9 @@ use jsonfields::SpotRead;
 ghost use Prim.Native.Nat.{_^_, _≤_, _<_};
 ghost use mathlib.Core.Path.{_≡_};
 ghost use lib.ListN.{length};
-ghost use Rattle.jsonfields.specs.Spots.{fieldNumber};
-ghost use Rattle.jsonobject.specs.Spotted.{noSpot, spotOf, withSpot, noneFound, allFound, measured, colonSpotsAt, memberSpotsAt, membersSpotsAt, objectSpotsAt};
-ghost use Rattle.jsonobject.specs.Answers.{fieldsRead, objectRead};
+ghost use Rattle.jsonfields.specs.inner.Spots.{fieldNumber};
+ghost use Rattle.jsonobject.specs.inner.Spotted.{noSpot, spotOf, withSpot, noneFound, allFound, measured, colonSpotsAt, memberSpotsAt, membersSpotsAt, objectSpotsAt};
+ghost use Rattle.jsonobject.specs.inner.Answers.{fieldsRead, objectRead};
 
 // A place in the input. A cursor past the end reads as the end.
 pub struct Cursor {

@@ -1,5 +1,7 @@
--- What the second pass writes of texts and tags, turn by turn; and that it is their strict form where the first pass read them.
--- Along the items as they were taken apart; the byte behind each is there, so that the second pass comes to the same places.
+-- What the second pass writes of texts and tags, turn by turn; and that it is their strict form where the first pass
+-- read them.
+-- Along the items as they were taken apart; the byte behind each is there, so that the second pass comes to the same
+-- places.
 use Prim.Native.Nat.{ℕ, zero, suc, _+_, _-_, _≤_, _<_}
 use mathlib.Core.Path.{_≡_, refl, sym, ap, _∙_, subst}
 use mathlib.Core.List.{List, [], _∷_, _++_, append-assoc}
@@ -9,7 +11,7 @@ use lib.ListN.{length, getD}
 use lib.Dec.{eqb}
 use borrow.Author.Tests.{eq-eqb, ne-eqb, lt-ltb}
 use Rattle.scan.specs.Choice.{pick, Answer, shown, refused, Read, read}
-use Rattle.buffer.specs.Store.{Wrote}
+use Rattle.buffer.specs.inner.Store.{Wrote}
 use Rattle.varint.specs.Uleb.{uleb}
 use Rattle.event.specs.Event.{Tag}
 use Rattle.notepack.specs.Strict.{packElement, packElements, packTags}
@@ -19,7 +21,7 @@ use Rattle.jsontext.specs.Token.{spaceAt}
 use Rattle.jsontext.specs.Text.{stringAt}
 use Rattle.scan.proofs.Fits.{byte-positive}
 use Rattle.json.specs.Field.{textOf, textAt, tagAt}
-use Rattle.jsonread.specs.Copy.{behindAt, nextAt, textEnd, countTexts, textsText, jsonTextsEnd, jsonTagText, jsonTagsText}
+use Rattle.jsonread.specs.inner.Copy.{behindAt, nextAt, textEnd, countTexts, textsText, jsonTextsEnd, jsonTagText, jsonTagsText}
 use Rattle.jsonfields.proofs.Strings.{string-ends, text-string}
 use Rattle.jsonfields.proofs.Values.{tag-took}
 use Rattle.jsonfields.proofs.Items.{Took, last, more}

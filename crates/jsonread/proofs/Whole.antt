@@ -1,5 +1,7 @@
--- The whole text and the entry: what is answered and what is left in the lent buffer, for each outcome of the first pass.
--- The spots say the event that the reading shows; the room was measured, so that what is written is the strict form and the rest is unchanged.
+-- The whole text and the entry: what is answered and what is left in the lent buffer, for each outcome of the first
+-- pass.
+-- The spots say the event that the reading shows; the room was measured, so that what is written is the strict form and
+-- the rest is unchanged.
 use Prim.Native.Nat.{ℕ, _≤_, _<_}
 use mathlib.Core.Path.{_≡_, refl, sym, ap, _∙_, subst}
 use mathlib.Core.Bool.{Bool, true, false}
@@ -10,7 +12,7 @@ use lib.Dec.{eqb}
 use borrow.Author.Tests.{le-leb, lt-leb}
 use Rattle.scan.specs.Choice.{pick, Answer, shown, refused, Read, andThen}
 use Rattle.scan.proofs.Many.{then-shown}
-use Rattle.buffer.specs.Store.{Wrote}
+use Rattle.buffer.specs.inner.Store.{Wrote}
 use Rattle.buffer.specs.Entry.{writes, leaves}
 use Rattle.buffer.proofs.EntryLaws.{short, fitted}
 use Rattle.notepack.specs.Strict.{pack}
@@ -18,10 +20,10 @@ use Rattle.jsontext.specs.Token.{spaceAt}
 use Rattle.json.specs.Field.{under}
 use Rattle.json.specs.Object.{wholeAt, readJson}
 use Rattle.jsonfields.proofs.Items.{never-shown}
-use Rattle.jsonobject.specs.Spotted.{Object, objectSpotsAt}
+use Rattle.jsonobject.specs.inner.Spotted.{Object, objectSpotsAt}
 use Rattle.jsonobject.proofs.Tells.{eventIn, object-said, object-len}
-use Rattle.jsonread.specs.Copy.{fieldsText}
-use Rattle.jsonread.specs.Whole.{wholeSpotsAt}
+use Rattle.jsonread.specs.inner.Copy.{fieldsText}
+use Rattle.jsonread.specs.inner.Whole.{wholeSpotsAt}
 use Rattle.jsonread.proofs.Writing.{object-written}
 
 module _ (s : List ℕ) (l : length s ≤ 65_536) where

@@ -1,4 +1,5 @@
--- What the second pass writes of an object is its event's strict form: content and tags as they were read, the rest by the definitions.
+-- What the second pass writes of an object is its event's strict form: content and tags as they were read, the rest by
+-- the definitions.
 use Prim.Native.Nat.{ℕ, _+_, _≤_}
 use mathlib.Core.Path.{_≡_, refl, sym, ap, _∙_, subst}
 use mathlib.Core.List.{List, _++_, append-assoc}
@@ -16,16 +17,16 @@ use Rattle.jsontext.specs.Token.{spaceAt}
 use Rattle.jsontext.specs.Text.{stringAt}
 use Rattle.json.specs.Field.{under, textOf, insideAt, tagAt}
 use Rattle.jsonfields.specs.declared.Spot.{Spot}
-use Rattle.jsonfields.specs.Size.{tagSize, sized}
-use Rattle.jsonfields.specs.Spots.{textSpot, tagsSpot, spelledOf, tagsSpotAt, spotAt}
+use Rattle.jsonfields.specs.inner.Size.{tagSize, sized}
+use Rattle.jsonfields.specs.inner.Spots.{textSpot, tagsSpot, spelledOf, tagsSpotAt, spotAt}
 use Rattle.jsonfields.proofs.Strings.{string-same}
 use Rattle.jsonfields.proofs.Items.{under-read, inside-by}
 use Rattle.jsonfields.proofs.Says.{tagsReadAt, tags-read, tags-kept}
 use Rattle.jsonobject.specs.declared.Fields.{Fields}
-use Rattle.jsonobject.specs.Spotted.{spotsOf, Object, objectSpotsAt}
+use Rattle.jsonobject.specs.inner.Spotted.{spotsOf, Object, objectSpotsAt}
 use Rattle.jsonobject.proofs.Known.{eventBy, Each, none, also}
 use Rattle.jsonobject.proofs.Tells.{eventIn, object-each}
-use Rattle.jsonread.specs.Copy.{spotContent, jsonTagsText, fieldsText}
+use Rattle.jsonread.specs.inner.Copy.{spotContent, jsonTagsText, fieldsText}
 use Rattle.jsonread.proofs.Copying.{tags-left, tags-written}
 
 -- a text's own bytes, or its text

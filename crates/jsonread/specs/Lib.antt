@@ -1,2 +1,1 @@
-pub mod Copy
-pub mod Whole
+pub mod inner

@@ -1,4 +1,5 @@
-// The plain JSON reader. The first pass (crate jsonobject) refuses or measures; only then is the strict form written, from the places that it found.
+// The plain JSON reader. The first pass (crate jsonobject) refuses or measures; only then is the strict form written,
+// from the places that it found.
 use event::Refusal;
 use event::Writing;
 use jsonfields::Spot;
@@ -6,14 +7,15 @@ use jsonobject::Fields;
 use jsonobject::ObjectRead;
 use jsonstring::TextRead;
 ghost use mathlib.Core.Path.{_≡_};
-ghost use Rattle.buffer.specs.Store.{Wrote};
-ghost use Rattle.event.specs.Answers.{writing};
+ghost use Rattle.buffer.specs.inner.Store.{Wrote};
+ghost use Rattle.event.specs.inner.Told.{writing};
 ghost use Rattle.hex.specs.Hex.{unhex};
 ghost use Rattle.json.specs.Field.{textOf};
-ghost use Rattle.json.specs.Entries.{jsonReads, jsonLeaves, jsonNeeds};
-ghost use Rattle.jsonfields.specs.Spots.{spelledOf};
-ghost use Rattle.jsonread.specs.Copy.{behindAt, textEnd, countTexts, textsText, jsonTextsEnd, jsonTagsText, spotContent, fieldsText};
-ghost use Rattle.jsonread.specs.Whole.{wholeSpotsAt, wholeRead};
+ghost use Rattle.json.specs.Entries.{jsonReads, jsonLeaves};
+ghost use Rattle.json.specs.inner.Needs.{jsonNeeds};
+ghost use Rattle.jsonfields.specs.inner.Spots.{spelledOf};
+ghost use Rattle.jsonread.specs.inner.Copy.{behindAt, textEnd, countTexts, textsText, jsonTextsEnd, jsonTagsText, spotContent, fieldsText};
+ghost use Rattle.jsonread.specs.inner.Whole.{wholeSpotsAt, wholeRead};
 
 // The place behind what was written, and the place behind what was read for it.
 struct Copied {
@@ -169,7 +171,8 @@ fn whole_text(s: &[u8]) -> ObjectRead
     }
 }
 
-// The event that a plain JSON text shows, in strict form from the start of the lent buffer; or the refusal, 11 with the length needed.
+// The event that a plain JSON text shows, in strict form from the start of the lent buffer; or the refusal, 11 with the
+// length needed.
 pub fn read_json(s: &[u8], out: &mut [u8]) -> Writing
     ensures { λ r. ⌜ writing r ≡ jsonReads (now (s .entry)) (now (out .entry)) ⌝ }
     ensures { λ _. ⌜ now (out .exit) ≡ jsonLeaves (now (s .entry)) (now (out .entry)) ⌝ }

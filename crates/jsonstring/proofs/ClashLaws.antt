@@ -11,10 +11,10 @@ use lib.ListN.{length, getD, take, drop}
 use lib.Dec.{eqb}
 use borrow.Author.Tests.{eq-eqb, ne-eqb}
 use Rattle.scan.specs.Choice.{pick}
-use Rattle.scan.specs.Blocks.{isOne, controlCount}
+use Rattle.scan.specs.inner.Blocks.{isOne, controlCount}
 use Rattle.scan.proofs.BlockLaws.{one-not, one-of-two, not-one, control-is, control-not, not-control, lentSum, pairs-none}
-use Rattle.jsontext.specs.Escape.{unescapedLetter, letterEscape, escapeAt}
-use Rattle.jsonstring.specs.Loose.{LooseTo, nothing, clashOf}
+use Rattle.jsontext.specs.inner.Escape.{unescapedLetter, letterEscape, escapeAt}
+use Rattle.jsonstring.specs.inner.Loose.{LooseTo, nothing, clashOf}
 use Rattle.jsonstring.proofs.LooseLaws.{then-bare, then-escape}
 
 -- ---- one byte behind another

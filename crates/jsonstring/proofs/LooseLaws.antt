@@ -1,5 +1,6 @@
 -- Bare bytes and escapes that are UTF-8 are passed in a string: `loose-text`, THE law of the fast way.
--- Character after character: an escape is whole characters of ASCII, and a character of several bytes is bare bytes above ASCII.
+-- Character after character: an escape is whole characters of ASCII, and a character of several bytes is bare bytes
+-- above ASCII.
 use Prim.Native.Nat.{ℕ, zero, suc, _+_, _-_, _<_, _≤_}
 use mathlib.Core.Path.{_≡_, refl, sym, ap, _∙_}
 use mathlib.Core.Bool.{Bool, true}
@@ -8,17 +9,18 @@ use native.Mathlib.Omega.{arith}
 use lib.ListN.{length, getD, take, drop, length-append}
 use lib.Seq.{take-at}
 use Rattle.scan.specs.Choice.{read}
-use Rattle.scan.specs.Span.{Span, here, step, All, none, also}
+use Rattle.scan.specs.Bytes.{All, none, also}
+use Rattle.scan.specs.inner.Span.{here, step, Span}
 use Rattle.scan.proofs.SpanLaws.{join, cut, open-span, none-span, close-span, span-length, span-fits, span-unique, from-span}
 use Rattle.utf8.specs.Utf8 as utf8
-use Rattle.utf8.specs.Width.{isUtf8}
+use Rattle.utf8.specs.inner.Width.{isUtf8}
 use Rattle.utf8.proofs.WidthLaws.{width-accepts}
 use Rattle.utf8.proofs.Laws.{is-utf8, utf8-rest, utf8-char, utf8-append, utf8-ascii}
 use Rattle.jsontext.specs.declared.Escape.{Escape}
 use Rattle.jsontext.specs.Grammar as json
-use Rattle.jsontext.specs.Escape.{escapeAt}
+use Rattle.jsontext.specs.inner.Escape.{escapeAt}
 use Rattle.jsontext.specs.Text.{stringAt}
-use Rattle.jsonstring.specs.Loose.{LooseTo, nothing, bare, escape}
+use Rattle.jsonstring.specs.inner.Loose.{LooseTo, nothing, bare, escape}
 use Rattle.scan.proofs.Fits.{byte-place}
 use Rattle.jsonstring.proofs.Turn.{InText, text-start, text-quote, text-ascii, text-char, text-escape}
 use Rattle.jsontext.proofs.EscapeLaws.{EscapeAt, escape-is, no-escape, escape-at, letter-small}

@@ -13,22 +13,23 @@ use lib.Seq.{getD-drop, getD-take}
 use lib.Dec.{eqb}
 use borrow.Author.Tests.{lt-ltb, le-ltb, le-leb, lt-leb, eq-eqb, ne-eqb, eqb-true}
 use Rattle.scan.specs.Choice.{pick, read}
-use Rattle.scan.specs.Span.{All, none, also}
-use Rattle.scan.specs.Blocks.{sumOf, beforeStop}
+use Rattle.scan.specs.Bytes.{All, none, also}
+use Rattle.scan.specs.inner.Blocks.{sumOf, beforeStop}
 use Rattle.scan.proofs.Step.{rest-none, rest-more, pick-true, false-true}
 use Rattle.scan.proofs.AllLaws.{all-at}
 use Rattle.scan.proofs.Fits.{byte-positive}
 use Rattle.scan.proofs.BlockLaws.{not-one, not-control, block-none, stop-within, stop-byte, stop-at, stop-block}
-use Rattle.hex.specs.Hex.{LowerHex, number, letter, allDigits}
+use Rattle.hex.specs.Hex.{allDigits}
+use Rattle.hex.specs.inner.LowerHex.{number, letter, LowerHex}
 use Rattle.hex.proofs.Texts.{pass-digits}
 use Rattle.jsontext.specs.declared.Spelled.{Spelled}
-use Rattle.jsontext.specs.Escape.{unescape}
+use Rattle.jsontext.specs.inner.Escape.{unescape}
 use Rattle.jsontext.specs.Text.{stringAt}
 use Rattle.jsontext.proofs.Meaning.{unescape-itself}
 use Rattle.jsonstring.specs.declared.Cursor.{Cursor}
 use Rattle.jsonstring.specs.declared.TextRead.{TextRead}
 use Rattle.jsonstring.specs.declared.TextRead.the-variants as text-by
-use Rattle.jsonstring.specs.Plain.{isSpecial, specialOf, PlainTo, plainEnd, isShortPlain, PlainText, plain}
+use Rattle.jsonstring.specs.inner.Plain.{isSpecial, specialOf, PlainTo, plainEnd, isShortPlain, PlainText, plain}
 use Rattle.jsonstring.proofs.Turn.{InText, text-start, text-quote, text-ascii}
 
 -- ---- a byte

@@ -1,5 +1,6 @@
 -- The turns of the loop over a string, character after character up to the closing quote.
--- Each premise is what the loop knows. `InText` says that the string read from its start is the string read from here, with fuel enough.
+-- Each premise is what the loop knows. `InText` says that the string read from its start is the string read from here,
+-- with fuel enough.
 use Prim.Native.Nat.{ℕ, zero, suc, _+_, _-_, _<_, _≤_}
 use mathlib.Core.Path.{_≡_, refl, sym, ap, _∙_}
 use mathlib.Core.List.{List}
@@ -8,10 +9,10 @@ use lib.ListN.{length, getD}
 use borrow.Author.Tests.{lt-ltb, le-ltb, eq-eqb, ne-eqb}
 use Rattle.scan.specs.Choice.{Answer, refused, Read, read}
 use Rattle.scan.proofs.Step.{byte-none}
-use Rattle.utf8.specs.Width.{widthAt}
+use Rattle.utf8.specs.inner.Width.{widthAt}
 use Rattle.jsontext.specs.declared.Spelled.{Spelled}
 use Rattle.jsontext.specs.declared.Escape.{Escape}
-use Rattle.jsontext.specs.Escape.{escapeAt}
+use Rattle.jsontext.specs.inner.Escape.{escapeAt}
 use Rattle.jsontext.specs.Text.{charsAt, stringAt}
 
 -- the string at `start`, read from its start, is the string read from i on with fuel enough

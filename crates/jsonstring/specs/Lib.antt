@@ -1,3 +1,1 @@
-pub mod Plain
-pub mod Loose
-pub mod Answers
+pub mod inner

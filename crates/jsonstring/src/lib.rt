@@ -6,11 +6,11 @@ ghost use mathlib.Core.Path.{_≡_};
 ghost use lib.ListN.{length, drop};
 ghost use Rattle.scan.specs.Choice.{pick, refused};
 ghost use Rattle.scan.specs.Place.{byteAt};
-ghost use Rattle.scan.specs.Blocks.{sumOf, neighbours, beforeStop};
+ghost use Rattle.scan.specs.inner.Blocks.{sumOf, neighbours, beforeStop};
 ghost use Rattle.jsontext.specs.Text.{stringAt};
-ghost use Rattle.jsonstring.specs.Plain.{specialOf, PlainTo, isSpecial, plainEnd, isShortPlain, PlainText};
-ghost use Rattle.jsonstring.specs.Loose.{LooseTo, clashOf};
-ghost use Rattle.jsonstring.specs.Answers.{stringRead, textRead};
+ghost use Rattle.jsonstring.specs.inner.Plain.{specialOf, PlainTo, isSpecial, plainEnd, isShortPlain, PlainText};
+ghost use Rattle.jsonstring.specs.inner.Loose.{LooseTo, clashOf};
+ghost use Rattle.jsonstring.specs.inner.Answers.{stringRead, textRead};
 
 // A place in the input. A cursor past the end reads as the end.
 pub struct Cursor {

@@ -13,7 +13,7 @@ use Rattle.varint.proofs.UlebLaws.{length-one}
 use Rattle.hex.specs.Hex.{unhex, goesAsBytes}
 use Rattle.hex.proofs.Texts.{go-digits, length-unhex}
 use Rattle.escape.specs.declared.Escaping.{Escaping}
-use Rattle.escape.specs.Escape.{byteOf}
+use Rattle.escape.specs.inner.Which.{byteOf}
 use Rattle.escape.proofs.ByteLaws.{escaping}
 use Rattle.escape.proofs.TextLaws.{length-most}
 use Rattle.event.specs.Event.{Text, Tag}

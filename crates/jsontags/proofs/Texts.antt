@@ -7,14 +7,17 @@ use mathlib.Core.List.{List, [], _∷_, _++_, append-nil}
 use native.Mathlib.Omega.{arith}
 use lib.ListN.{length, length-append}
 use borrow.Author.Tests.{ne-eqb, lt-ltb}
-use Rattle.scan.specs.Span.{All, none, also, IsBytes}
-use Rattle.hex.specs.Hex.{LowerHex, number, letter, hexes}
+use Rattle.scan.specs.Bytes.{All, none, also, IsBytes}
+use Rattle.hex.specs.Hex.{hexes}
+use Rattle.hex.specs.inner.LowerHex.{number, letter, LowerHex}
 use Rattle.hex.proofs.Texts.{length-hexes, hexes-digits}
 use Rattle.escape.specs.declared.Escaping.{Escaping}
 use Rattle.escape.specs.declared.Escaping.the-variants.{Canonical, Nson}
-use Rattle.escape.specs.Escape.{nsonByte, canonicalByte, byteOf, escaped}
+use Rattle.escape.specs.Escape.{nsonByte, canonicalByte, escaped}
+use Rattle.escape.specs.inner.Which.{byteOf}
 use Rattle.escape.proofs.TextLaws.{escaped-none, escaped-more}
-use Rattle.jsontags.specs.TagText.{quoted, comma, commaed, array}
+use Rattle.jsontags.specs.TagText.{quoted, commaed, array}
+use Rattle.jsontags.specs.inner.Comma.{comma}
 
 -- ---- what needs no escape
 

@@ -6,20 +6,22 @@ use mathlib.Core.Bool.{Bool, true, false}
 use mathlib.Core.List.{List, [], _∷_, _++_, map, append-assoc}
 use native.Mathlib.Omega.{arith}
 use lib.ListN.{length, drop, length-map, length-append, length-take, length-drop}
-use Rattle.scan.specs.Span.{IsBytes}
+use Rattle.scan.specs.Bytes.{IsBytes}
 use Rattle.scan.proofs.AllLaws.{all-take, all-drop}
 use Rattle.hex.specs.Hex.{hexes}
 use Rattle.hex.proofs.Texts.{length-hexes}
 use Rattle.escape.specs.declared.Escaping.{Escaping}
 use Rattle.escape.specs.declared.Escaping.the-variants.{Canonical, Nson}
-use Rattle.escape.specs.Escape.{byteOf, growth, escaped}
+use Rattle.escape.specs.Escape.{escaped}
+use Rattle.escape.specs.inner.Which.{byteOf, growth}
 use Rattle.event.specs.Event.{Text, Tag}
 use Rattle.notepack.specs.declared.Part.{Part}
 use Rattle.notepack.specs.Unpack.{bytesOf, textOf}
-use Rattle.notepack.specs.Again.{partAgain, countAgain, textsAgain, textsEnd, tagsAgain}
+use Rattle.notepack.specs.inner.Again.{partAgain, countAgain, textsAgain, textsEnd, tagsAgain}
 use Rattle.notepack.proofs.Walking.{text-raw, text-plain}
 use Rattle.notepack.proofs.Again as again
-use Rattle.jsontags.specs.TagText.{quoted, comma, commaed, tagText}
+use Rattle.jsontags.specs.TagText.{quoted, commaed, tagText}
+use Rattle.jsontags.specs.inner.Comma.{comma}
 use Rattle.jsontags.proofs.Texts.{hexes-stand, commaed-next}
 
 -- ---- a part

@@ -1,1 +1,2 @@
 pub mod TagText
+pub mod inner

@@ -2,18 +2,12 @@
 -- Assumes nothing.
 use Prim.Native.Nat.{ℕ}
 use mathlib.Core.List.{List, [], _∷_, _++_, map}
-use lib.Dec.{ltb}
-use Rattle.scan.specs.Choice.{pick}
 use Rattle.escape.specs.Escape.{escaped}
 use Rattle.event.specs.Event.{Text, Tag}
 
 -- a string: the escaped text between quotes
 unfoldable pub quoted : (ℕ → List ℕ) → Text → List ℕ
 quoted f t = 0x22 ∷ (escaped f t ++ (0x22 ∷ []))
-
--- the comma in front of n items more
-abbrev pub comma : ℕ → List ℕ
-comma n = pick (ltb 0 n) (0x2C ∷ []) []
 
 -- items with a comma between each two
 abbrev pub commaed : List (List ℕ) → List ℕ

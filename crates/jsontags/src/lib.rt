@@ -5,11 +5,13 @@ ghost use Prim.Native.Nat.{_*_, _≤_};
 ghost use mathlib.Core.Path.{_≡_};
 ghost use mathlib.Core.List.{map};
 ghost use lib.ListN.{length};
-ghost use Rattle.buffer.specs.Store.{Wrote};
-ghost use Rattle.escape.specs.Escape.{byteOf, growth, escaped};
+ghost use Rattle.buffer.specs.inner.Store.{Wrote};
+ghost use Rattle.escape.specs.Escape.{escaped};
+ghost use Rattle.escape.specs.inner.Which.{byteOf, growth};
 ghost use Rattle.notepack.specs.Unpack.{textOf};
-ghost use Rattle.notepack.specs.Again.{textsAgain, textsEnd, tagsAgain};
-ghost use Rattle.jsontags.specs.TagText.{quoted, comma, commaed, tagText};
+ghost use Rattle.notepack.specs.inner.Again.{textsAgain, textsEnd, tagsAgain};
+ghost use Rattle.jsontags.specs.TagText.{quoted, commaed, tagText};
+ghost use Rattle.jsontags.specs.inner.Comma.{comma};
 
 // The place behind what was written, and the place behind what was read for it.
 struct Copied {

@@ -10,10 +10,11 @@ use native.Mathlib.Decide.{ℕ-discrete}
 use lib.ListN.{length, getD}
 use Rattle.scan.specs.Choice.{pick}
 use Rattle.scan.specs.Place.{within}
-use Rattle.scan.specs.Span.{All, none, also, IsBytes}
+use Rattle.scan.specs.Bytes.{All, none, also, IsBytes}
 use Rattle.scan.proofs.Step.{pick-true}
 use Rattle.utf8.specs.Utf8 as utf8
-use Rattle.hex.specs.Hex as hex
+use Rattle.hex.specs.Hex.{hexes}
+use Rattle.hex.specs.inner.LowerHex as hex
 use Rattle.hex.proofs.Digits.{in-range}
 use Rattle.hex.proofs.Texts.{hexes-digits}
 use Rattle.decimal.specs.Decimal.{DecimalDigit, digit, decimal}
@@ -91,7 +92,7 @@ pub digits-chars : {l : List ℕ} → All hex.LowerHex l → json.Chars l l
 digits-chars none = json.no-char
 digits-chars (also p r) = one-char (hex-char p) (digits-chars r)
 
-pub hexes-chars : {b : List ℕ} → IsBytes b → json.Chars (hex.hexes b) (hex.hexes b)
+pub hexes-chars : {b : List ℕ} → IsBytes b → json.Chars (hexes b) (hexes b)
 hexes-chars h = digits-chars (hexes-digits h)
 
 -- small letters and the low line, and a name of them

@@ -12,17 +12,18 @@ use mir.Val.{Fits}
 use borrow.Author.Tests.{lt-ltb, le-ltb, le-leb, lt-leb, eq-eqb, ne-eqb, ltb-true, ltb-false, eqb-true}
 use Rattle.scan.specs.Choice.{pick}
 use Rattle.scan.specs.Place.{within}
-use Rattle.scan.specs.Span.{Span, here, step}
+use Rattle.scan.specs.inner.Span.{here, step, Span}
 use Rattle.scan.proofs.Step.{pick-by, byte-none}
 use Rattle.scan.proofs.SpanLaws.{join, cut-at, nth, seen, span-fits}
 use Rattle.utf8.specs.Utf8.{octet}
 use Rattle.utf8.specs.Encode.{Scalar, below, above, encode}
 use Rattle.utf8.proofs.EncodeLaws.{encode-one, encode-length}
-use Rattle.hex.specs.Hex.{LowerHex, number, letter, valueOf}
+use Rattle.hex.specs.Hex.{valueOf}
+use Rattle.hex.specs.inner.LowerHex.{number, letter, LowerHex}
 use Rattle.hex.proofs.Digits.{in-range, value-digit, value-of-digit}
 use Rattle.jsontext.specs.declared.Escape.{Escape}
 use Rattle.jsontext.specs.Grammar as json
-use Rattle.jsontext.specs.Escape.{hexValue, unitOf, unitAt, escape, noEscape, unescapedLetter, letterEscape, pairOf, unicodeAt, escapeAt}
+use Rattle.jsontext.specs.inner.Escape.{hexValue, unitOf, unitAt, escape, noEscape, unescapedLetter, letterEscape, pairOf, unicodeAt, escapeAt}
 
 -- ---- a hex digit and its value
 

@@ -8,7 +8,7 @@ use native.Mathlib.Omega.{arith}
 use lib.ListN.{length, getD}
 use lib.Dec.{eqb}
 use borrow.Author.Tests.{ne-eqb}
-use Rattle.scan.specs.Span.{Span, step}
+use Rattle.scan.specs.inner.Span.{step, Span}
 use Rattle.scan.proofs.SpanLaws.{span-length, span-fits}
 use Rattle.jsontext.specs.Grammar as json
 use Rattle.jsontext.specs.Token.{isSpace}

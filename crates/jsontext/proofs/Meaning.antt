@@ -1,4 +1,5 @@
--- What `unescape` gives: for a string of the grammar the bytes that its characters stand for; for a string without a backslash the string itself.
+-- What `unescape` gives: for a string of the grammar the bytes that its characters stand for; for a string without a
+-- backslash the string itself.
 -- One step law for each kind of place; the rest is induction on the grammar or on the list.
 use Prim.Native.Nat.{ℕ, zero, suc, _+_, _-_, _<_, _≤_}
 use mathlib.Core.Path.{_≡_, refl, sym, ap, _∙_}
@@ -11,7 +12,8 @@ use lib.ListN.{length, getD, drop, length-append}
 use lib.Seq.{getD-drop, drop-drop, drop-append-seam}
 use lib.Dec.{eqb}
 use borrow.Author.Tests.{eq-eqb, ne-eqb, eqb-false}
-use Rattle.scan.specs.Span.{Span, step, All, none, also}
+use Rattle.scan.specs.Bytes.{All, none, also}
+use Rattle.scan.specs.inner.Span.{step, Span}
 use Rattle.scan.proofs.Step.{rest-more, pick-by}
 use Rattle.scan.proofs.SpanLaws.{to-span, cut-at}
 use Rattle.scan.proofs.AllLaws.{all-map}
@@ -21,7 +23,7 @@ use Rattle.utf8.proofs.Laws.{utf8-append, utf8-char}
 use Rattle.utf8.proofs.EncodeLaws.{encode-one, encode-utf8, encode-length}
 use Rattle.jsontext.specs.declared.Escape.{Escape}
 use Rattle.jsontext.specs.Grammar as json
-use Rattle.jsontext.specs.Escape.{unitAt, escape, unicodeAt, escapeAt, orItself, unescaped, unescape}
+use Rattle.jsontext.specs.inner.Escape.{unitAt, escape, unicodeAt, escapeAt, orItself, unescaped, unescape}
 use Rattle.jsontext.proofs.EscapeLaws.{escape-letter, escape-unicode, escape-pair, unit-length, letter-small, pair-scalar}
 use Rattle.jsontext.proofs.TextLaws.{to-ascii, high-bytes, Kind, narrow, wide, kind}
 

@@ -6,7 +6,7 @@ use mathlib.Core.Bool.{false}
 use mathlib.Core.List.{List}
 use native.Mathlib.Omega.{arith}
 use lib.ListN.{length, getD}
-use Rattle.scan.specs.Span.{Span}
+use Rattle.scan.specs.inner.Span.{Span}
 use Rattle.scan.proofs.Step.{byte-none}
 use Rattle.scan.proofs.SpanLaws.{cut, input-span}
 use Rattle.jsontext.specs.Grammar as json

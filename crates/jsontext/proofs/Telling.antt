@@ -1,4 +1,5 @@
--- What the reads of this crate may refuse with: 5, 14 or 18, at a place that does not pass the input's end; and a read that succeeds ends within the input.
+-- What the reads of this crate may refuse with: 5, 14 or 18, at a place that does not pass the input's end; and a read
+-- that succeeds ends within the input.
 -- One line for each form of the definitions. A byte that passes a test stands within the input.
 use Prim.{Unit, tt}
 use Prim.Native.Nat.{ℕ, zero, suc, _+_, _<_, _≤_}
@@ -8,17 +9,19 @@ use mathlib.Core.List.{List}
 use native.Mathlib.Omega.{arith}
 use lib.ListN.{length, getD}
 use lib.Dec.{ltb, eqb}
+use Rattle.scan.specs.Ascii.{ascii}
 use Rattle.scan.specs.Choice.{Answer, Read}
 use Rattle.scan.specs.Place.{standsAt}
 use Rattle.scan.proofs.SpanLaws.{seen, span-length, span-fits}
 use Rattle.scan.proofs.Reading.{Reads, reads, fails}
-use Rattle.utf8.specs.Width.{widthAt}
-use Rattle.event.specs.Tells.{Tells, value, refusal}
+use Rattle.utf8.specs.inner.Width.{widthAt}
+use Rattle.event.specs.inner.Tells.{Tells, value, refusal}
 use Rattle.event.proofs.TellsLaws.{Inside, then-tells, pick-tells}
-use Rattle.jsontext.specs.Escape.{escapeAt}
+use Rattle.jsontext.specs.inner.Escape.{escapeAt}
 use Rattle.jsontext.specs.Token.{Skipped, spaceAt, wordAt, minusAt, intAt, numberFrom, unsignedFrom, skipNumber}
 use Rattle.jsontext.specs.Text.{charsAt, stringAt}
-use Rattle.jsontext.specs.Value.{valueNumbers, falseWord, nullWord, trueWord, skipColon, skipMember, skipItem, skipAfter, skipItems, skipInside, skipValueBy, skipWalkBy, valueAt}
+use Rattle.jsontext.specs.Value.{skipColon, skipMember, skipItem, skipAfter, skipItems, skipInside, skipValueBy, skipWalkBy, valueAt}
+use Rattle.jsontext.specs.inner.Numbers.{valueNumbers}
 use Rattle.jsontext.proofs.TokenLaws.{word-consumes, number-consumes, space-inside}
 
 -- ---- places within the input
@@ -119,10 +122,10 @@ module _ (s : List ℕ) where
       (λ f.
       pick-tells (eqb (getD s a 0) 0x5B) (λ t. g 0x5D a refl (byte-inside s a 0x5B refl t))
       (λ f.
-      pick-tells (eqb (getD s a 0) 0x74) (λ t. word-tells trueWord s a h)
+      pick-tells (eqb (getD s a 0) 0x74) (λ t. word-tells (ascii "true") s a h)
       (λ f.
-      pick-tells (eqb (getD s a 0) 0x66) (λ t. word-tells falseWord s a h)
-      (λ f. pick-tells (eqb (getD s a 0) 0x6E) (λ t. word-tells nullWord s a h) (λ f. number-tells s a h))))))
+      pick-tells (eqb (getD s a 0) 0x66) (λ t. word-tells (ascii "false") s a h)
+      (λ f. pick-tells (eqb (getD s a 0) 0x6E) (λ t. word-tells (ascii "null") s a h) (λ f. number-tells s a h))))))
 
   -- THE law of a value's reading
   pub value-tells : (depth a : ℕ) → a ≤ length s → Inside valueNumbers (length s) (valueAt depth s a)

@@ -1,5 +1,7 @@
--- A string at a place against the grammar, in both directions: it is read exactly where the RFC spells one, and the bytes between its quotes are told.
--- Soundness is a walk over `charsAt`, which adds one character in front; completeness is one step for each kind of character.
+-- A string at a place against the grammar, in both directions: it is read exactly where the RFC spells one, and the
+-- bytes between its quotes are told.
+-- Soundness is a walk over `charsAt`, which adds one character in front; completeness is one step for each kind of
+-- character.
 use Prim.Native.Nat.{ℕ, zero, suc, _+_, _-_, _<_, _≤_}
 use mathlib.Core.Path.{_≡_, refl, sym, ap, _∙_}
 use mathlib.Core.Bool.{true}
@@ -12,16 +14,17 @@ use lib.Seq.{take-at}
 use lib.Dec.{ltb, eqb}
 use borrow.Author.Tests.{lt-ltb, le-ltb, ne-eqb, ltb-true, ltb-false, eqb-true, eqb-false}
 use Rattle.scan.specs.Choice.{refused, read}
-use Rattle.scan.specs.Span.{Span, here, step, All, none, also}
+use Rattle.scan.specs.Bytes.{All, none, also}
+use Rattle.scan.specs.inner.Span.{here, step, Span}
 use Rattle.scan.proofs.SpanLaws.{join, cut, cut-at, open-span, close-span, bite, seen, span-length, span-fits, from-span}
 use Rattle.scan.proofs.Reading.{Reads, reads, fails, pick-reads, from-reads}
 use Rattle.utf8.specs.Utf8 as utf8
-use Rattle.utf8.specs.Width.{widthAt}
+use Rattle.utf8.specs.inner.Width.{widthAt}
 use Rattle.utf8.proofs.WidthLaws.{width-accepts, width-consumes, char-length}
 use Rattle.jsontext.specs.declared.Spelled.{Spelled}
 use Rattle.jsontext.specs.declared.Escape.{Escape}
 use Rattle.jsontext.specs.Grammar as json
-use Rattle.jsontext.specs.Escape.{escapeAt}
+use Rattle.jsontext.specs.inner.Escape.{escapeAt}
 use Rattle.jsontext.specs.Text.{onward, charsAt, stringAt}
 use Rattle.jsontext.proofs.EscapeLaws.{EscapeAt, escape-is, no-escape, escape-at, escape-letter, escape-unicode, escape-pair, unit-length}
 
@@ -254,7 +257,8 @@ string-no-escape g r e w = string-open g r .1 ∙ rw (e, w)
 pub quoted-part : {s l q : List ℕ} {a c : ℕ} → json.QuotedChars l q → Span s a q c → take (length l) (drop (a + 1) s) ≡ l
 quoted-part {s} (json.quoted {l = l} g) (step h e r) = let u = cut l r in rw (from-span (u .1)) (take-at l (drop (u .0) s) (length l) refl)
 
--- what is read: the spelled bytes stand behind the quote, they are characters of the grammar, and the closing quote follows
+-- what is read: the spelled bytes stand behind the quote, they are characters of the grammar, and the closing quote
+-- follows
 pub string-reads : {s : List ℕ} {a : ℕ} {x : Spelled} {e : ℕ} → stringAt s a ≡ read x e
     → (l : List ℕ) × (q : List ℕ) × json.QuotedChars l q × Span s a q e × (x ≡ record { from = a + 1; count = length l }) × (take (x .count) (drop (x .from) s) ≡ l)
 string-reads {s} {a} f = go (rw f at (string-consumes s a))

@@ -1,5 +1,6 @@
 -- White space, literals and numbers at a place against the grammar, in both directions.
--- Soundness is a walk over the definition (`Ends`, `Reads`); completeness matches the grammar and cuts the span at each `++`.
+-- Soundness is a walk over the definition (`Ends`, `Reads`); completeness matches the grammar and cuts the span at each
+-- `++`.
 use Prim.Native.Nat.{ℕ, _+_, _≤_}
 use mathlib.Core.Path.{_≡_, refl, sym}
 use mathlib.Core.Bool.{Bool, true, false}
@@ -10,7 +11,8 @@ use lib.Dec.{eqb}
 use borrow.Author.Tests.{le-leb, ne-eqb, eqb-true, eqb-false}
 use Rattle.scan.specs.Choice.{pick}
 use Rattle.scan.specs.Place.{within, runAt, standsAt}
-use Rattle.scan.specs.Span.{Span, here, step, also}
+use Rattle.scan.specs.Bytes.{also}
+use Rattle.scan.specs.inner.Span.{here, step, Span}
 use Rattle.scan.proofs.Step.{pick-by}
 use Rattle.scan.proofs.SpanLaws.{join, cut, bite, seen, span-length, span-fits}
 use Rattle.scan.proofs.PlaceLaws.{run-again, run-span, span-run, span-stands, stands-span}

@@ -1,5 +1,6 @@
 -- The grammar is unambiguous: a text spells at most one value.
--- Two values at one place end alike, since the reader takes both; and their first byte tells which production each is (`View`).
+-- Two values at one place end alike, since the reader takes both; and their first byte tells which production each is
+-- (`View`).
 use Prim.Native.Nat.{ℕ, _+_, _≤_, max}
 use mathlib.Core.Path.{_≡_, refl, sym, ap, _∙_}
 use mathlib.Core.Bool.{true, false}
@@ -8,7 +9,7 @@ use native.Mathlib.Omega.{arith}
 use lib.ListN.{length, getD, take, drop}
 use borrow.Author.Tests.{eqb-false}
 use Rattle.scan.specs.Choice.{Read, read}
-use Rattle.scan.specs.Span.{Span, step}
+use Rattle.scan.specs.inner.Span.{step, Span}
 use Rattle.scan.proofs.SpanLaws.{cut, close-span, span-unique, input-span}
 use Rattle.jsontext.specs.declared.Spelled.{Spelled}
 use Rattle.jsontext.specs.Grammar as json
@@ -265,7 +266,8 @@ mutual
 pub unambiguous : {v w : json.Json} {l : List ℕ} → json.Spells v l → json.Spells w l → v ≡ w
 unambiguous {v} {w} {l} g h = let r = input-span l in one-value v w l l l 0 (length l) g r h r
 
--- the same in an input: two values at a place, behind which nothing stands that could lengthen a number, are one and end alike
+-- the same in an input: two values at a place, behind which nothing stands that could lengthen a number, are one and
+-- end alike
 pub one-at : {v w : json.Json} {s l m : List ℕ} {a c d : ℕ} → json.Spells v l → Span s a l c → Stop (getD s c 0) → json.Spells w m → Span s a m d → Stop (getD s d 0)
     → (v ≡ w) × (d ≡ c)
 one-at {v} {w} {s} {l} {m} {a} {c} g p st h q su = let n = value-ends g p st h q su in (one-value v w s l m a c g p h (rw n at q), n)

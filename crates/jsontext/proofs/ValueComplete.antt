@@ -1,4 +1,5 @@
--- Completeness: each value of the grammar is read over to its end, if it nests no deeper than is allowed and, where it is a number, nothing follows that could lengthen it.
+-- Completeness: each value of the grammar is read over to its end, if it nests no deeper than is allowed and, where it
+-- is a number, nothing follows that could lengthen it.
 -- By recursion over the value: each span is cut at `++`, and each read is rewritten by its *accepts*.
 use Prim.Native.Nat.{ℕ, zero, suc, _+_, _<_, _≤_}
 use mathlib.Core.Path.{_≡_, refl, sym, ap, _∙_}
@@ -9,12 +10,14 @@ use lib.ListN.{length, getD, length-append}
 use lib.Dec.{eqb}
 use borrow.Author.Tests.{eq-eqb, ne-eqb}
 use Rattle.scan.specs.Choice.{andThen}
-use Rattle.scan.specs.Span.{Span, here, step, none, also}
+use Rattle.scan.specs.Bytes.{none, also}
+use Rattle.scan.specs.inner.Span.{here, step, Span}
 use Rattle.scan.proofs.SpanLaws.{cut, close-span, open-span, span-length, span-fits}
 use Rattle.jsontext.specs.Grammar as json
 use Rattle.jsontext.specs.Token.{Skipped, past, isSpace, spaceAt, wordAt, skipNumber}
 use Rattle.jsontext.specs.Text.{stringAt}
-use Rattle.jsontext.specs.Value.{skipColon, skipMember, skipItem, skipAfter, skipItems, skipInside, skipValueBy, skipWalkBy, valueAt, skipWalk}
+use Rattle.jsontext.specs.Value.{skipColon, skipMember, skipItem, skipAfter, skipItems, skipInside, skipValueBy, skipWalkBy, valueAt}
+use Rattle.jsontext.specs.inner.Walk.{skipWalk}
 use Rattle.jsontext.proofs.TokenLaws.{space-accepts, word-accepts, number-accepts, Stop, stop-comma, stop-space, stop-bracket, stop-brace}
 use Rattle.jsontext.proofs.TextLaws.{string-accepts}
 use Rattle.jsontext.proofs.FirstByte.{first-at, begins-value, begins-items, begins-members, number-first}

@@ -1,5 +1,6 @@
 -- Soundness: what is read over as a value is spelled by the grammar, with at most the depth that was given.
--- A walk over the definition; the items of arrays and objects are one family, `Sep`, which is then told as `SpellsItems` or `SpellsMembers`.
+-- A walk over the definition; the items of arrays and objects are one family, `Sep`, which is then told as
+-- `SpellsItems` or `SpellsMembers`.
 use Prim.Native.Nat.{ℕ, zero, suc, _+_, _<_, _≤_}
 use mathlib.Core.Path.{_≡_, refl, ap, _∙_}
 use mathlib.Core.Bool.{true, false}
@@ -7,15 +8,16 @@ use mathlib.Core.List.{List, [], _∷_, _++_, append-assoc}
 use native.Mathlib.Omega.{arith}
 use lib.ListN.{length, getD}
 use lib.Dec.{eqb}
+use Rattle.scan.specs.Ascii.{ascii}
 use Rattle.scan.specs.Choice.{refused, read}
-use Rattle.scan.specs.Span.{Span, here}
+use Rattle.scan.specs.inner.Span.{here, Span}
 use Rattle.scan.proofs.Step.{pick-by}
 use Rattle.scan.proofs.SpanLaws.{join, bite}
 use Rattle.scan.proofs.Reading.{Reads, reads, fails, pick-reads, then-reads, from-reads}
 use Rattle.jsontext.specs.declared.Spelled.{Spelled}
 use Rattle.jsontext.specs.Grammar as json
 use Rattle.jsontext.specs.Token.{Done, done, Skipped, past, spaceAt, wordAt}
-use Rattle.jsontext.specs.Value.{falseWord, nullWord, trueWord, skipColon, skipMember, skipItem, skipAfter, skipItems, skipInside, skipValueBy, skipWalkBy, valueAt}
+use Rattle.jsontext.specs.Value.{skipColon, skipMember, skipItem, skipAfter, skipItems, skipInside, skipValueBy, skipWalkBy, valueAt}
 use Rattle.jsontext.proofs.TokenLaws.{bind, space-consumes, word-consumes, number-consumes}
 use Rattle.jsontext.proofs.TextLaws.{StringAt, string-is, string-consumes}
 use Rattle.jsontext.proofs.FirstByte.{begins-value, begins-member, some-bytes}
@@ -148,14 +150,15 @@ module _ (d : ℕ) (s : List ℕ) (a : ℕ) where
       (λ n₂.
       pick-reads (eqb (getD s a 0) 0x5B) g
       (λ n₃.
-      pick-reads (eqb (getD s a 0) 0x74) (λ t. word-value json.Json.true trueWord json.is-true (omega arith))
+      pick-reads (eqb (getD s a 0) 0x74) (λ t. word-value json.Json.true (ascii "true") json.is-true (omega arith))
       (λ n₄.
-      pick-reads (eqb (getD s a 0) 0x66) (λ t. word-value json.Json.false falseWord json.is-false (omega arith))
+      pick-reads (eqb (getD s a 0) 0x66) (λ t. word-value json.Json.false (ascii "false") json.is-false (omega arith))
       (λ n₅.
-      pick-reads (eqb (getD s a 0) 0x6E) (λ t. word-value json.Json.null nullWord json.is-null (omega arith))
+      pick-reads (eqb (getD s a 0) 0x6E) (λ t. word-value json.Json.null (ascii "null") json.is-null (omega arith))
       (λ n₆. from-reads (number-consumes s a) (λ x l e h r. reads (some (json.is-number h) (omega arith)) r)))))))
 
--- THE soundness: what is read over at a place is a value of the grammar, with at most d arrays and objects inside one another
+-- THE soundness: what is read over at a place is a value of the grammar, with at most d arrays and objects inside one
+-- another
 pub value-consumes : (d : ℕ) (s : List ℕ) (a : ℕ) → Reads (Some d) s a (valueAt d s a)
 unfolding valueAt
 value-consumes zero s a = by-consumes zero s a (λ close at. refused 18 at) (λ t. fails) (λ t. fails)

@@ -1,7 +1,8 @@
 -- JSON as RFC 8259 has it: its productions, in its names; what a production needs stands before it. Assumes nothing.
 use Prim.Native.Nat.{ℕ, suc, _+_, _*_, _-_, _≤_, max}
 use mathlib.Core.List.{List, [], _∷_, _++_}
-use Rattle.scan.specs.Span.{All}
+use Rattle.scan.specs.Ascii.{ascii}
+use Rattle.scan.specs.Bytes.{All}
 use Rattle.utf8.specs.Utf8 as utf8
 use Rattle.utf8.specs.Encode.{Scalar, encode}
 use Rattle.decimal.specs.Decimal.{DecimalDigit}
@@ -98,7 +99,8 @@ pub data Unit : List ℕ → ℕ → Type 0 where
 abbrev pub paired : ℕ → ℕ → ℕ
 paired high low = 0x10000 + (high - 0xD800) * 0x400 + (low - 0xDC00)
 
--- char. \uXXXX stands for a scalar value, or two of them for a pair of surrogates: a lone surrogate has no meaning (section 8.2), and document 01 refuses it.
+-- char. \uXXXX stands for a scalar value, or two of them for a pair of surrogates: a lone surrogate has no meaning
+-- (section 8.2), and is refused.
 pub data SpelledChar : List ℕ → List ℕ → Type 0 where
   unescaped : {l : List ℕ} → Unescaped l → SpelledChar l l
   letter : {c b : ℕ} → Letter c b → SpelledChar (0x5C ∷ c ∷ []) (b ∷ [])
@@ -114,7 +116,8 @@ pub data Chars : List ℕ → List ℕ → Type 0 where
 -- ---- sections 3 to 5: values
 
 mutual
-  -- false / null / true / object / array / number / string: a number, a string and a name as they are spelled, without the quotes
+  -- false / null / true / object / array / number / string: a number, a string and a name as they are spelled, without
+  -- the quotes
   pub data Json : Type 0 where
     false : Json
     null : Json
@@ -137,12 +140,12 @@ pub data QuotedChars : List ℕ → List ℕ → Type 0 where
   quoted : {l t : List ℕ} → Chars l t → QuotedChars l (0x22 ∷ (l ++ (0x22 ∷ [])))
 
 mutual
-  -- The value v is spelled l, from its first byte to its last. The RFC's white space before an opening bracket and behind a closing one
-  -- belongs to what stands around the value.
+  -- The value v is spelled l, from its first byte to its last. The RFC's white space before an opening bracket and
+  -- behind a closing one belongs to what stands around the value.
   pub data Spells : Json → List ℕ → Type 0 where
-    is-false : Spells Json.false (0x66 ∷ 0x61 ∷ 0x6C ∷ 0x73 ∷ 0x65 ∷ [])
-    is-null : Spells Json.null (0x6E ∷ 0x75 ∷ 0x6C ∷ 0x6C ∷ [])
-    is-true : Spells Json.true (0x74 ∷ 0x72 ∷ 0x75 ∷ 0x65 ∷ [])
+    is-false : Spells Json.false (ascii "false")
+    is-null : Spells Json.null (ascii "null")
+    is-true : Spells Json.true (ascii "true")
     -- object = begin-object [ member *( value-separator member ) ] end-object
     empty-object : {w : List ℕ} → Ws w → Spells (Json.object no-member) (0x7B ∷ (w ++ (0x7D ∷ [])))
     is-object : {m : Members} {w l x : List ℕ} → Ws w → SpellsMembers m l → Ws x → Spells (Json.object m) (0x7B ∷ (w ++ (l ++ (x ++ (0x7D ∷ [])))))

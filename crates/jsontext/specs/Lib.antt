@@ -1,5 +1,5 @@
 pub mod Grammar
 pub mod Token
-pub mod Escape
 pub mod Text
 pub mod Value
+pub mod inner

@@ -54,7 +54,8 @@ isE b = pick (eqb b 0x65) true (eqb b 0x45)
 unfoldable pub expAt : List ℕ → ℕ → ℕ
 expAt s at = pick (isE (byteAt s at)) (digitsOr s (signAt s (at + 1)) at) at
 
--- the number that starts at `start`, whose sign ends at i and whose digits before the point end at j: none where they are none
+-- the number that starts at `start`, whose sign ends at i and whose digits before the point end at j: none where they
+-- are none
 unfoldable pub numberFrom : List ℕ → (start i j : ℕ) → Skipped
 numberFrom s start i j = pick (eqb j i) (refused 14 start) (past (expAt s (fracAt s j)))
 

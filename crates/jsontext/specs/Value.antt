@@ -1,25 +1,13 @@
--- A value as it is read over at a place, with the depth that is left (document 01, "Plain JSON reader"). Assumes nothing.
+-- A value as it is read over at a place, with the depth that is left (rules 7 and 11). Assumes nothing.
 use Prim.Native.Nat.{ℕ, zero, suc, _+_}
-use mathlib.Core.List.{List, [], _∷_}
+use mathlib.Core.List.{List}
 use lib.ListN.{length}
 use lib.Dec.{eqb}
+use Rattle.scan.specs.Ascii.{ascii}
 use Rattle.scan.specs.Choice.{pick, refused, andThen}
 use Rattle.scan.specs.Place.{byteAt}
 use Rattle.jsontext.specs.Token.{Skipped, past, spaceAt, wordAt, skipNumber}
 use Rattle.jsontext.specs.Text.{stringAt}
-
-abbrev pub falseWord : List ℕ
-falseWord = 0x66 ∷ 0x61 ∷ 0x6C ∷ 0x73 ∷ 0x65 ∷ []
-
-abbrev pub nullWord : List ℕ
-nullWord = 0x6E ∷ 0x75 ∷ 0x6C ∷ 0x6C ∷ []
-
-abbrev pub trueWord : List ℕ
-trueWord = 0x74 ∷ 0x72 ∷ 0x75 ∷ 0x65 ∷ []
-
--- the numbers that the reading over a value refuses with
-abbrev pub valueNumbers : List ℕ
-valueNumbers = 5 ∷ 14 ∷ 18 ∷ []
 
 -- a name, a colon and a value; `value` reads the value
 unfoldable pub skipColon : (value : ℕ → Skipped) → List ℕ → ℕ → Skipped
@@ -51,9 +39,9 @@ skipValueBy walk s at =
     pick (eqb (byteAt s at) 0x22) (andThen (stringAt s at) (λ r. past (r .next)))
     (pick (eqb (byteAt s at) 0x7B) (walk 0x7D at)
     (pick (eqb (byteAt s at) 0x5B) (walk 0x5D at)
-    (pick (eqb (byteAt s at) 0x74) (wordAt trueWord s at)
-    (pick (eqb (byteAt s at) 0x66) (wordAt falseWord s at)
-    (pick (eqb (byteAt s at) 0x6E) (wordAt nullWord s at) (skipNumber s at))))))
+    (pick (eqb (byteAt s at) 0x74) (wordAt (ascii "true") s at)
+    (pick (eqb (byteAt s at) 0x66) (wordAt (ascii "false") s at)
+    (pick (eqb (byteAt s at) 0x6E) (wordAt (ascii "null") s at) (skipNumber s at))))))
 
 -- an array or an object whose opening bracket stands at a place, and whose values `value` reads
 unfoldable pub skipWalkBy : (close : ℕ) (value : ℕ → Skipped) → List ℕ → ℕ → Skipped
@@ -63,7 +51,3 @@ skipWalkBy close value s at = skipInside close (skipItem close value s) s (space
 unfoldable pub valueAt : (depth : ℕ) → List ℕ → ℕ → Skipped
 valueAt zero s = skipValueBy (λ close at. refused 18 at) s
 valueAt (suc depth) s = skipValueBy (λ close. skipWalkBy close (valueAt depth s) s) s
-
-unfoldable pub skipWalk : (depth close : ℕ) → List ℕ → ℕ → Skipped
-skipWalk zero close s at = refused 18 at
-skipWalk (suc depth) close s at = skipWalkBy close (valueAt depth s) s at

@@ -10,8 +10,8 @@ use mir.Syntax.{w64}
 use mir.Val.{Fits}
 use Rattle.utf8.specs.Encode.{encode}
 use Rattle.utf8.proofs.EncodeLaws.{encode-one}
-use Rattle.jsontext.specs.Escape.{escape, unescapedLetter, letterEscape, escapeAt, orItself, unescape}
-use Rattle.jsonunescape.specs.Run.{backslashAt}
+use Rattle.jsontext.specs.inner.Escape.{escape, unescapedLetter, letterEscape, escapeAt, orItself, unescape}
+use Rattle.jsonunescape.specs.inner.Run.{backslashAt}
 use Rattle.jsontext.proofs.EscapeLaws.{LetterOf, letter-is, no-letter, of-letter, letter-small}
 use Rattle.jsonunescape.proofs.Unescape.{turn-fits, turn-less, turn-text}
 

@@ -1,5 +1,6 @@
 -- A text that comes in parts: whether it is digits, whether it is a name, and a byte for each two digits of it.
--- Each question over `++` is the question of the first part and then of the rest; the bytes of a scalar value are such a part.
+-- Each question over `++` is the question of the first part and then of the rest; the bytes of a scalar value are such
+-- a part.
 use Prim.Native.Nat.{ℕ, _+_, _*_, _-_, _%_, _<_, _≤_}
 use mathlib.Core.Path.{_≡_, refl, sym, ap, _∙_}
 use mathlib.Core.Bool.{Bool, true, false}
@@ -13,12 +14,12 @@ use lib.Dec.{eqb, ltb}
 use borrow.Author.Tests.{eq-eqb, ne-eqb, lt-ltb, le-ltb}
 use Rattle.scan.specs.Choice.{pick}
 use Rattle.scan.specs.Place.{begins, standsAt}
-use Rattle.scan.specs.Span.{All}
+use Rattle.scan.specs.Bytes.{All}
 use Rattle.scan.proofs.CompareLaws.{same-append}
 use Rattle.scan.proofs.Step.{pick-by, rest-none, rest-more}
 use Rattle.scan.proofs.SpanLaws.{span-fits}
 use Rattle.scan.proofs.PlaceLaws.{stands-span}
-use Rattle.buffer.specs.Store.{Buffer, Wrote}
+use Rattle.buffer.specs.inner.Store.{Buffer, Wrote}
 use Rattle.buffer.proofs.Laws.{Left, puts-eq}
 use Rattle.utf8.specs.Encode.{Scalar, below, above, encode}
 use Rattle.utf8.proofs.EncodeLaws.{encode-length, encode-none}
@@ -27,10 +28,10 @@ use Rattle.hex.proofs.Digits.{value-of-digit}
 use Rattle.hex.proofs.Texts.{digits-pass, digits-append}
 use Rattle.hex.proofs.Turn.{unhex-two, unhex-ended}
 use Rattle.scan.specs.Compare.{sameBytes}
-use Rattle.jsonunescape.specs.Half.{held, halfBehind}
+use Rattle.jsonunescape.specs.inner.Half.{held, halfBehind}
 use Rattle.jsontext.specs.declared.Escape.{Escape}
-use Rattle.jsontext.specs.Escape.{escapeAt, orItself, unescape}
-use Rattle.jsonunescape.specs.Run.{backslashAt}
+use Rattle.jsontext.specs.inner.Escape.{escapeAt, orItself, unescape}
+use Rattle.jsonunescape.specs.inner.Run.{backslashAt}
 use Rattle.jsontext.proofs.Meaning.{unescape-escape}
 use Rattle.jsonunescape.proofs.Unescape.{run-inside, unescape-run, unescape-end, taken, turn-text}
 

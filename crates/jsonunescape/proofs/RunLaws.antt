@@ -1,4 +1,5 @@
--- Runs, the bytes up to the next backslash: blocks are passed whole, and parts of a run are written one after the other.
+-- Runs, the bytes up to the next backslash: blocks are passed whole, and parts of a run are written one after the
+-- other.
 -- `Ran` goes by composition (`ran-then`); a block, four bytes and one byte are each a part.
 use Prim.Native.Nat.{ℕ, zero, suc, _+_, _-_, _<_, _≤_}
 use mathlib.Core.Path.{_≡_, refl, sym, _∙_}
@@ -10,13 +11,13 @@ use lib.ListN.{length, getD, set, take, drop, length-set}
 use borrow.Author.Tests.{eq-eqb, ne-eqb}
 use Rattle.scan.proofs.Step.{rest-more}
 use Rattle.scan.proofs.PlaceLaws.{run-again, run-left, run-broke}
-use Rattle.scan.specs.Span.{Span}
+use Rattle.scan.specs.inner.Span.{Span}
 use Rattle.scan.proofs.SpanLaws.{join, span-unique}
 use Rattle.scan.proofs.Reading.{part-span}
-use Rattle.buffer.specs.Store.{Wrote}
+use Rattle.buffer.specs.inner.Store.{Wrote}
 use Rattle.buffer.proofs.Laws.{then, nothing, stored}
-use Rattle.jsonunescape.specs.Run.{isSlash, backslashAt, noBackslash, stopOf, Ran}
-use Rattle.scan.specs.Blocks.{sumOf}
+use Rattle.jsonunescape.specs.inner.Run.{isSlash, backslashAt, noBackslash, stopOf, Ran}
+use Rattle.scan.specs.inner.Blocks.{sumOf}
 use Rattle.scan.proofs.BlockLaws.{block-none, not-one}
 
 -- ---- bytes that are no backslash

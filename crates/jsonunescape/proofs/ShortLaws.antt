@@ -1,4 +1,5 @@
--- The fast look at a spelled string: block by block no byte is odd, and then the text is as many bytes shorter as there are backslashes.
+-- The fast look at a spelled string: block by block no byte is odd, and then the text is as many bytes shorter as there
+-- are backslashes.
 -- The blocks by `neighbours-block`; the length byte by byte, where a backslash and the letter behind it are one step.
 use Prim.Native.Nat.{ℕ, suc, _+_, _-_, _≤_}
 use mathlib.Core.Path.{_≡_, refl, sym, ap, _∙_}
@@ -12,10 +13,10 @@ use lib.Dec.{eqb}
 use borrow.Author.Tests.{eq-eqb, ne-eqb, eqb-true}
 use Rattle.scan.specs.Choice.{pick}
 use Rattle.scan.proofs.Step.{pick-by}
-use Rattle.scan.specs.Blocks.{isOne, sumOf, neighbours}
-use Rattle.jsonunescape.specs.Run.{isSlash}
-use Rattle.jsontext.specs.Escape.{unescapedLetter, escape, unescape}
-use Rattle.jsonunescape.specs.Short.{oddOf, evenPairs}
+use Rattle.scan.specs.inner.Blocks.{isOne, sumOf, neighbours}
+use Rattle.jsonunescape.specs.inner.Run.{isSlash}
+use Rattle.jsontext.specs.inner.Escape.{unescapedLetter, escape, unescape}
+use Rattle.jsonunescape.specs.inner.Short.{oddOf, evenPairs}
 use Rattle.scan.proofs.BlockLaws.{one-is, one-not, neighbours-none, lentSum, neighbours-block}
 use Rattle.jsontext.proofs.Meaning.{unescape-none, unescape-byte, unescape-escape}
 use Rattle.jsonunescape.proofs.Unescape.{unescape-end}

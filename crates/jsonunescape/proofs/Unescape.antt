@@ -1,5 +1,7 @@
--- The loops over a spelled string go from run to run: bytes without a backslash, then an escape. What each of the two adds to the text.
--- The run by `run-span`, the escape by `unescape-escape`; both end within the string, so that no place and no length wraps.
+-- The loops over a spelled string go from run to run: bytes without a backslash, then an escape. What each of the two
+-- adds to the text.
+-- The run by `run-span`, the escape by `unescape-escape`; both end within the string, so that no place and no length
+-- wraps.
 use Prim.Native.Nat.{ℕ, _+_, _-_, _<_, _≤_, _^_}
 use mathlib.Core.Path.{_≡_, sym, ap, _∙_}
 use mathlib.Core.Bool.{Bool, true, false}
@@ -12,15 +14,16 @@ use borrow.Author.Tests.{eq-eqb, ne-eqb, eqb-true}
 use mir.Syntax.{w64}
 use mir.Val.{Fits}
 use Rattle.scan.specs.Place.{run}
-use Rattle.scan.specs.Span.{Span, All}
+use Rattle.scan.specs.Bytes.{All}
+use Rattle.scan.specs.inner.Span.{Span}
 use Rattle.scan.proofs.Step.{pick-by, rest-none, false-true}
 use Rattle.scan.proofs.SpanLaws.{place, whole-span, from-span, span-length, span-fits}
 use Rattle.scan.proofs.PlaceLaws.{run-span, run-stops}
 use Rattle.utf8.specs.Encode.{encode}
 use Rattle.utf8.proofs.EncodeLaws.{encode-one}
 use Rattle.jsontext.specs.declared.Escape.{Escape}
-use Rattle.jsontext.specs.Escape.{escapeAt, orItself, unescape}
-use Rattle.jsonunescape.specs.Run.{noBackslash, backslashAt}
+use Rattle.jsontext.specs.inner.Escape.{escapeAt, orItself, unescape}
+use Rattle.jsonunescape.specs.inner.Run.{noBackslash, backslashAt}
 use Rattle.jsontext.proofs.EscapeLaws.{EscapeAt, escape-is, no-escape, escape-at}
 use Rattle.jsontext.proofs.Meaning.{unescape-none, unescape-plain, unescape-itself, unescape-escape}
 

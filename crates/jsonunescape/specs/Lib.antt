@@ -1,3 +1,1 @@
-pub mod Run
-pub mod Short
-pub mod Half
+pub mod inner

@@ -7,14 +7,14 @@ ghost use mathlib.Core.Bool.{true};
 ghost use lib.ListN.{length, getD, take, drop};
 ghost use Rattle.scan.specs.Place.{standsAt};
 ghost use Rattle.scan.specs.Compare.{sameBytes};
-ghost use Rattle.scan.specs.Blocks.{sumOf, neighbours};
-ghost use Rattle.buffer.specs.Store.{Wrote};
+ghost use Rattle.scan.specs.inner.Blocks.{sumOf, neighbours};
+ghost use Rattle.buffer.specs.inner.Store.{Wrote};
 ghost use Rattle.utf8.specs.Encode.{encode};
 ghost use Rattle.hex.specs.Hex.{unhex, allDigits, goesAsBytes};
-ghost use Rattle.jsontext.specs.Escape.{escapeAt, orItself, unescape};
-ghost use Rattle.jsonunescape.specs.Run.{backslashAt, isSlash, stopOf, Ran};
-ghost use Rattle.jsonunescape.specs.Short.{oddOf, evenPairs};
-ghost use Rattle.jsonunescape.specs.Half.{held, halfBehind};
+ghost use Rattle.jsontext.specs.inner.Escape.{escapeAt, orItself, unescape};
+ghost use Rattle.jsonunescape.specs.inner.Run.{backslashAt, isSlash, stopOf, Ran};
+ghost use Rattle.jsonunescape.specs.inner.Short.{oddOf, evenPairs};
+ghost use Rattle.jsonunescape.specs.inner.Half.{held, halfBehind};
 
 // 0 for a byte that is neither a control byte nor a quote nor a backslash. The backslash alone would do, but a loop
 // over 32 bytes with one comparison is unrolled, and not made of vectors.

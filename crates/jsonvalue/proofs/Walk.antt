@@ -1,4 +1,5 @@
--- The turns of the walk over an array or an object. `InWalk` says that the walk from the opening bracket is the items from here on, with fuel enough.
+-- The turns of the walk over an array or an object. `InWalk` says that the walk from the opening bracket is the items
+-- from here on, with fuel enough.
 -- Each premise is what the loop knows; an item that is read over takes at least a byte, by soundness.
 use Prim.Native.Nat.{ℕ, zero, suc, _+_, _-_, _<_, _≤_}
 use mathlib.Core.Path.{_≡_, refl, sym, _∙_}
@@ -12,8 +13,9 @@ use Rattle.jsonvalue.specs.declared.Cursor.{Cursor}
 use Rattle.jsonvalue.specs.declared.Skip.{Skip}
 use Rattle.jsonvalue.specs.declared.Skip.the-variants.{Past, Refused}
 use Rattle.jsontext.specs.Token.{Skipped, past, spaceAt}
-use Rattle.jsontext.specs.Value.{skipItem, skipAfter, skipItems, skipInside, valueAt, skipWalkBy, skipWalk}
-use Rattle.jsonvalue.specs.Answers.{skipRead}
+use Rattle.jsontext.specs.Value.{skipItem, skipAfter, skipItems, skipInside, valueAt, skipWalkBy}
+use Rattle.jsontext.specs.inner.Walk.{skipWalk}
+use Rattle.jsonvalue.specs.inner.Answers.{skipRead}
 use Rattle.scan.proofs.Fits.{byte-positive}
 use Rattle.jsontext.proofs.TokenLaws.{space-onward, space-inside}
 use Rattle.jsontext.proofs.ValueSound.{item-some}

@@ -6,8 +6,9 @@ ghost use mathlib.Core.Path.{_≡_};
 ghost use lib.ListN.{length};
 ghost use Rattle.scan.specs.Choice.{refused};
 ghost use Rattle.jsontext.specs.Token.{isSpace, spaceAt, wordAt, digitsOr, minusAt, signAt, intAt, fracAt, isE, expAt, skipNumber};
-ghost use Rattle.jsontext.specs.Value.{skipItem, skipMember, valueAt, skipWalk};
-ghost use Rattle.jsonvalue.specs.Answers.{skipRead};
+ghost use Rattle.jsontext.specs.Value.{skipItem, skipMember, valueAt};
+ghost use Rattle.jsontext.specs.inner.Walk.{skipWalk};
+ghost use Rattle.jsonvalue.specs.inner.Answers.{skipRead};
 
 // A place in the input. A cursor past the end reads as the end.
 pub struct Cursor {

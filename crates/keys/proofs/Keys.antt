@@ -19,7 +19,7 @@ use Rattle.notepack.specs.declared.Head.{Head}
 use Rattle.notepack.specs.declared.Part.{Part}
 use Rattle.notepack.specs.Unpack.{partOf, bytesOf, textOf, unpack}
 use Rattle.notepack.specs.Views.{numbersOf}
-use Rattle.notepack.specs.Again.{partAgain, countAgain, textsAgain, textsEnd, tagsAgain}
+use Rattle.notepack.specs.inner.Again.{partAgain, countAgain, textsAgain, textsEnd, tagsAgain}
 use Rattle.notepack.proofs.Walking.{text-raw, text-plain}
 use Rattle.notepack.proofs.Viewing.{Numbered, numbers-event}
 use Rattle.notepack.proofs.Again.{tags-again}
@@ -27,7 +27,7 @@ use Rattle.keys.specs.declared.KeyRead.{KeyRead}
 use Rattle.keys.specs.declared.KeyRead.the-variants.{Keyed, Keyless}
 use Rattle.keys.specs.Key as key
 use Rattle.keys.specs.Key.{isReplaceable, isLabelled, Label, none, label, isDTag, secondText, labelOf, labelKey, keyFor, keyOf}
-use Rattle.keys.specs.Place.{isD, secondAt, labelAt, keyAt, keyThere}
+use Rattle.keys.specs.inner.Place.{isD, secondAt, labelAt, keyAt, keyThere}
 
 module _ (s : List ℕ) where
   -- `d` by its part is `d` by its text

@@ -13,16 +13,16 @@ use lib.Dec.{eqb}
 use borrow.Author.Tests.{eq-eqb, ne-eqb}
 use Rattle.scan.specs.Choice.{pick}
 use Rattle.scan.specs.Compare.{sameBytes}
-use Rattle.scan.specs.Span.{IsBytes}
+use Rattle.scan.specs.Bytes.{IsBytes}
 use Rattle.scan.proofs.CompareLaws.{same-same, bytes-same, both-ways}
 use Rattle.scan.proofs.Step.{rest-none, rest-more}
 use Rattle.hex.specs.Hex.{digitOf, hexes}
 use Rattle.hex.proofs.Texts.{hexes-injective}
 use Rattle.notepack.specs.declared.Part.{Part}
-use Rattle.notepack.specs.Again.{partAgain, countAgain, textsEnd}
+use Rattle.notepack.specs.inner.Again.{partAgain, countAgain, textsEnd}
 use Rattle.keys.specs.declared.KeyRead.{KeyRead}
 use Rattle.keys.specs.declared.KeyRead.the-variants.{Keyless}
-use Rattle.keys.specs.Place.{isD, secondAt, labelAt}
+use Rattle.keys.specs.inner.Place.{isD, secondAt, labelAt}
 
 -- ---- the hex of bytes
 

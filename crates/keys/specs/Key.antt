@@ -1,4 +1,4 @@
--- The key of an event (document 01, "Rivals"): which records are versions of one another. Assumes nothing.
+-- The key of an event (rules 8): which records are versions of one another. Assumes nothing.
 use Prim.Native.Nat.{ℕ}
 use mathlib.Core.Bool.{Bool, true, false}
 use mathlib.Core.List.{List, [], _∷_}
@@ -9,7 +9,7 @@ use Rattle.scan.specs.Place.{within}
 use Rattle.scan.specs.Compare.{sameBytes}
 use Rattle.event.specs.Event.{Text, Tag, Event}
 
--- kinds 0, 3 and 10000-19999 are replaceable
+-- whether a kind is replaceable: 0, 3, or 10000 to 19999
 unfoldable pub isReplaceable : ℕ → Bool
 isReplaceable k = pick (eqb k 0) true (pick (eqb k 3) true (within 10_000 19_999 k))
 
@@ -32,12 +32,13 @@ secondText [] = none
 secondText (t ∷ []) = none
 secondText (t ∷ u ∷ ts) = label u
 
--- the second text of the first tag whose first text is `d`
+-- the text behind `d`, in the first tag with `d` in front; none where there is no such tag, or nothing behind `d`
 abbrev pub labelOf : List Tag → Label
 labelOf [] = none
 labelOf (t ∷ ts) = pick (isDTag t) (secondText t) (labelOf ts)
 
--- A key: pubkey and kind, and for the labelled kinds the label. (For the replaceable ones it is empty: no kind is in both groups.)
+-- A key: pubkey and kind, and for the labelled kinds the label. (For the replaceable ones it is empty: no kind is in
+-- both groups.)
 pub record Key : Type 0 where
   pub pubkey : List ℕ
   pub kind : ℕ

@@ -5,9 +5,9 @@ ghost use mathlib.Core.Path.{_≡_};
 ghost use Rattle.scan.specs.Compare.{sameBytes};
 ghost use Rattle.hex.specs.Hex.{hexes};
 ghost use Rattle.notepack.specs.Unpack.{textOf};
-ghost use Rattle.notepack.specs.Again.{textsEnd};
+ghost use Rattle.notepack.specs.inner.Again.{textsEnd};
 ghost use Rattle.keys.specs.Key.{isReplaceable, isLabelled, sameKey};
-ghost use Rattle.keys.specs.Place.{isD, secondAt, labelAt, keyAt, keyThere};
+ghost use Rattle.keys.specs.inner.Place.{isD, secondAt, labelAt, keyAt, keyThere};
 
 // A key's kind, and where its label stands. The author's 32 bytes stand at place 32 of every packed event.
 pub struct KeyPlace {
@@ -102,7 +102,7 @@ fn second_text(kind: u64, s: &[u8], at: usize, n: u64) -> KeyRead
     KeyRead::Keyless
 }
 
-// The key by the label among count tags from a place on: the second text of the first tag whose first text is `d`.
+// The key by the label among count tags from a place on: the text behind `d`, in the first tag with `d` in front.
 fn find_label(kind: u64, s: &[u8], at: usize, count: u64) -> KeyRead
     ensures { λ r. ⌜ r ≡ labelAt kind count (now (s .entry)) at ⌝ }
 {

@@ -12,23 +12,25 @@ use borrow.Author.Tests.{leb-false}
 use Rattle.scan.specs.Choice.{pick, Answer, shown, refused, andThen}
 use Rattle.buffer.specs.Entry.{written, filled, writes, leaves}
 use Rattle.event.specs.Event.{Event}
-use Rattle.event.specs.Tells.{among, Tells, value, refusal}
+use Rattle.event.specs.inner.Tells.{among, Tells, value, refusal}
 use Rattle.event.proofs.TellsLaws.{then-tells, pick-tells, wider}
-use Rattle.notepack.specs.Unpack.{packedNumbers, unpack}
+use Rattle.notepack.specs.Unpack.{unpack}
+use Rattle.notepack.specs.inner.Numbers.{packedNumbers}
 use Rattle.notepack.specs.Strict.{pack}
 use Rattle.notepack.proofs.Telling.{unpack-tells, numbers-tells, texts-tells, element-of-tells}
 use Rattle.strict.proofs.Telling.{strict-tells}
 use Rattle.canonical.specs.Canonical.{canonical}
 use Rattle.nson.specs.Nson.{nson}
-use Rattle.nson.specs.Carries.{carries}
+use Rattle.nson.specs.inner.Decision.{carries}
 use Rattle.nson.specs.Entries.{carried}
 use Rattle.nson.proofs.Telling.{nson-tells}
-use Rattle.json.specs.Object.{jsonNumbers, readJson}
+use Rattle.json.specs.Object.{readJson}
+use Rattle.json.specs.inner.Numbers.{jsonNumbers}
 use Rattle.json.proofs.Telling.{json-tells}
 use Rattle.bothreaders.specs.Both.{Compared, compared, bothOf, firstOf, secondOf, both, bothFirst, bothSecond}
 use Rattle.nson.specs.Read.{readNson}
 use Rattle.rivals.proofs.Telling.{rivals-tells}
-use Rattle.kezubimoryu.specs.Refusals.{Asks, Fills, too-short, FillsBoth, first-short, second-short, writerNumbers, Refusals}
+use Rattle.kezubimoryu.specs.inner.Refusals.{Asks, Fills, too-short, FillsBoth, first-short, second-short, writerNumbers, Refusals}
 
 -- a question of which only the answer's being there is told, or a number of it
 told : {A : Type 0} {P : A → Type 0} {numbers : List ℕ} (s : List ℕ) {r : Answer A} (f : A → ℕ) → Tells numbers (length s) P r

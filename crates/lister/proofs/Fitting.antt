@@ -13,19 +13,19 @@ use lib.Dec.{eqb, leb}
 use borrow.Author.Tests.{eqb-true, leb-true}
 use Rattle.scan.specs.Choice.{pick, Answer, shown, refused, andThen}
 use Rattle.scan.proofs.Step.{pick-true, false-true}
-use Rattle.scan.specs.Span.{IsBytes}
-use Rattle.buffer.specs.Store.{Buffer, puts, Wrote}
+use Rattle.scan.specs.Bytes.{IsBytes}
+use Rattle.buffer.specs.inner.Store.{Buffer, puts, Wrote}
 use Rattle.buffer.proofs.Laws.{puts-eq}
 use Rattle.decimal.specs.Decimal.{decimal}
 use Rattle.decimal.proofs.Spelling.{length-most, length-u64, length-u16}
 use Rattle.event.specs.Event.{Event, Valid}
-use Rattle.event.specs.Tells.{among, Tells, value, refusal}
+use Rattle.event.specs.inner.Tells.{among, Tells, value, refusal}
 use Rattle.event.specs.declared.Refusal.{Refusal}
 use Rattle.notepack.specs.declared.Head.{Head}
 use Rattle.notepack.specs.declared.HeadRead.{HeadRead}
 use Rattle.notepack.specs.declared.HeadRead.the-variants as head-by
-use Rattle.notepack.specs.Answers.{headRead}
-use Rattle.notepack.specs.Unpack.{packedNumbers}
+use Rattle.notepack.specs.inner.Answers.{headRead}
+use Rattle.notepack.specs.inner.Numbers.{packedNumbers}
 use Rattle.notepack.specs.Views.{numbersOf, contentOf, view}
 use Rattle.notepack.specs.Seen.{Seen}
 use Rattle.notepack.proofs.Sound.{sound}

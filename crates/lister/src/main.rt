@@ -7,7 +7,7 @@ use notepack::HeadRead;
 ghost use Prim.Native.Nat.{_≤_};
 ghost use mathlib.Core.Path.{_≡_};
 ghost use lib.ListN.{length, take};
-ghost use Rattle.buffer.specs.Store.{Wrote};
+ghost use Rattle.buffer.specs.inner.Store.{Wrote};
 ghost use Rattle.notepack.specs.Views.{numbersOf};
 ghost use Rattle.lister.specs.Listing.{numbersText, refusalText, listing};
 

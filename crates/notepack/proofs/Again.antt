@@ -10,8 +10,9 @@ use native.Mathlib.Omega.{arith}
 use lib.ListN.{length}
 use lib.Dec.{eqb}
 use borrow.Author.Tests.{le-leb}
-use Rattle.scan.specs.Choice.{pick, Answer, shown, refused, Read, orElse, many}
-use Rattle.scan.specs.Span.{IsBytes}
+use Rattle.scan.specs.Choice.{pick, Answer, shown, refused, Read, many}
+use Rattle.scan.specs.inner.Otherwise.{orElse}
+use Rattle.scan.specs.Bytes.{IsBytes}
 use Rattle.scan.proofs.SpanLaws.{span-length, span-fits}
 use Rattle.scan.proofs.Reading.{Reads, read-same, shown-reads, shown-gives}
 use Rattle.scan.proofs.Many.{then-shown, many-apart}
@@ -19,10 +20,10 @@ use Rattle.varint.specs.Varint.{varintAt}
 use Rattle.event.specs.Event.{Event}
 use Rattle.notepack.specs.declared.Part.{Part}
 use Rattle.notepack.specs.Unpack.{bytesOf, textOf, payloadAt, textAt, numberAt, elementAt, elementsAt, tagCountAt, tagAt, tagsAt, Packed, packedAt, eventOf, unpack}
-use Rattle.notepack.specs.Again.{elementPartAt, partAgain, countAgain, textsAgain, textsEnd, tagsAgain, eventAgain}
+use Rattle.notepack.specs.inner.Again.{elementPartAt, partAgain, countAgain, textsAgain, textsEnd, tagsAgain, eventAgain}
 use Rattle.notepack.specs.Strict.{pack}
-use Rattle.notepack.specs.Tally.{hollowTags, tallyOf}
-use Rattle.notepack.specs.Answers.{Walked, walkAt}
+use Rattle.notepack.specs.inner.Tally.{hollowTags, tallyOf}
+use Rattle.notepack.specs.inner.Answers.{Walked, walkAt}
 use Rattle.notepack.proofs.Piece.{Piece}
 use Rattle.notepack.proofs.Sound.{Number, text-reads, sized-text, number-reads, head-gives, packed-gives, Shows, sound}
 use Rattle.notepack.proofs.Walking.{walked-packed}

@@ -11,14 +11,15 @@ use lib.Seq.{take-at}
 use lib.Dec.{leb, eqb}
 use borrow.Author.Tests.{le-leb, eq-eqb, ne-eqb}
 use Rattle.scan.specs.Choice.{pick, Answer, shown, refused, Read, read, andThen, many}
-use Rattle.scan.specs.Span.{Span, here, All, none, also}
+use Rattle.scan.specs.Bytes.{All, none, also}
+use Rattle.scan.specs.inner.Span.{here, Span}
 use Rattle.scan.proofs.Reading.{read-same}
 use Rattle.scan.proofs.SpanLaws.{cut, cut-at, none-span, span-length, span-fits, from-span, input-span}
 use Rattle.varint.specs.Uleb.{Spells}
 use Rattle.varint.specs.Varint.{varintAt}
 use Rattle.varint.proofs.VarintLaws.{accepts}
 use Rattle.utf8.specs.Utf8.{Utf8}
-use Rattle.utf8.specs.Width.{isUtf8}
+use Rattle.utf8.specs.inner.Width.{isUtf8}
 use Rattle.utf8.proofs.Laws.{is-utf8}
 use Rattle.hex.specs.Hex.{hexes}
 use Rattle.event.specs.Event.{Text, Tag, Event, ValidTag, Valid}

@@ -9,8 +9,10 @@ use native.Mathlib.Nat.{add-zero}
 use native.Mathlib.Numerals.{sub-one}
 use native.Mathlib.Omega.{arith}
 use lib.ListN.{length, length-append, length-map}
-use Rattle.scan.specs.Choice.{pick, either, Answer, shown, refused, Read, read, andThen, many}
-use Rattle.scan.specs.Span.{Span, IsBytes}
+use Rattle.scan.specs.Choice.{pick, Answer, shown, refused, Read, read, andThen, many}
+use Rattle.scan.specs.inner.Otherwise.{either}
+use Rattle.scan.specs.Bytes.{IsBytes}
+use Rattle.scan.specs.inner.Span.{Span}
 use Rattle.scan.proofs.Step.{pick-by}
 use Rattle.scan.proofs.SpanLaws.{span-length, span-fits}
 use Rattle.scan.proofs.Reading.{Reads, shown-reads, read-same}
@@ -28,8 +30,8 @@ use Rattle.notepack.specs.declared.Pass.{Pass}
 use Rattle.notepack.specs.declared.Pass.the-variants as pass-by
 use Rattle.notepack.specs.Strict.{packElement, packElements, packTag, packTags}
 use Rattle.notepack.specs.Unpack.{textOf, elementAt, elementsAt, tagCountAt, tagAt, tagsAt}
-use Rattle.notepack.specs.Tally.{isHollow, hollowIn, hollowTags, more, passElements, passTag, passTags}
-use Rattle.notepack.specs.Answers.{partRead, numberRead, pass}
+use Rattle.notepack.specs.inner.Tally.{isHollow, hollowIn, hollowTags, more, passElements, passTag, passTags}
+use Rattle.notepack.specs.inner.Answers.{partRead, numberRead, pass}
 use Rattle.notepack.proofs.Sound.{LaidAll, element-reads, count-reads, elements-reads, tag-reads}
 
 -- ---- tallies

@@ -12,8 +12,9 @@ use lib.ListN.{length, take, drop, length-append}
 use lib.Seq.{take-at, drop-at}
 use lib.Dec.{eqb}
 use borrow.Author.Tests.{eq-eqb, ne-eqb, eqb-true}
-use Rattle.scan.specs.Choice.{pick, either}
-use Rattle.scan.specs.Span.{IsBytes, none, also}
+use Rattle.scan.specs.Choice.{pick}
+use Rattle.scan.specs.inner.Otherwise.{either}
+use Rattle.scan.specs.Bytes.{IsBytes, none, also}
 use Rattle.scan.proofs.Step.{not-so, pick-by, false-true}
 use Rattle.varint.specs.Uleb.{Spells, uleb}
 use Rattle.varint.proofs.UlebLaws.{uleb-spells, uleb-shortest, uleb-last, length-last, length-more, length-one, spells-one, spells-unique, spells-value}

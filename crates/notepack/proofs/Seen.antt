@@ -6,7 +6,7 @@ use mathlib.Core.List.{List, [], _∷_, map}
 use native.Mathlib.Omega.{arith}
 use lib.ListN.{length, take, drop, length-map}
 use Rattle.scan.specs.Choice.{Answer, shown, refused, Read, andThen}
-use Rattle.scan.specs.Span.{IsBytes}
+use Rattle.scan.specs.Bytes.{IsBytes}
 use Rattle.scan.proofs.Reading.{shown-gives}
 use Rattle.scan.proofs.Many.{then-shown, many-count}
 use Rattle.event.specs.Event.{Text, Tag, Event}

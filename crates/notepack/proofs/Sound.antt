@@ -9,7 +9,8 @@ use lib.ListN.{length, take, drop, length-map}
 use lib.Dec.{leb, eqb}
 use borrow.Author.Tests.{leb-true, eqb-true, eqb-false}
 use Rattle.scan.specs.Choice.{pick, Answer, shown, refused, Read, read, andThen, many}
-use Rattle.scan.specs.Span.{Span, here, All, also, IsBytes}
+use Rattle.scan.specs.Bytes.{All, also, IsBytes}
+use Rattle.scan.specs.inner.Span.{here, Span}
 use Rattle.scan.proofs.SpanLaws.{join, cut, span-length, whole-span}
 use Rattle.scan.proofs.Reading.{Reads, reads, fails, pick-reads, then-reads, from-reads, part-span, part-length, Gives, gives, lacks, shown-gives, pick-gives, then-gives, read-gives}
 use Rattle.scan.proofs.AllLaws.{all-take, all-drop}
@@ -18,7 +19,7 @@ use Rattle.varint.specs.Varint.{varintAt}
 use Rattle.varint.proofs.VarintLaws.{varint-reads}
 use Rattle.hex.proofs.Texts.{hexes-digits, digits-ascii}
 use Rattle.utf8.specs.Utf8.{Utf8}
-use Rattle.utf8.specs.Width.{isUtf8}
+use Rattle.utf8.specs.inner.Width.{isUtf8}
 use Rattle.utf8.proofs.Laws.{is-utf8, utf8-ascii}
 use Rattle.hex.specs.Hex.{hexes}
 use Rattle.event.specs.Event.{Text, Tag, Event, ValidTag, Valid}
@@ -27,7 +28,7 @@ use Rattle.notepack.specs.declared.Head.{Head}
 use Rattle.notepack.specs.Layout.{Element, as-text, as-bytes, Elements, TagLays, tag, Tags, Lays}
 use Rattle.notepack.specs.Unpack.{partOf, bytesOf, textOf, payloadAt, textAt, numberAt, contentAt, elementAt, elementsAt, tagCountAt, tagAt, tagsAt, numbersAt, headAt, Packed, packedAt, eventOf, unpack}
 use Rattle.notepack.specs.Strict.{packElement, packElements, packTag, packTags, pack}
-use Rattle.notepack.specs.Tally.{isHollow, hollowIn, hollowTags}
+use Rattle.notepack.specs.inner.Tally.{isHollow, hollowIn, hollowTags}
 use Rattle.notepack.proofs.Piece.{Piece, whole, number, beside, text-piece, bytes-piece}
 
 -- a payload of n bytes at `at`: the part is these bytes

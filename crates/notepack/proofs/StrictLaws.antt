@@ -8,7 +8,7 @@ use mathlib.Core.Logic.{_↔_}
 use native.Mathlib.Omega.{arith}
 use lib.ListN.{length, length-append}
 use Rattle.scan.specs.Choice.{pick, Answer, shown}
-use Rattle.scan.specs.Span.{All, IsBytes}
+use Rattle.scan.specs.Bytes.{All, IsBytes}
 use Rattle.scan.proofs.Step.{pick-by}
 use Rattle.varint.specs.Uleb.{Spells, uleb}
 use Rattle.varint.proofs.UlebLaws.{uleb-spells}
@@ -80,7 +80,7 @@ pack-lays e v h =
     (uleb-spells (length (e .tags)) (omega (arith, v .few)))
     (tags-lay (v .each) (tail-short (uleb (length (e .tags))) _ n))
 
--- Writing an event gives the one strict form, which reads as the same event.
+-- The strict form of a valid event, if it is no longer than an input may be, is read as that event.
 pub reads-back : (e : Event) → Valid e → length (pack e) ≤ 65_536 → unpack (pack e) ≡ shown e
 reads-back e v h = complete (pack e) e (pack-lays e v h) v h
 

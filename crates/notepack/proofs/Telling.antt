@@ -10,16 +10,17 @@ use lib.ListN.{length}
 use lib.Dec.{leb, eqb}
 use borrow.Author.Tests.{leb-true, eqb-true}
 use Rattle.scan.specs.Choice.{pick, Answer, shown, refused, Read, read, andThen, many}
-use Rattle.utf8.specs.Width.{isUtf8}
+use Rattle.utf8.specs.inner.Width.{isUtf8}
 use Rattle.varint.specs.Varint.{varintAt}
 use Rattle.varint.proofs.VarintLaws.{Refuses, truncated, overflow, unterminated, refusal as refuses, consumes-some}
 use Rattle.event.specs.Event.{Event}
-use Rattle.event.specs.Tells.{among, Tells, value, refusal}
+use Rattle.event.specs.inner.Tells.{among, Tells, value, refusal}
 use Rattle.event.proofs.TellsLaws.{Inside, then-tells, pick-tells, less-tells, many-tells, wider}
 use Rattle.notepack.specs.declared.Part.{Part}
 use Rattle.notepack.specs.declared.Head.{Head}
-use Rattle.notepack.specs.Unpack.{bytesOf, payloadAt, textAt, numberAt, contentAt, elementAt, elementsAt, tagCountAt, tagAt, tagsAt, numbersAt, headAt, Packed, packedAt, packedNumbers, unpack}
-use Rattle.notepack.specs.Views.{numbersOf, nth, tagOf, textsIn, elementOf, contentOf, viewNumbers}
+use Rattle.notepack.specs.Unpack.{bytesOf, payloadAt, textAt, numberAt, contentAt, elementAt, elementsAt, tagCountAt, tagAt, tagsAt, numbersAt, headAt, Packed, packedAt, unpack}
+use Rattle.notepack.specs.inner.Numbers.{packedNumbers, viewNumbers}
+use Rattle.notepack.specs.Views.{numbersOf, nth, tagOf, textsIn, elementOf, contentOf}
 
 module _ (s : List ℕ) where
   -- a read that ends in the input

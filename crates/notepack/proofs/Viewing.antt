@@ -18,9 +18,10 @@ use Rattle.notepack.specs.declared.Part.{Part}
 use Rattle.notepack.specs.declared.Head.{Head}
 use Rattle.notepack.specs.Unpack.{elementAt, elementsAt, tagCountAt, tagAt, tagsAt, headAt, Packed, packedAt, textOf, eventOf, unpack}
 use Rattle.notepack.specs.declared.Tally.{Tally}
-use Rattle.notepack.specs.Tally.{passElements, passTags, tallyOf}
-use Rattle.notepack.specs.Answers.{Walked, walkAt}
-use Rattle.notepack.specs.Views.{numbersOf, contentOf, nth, tagOf, textsIn, elementOf, tagStart, elementPlace}
+use Rattle.notepack.specs.inner.Tally.{passElements, passTags, tallyOf}
+use Rattle.notepack.specs.inner.Answers.{Walked, walkAt}
+use Rattle.notepack.specs.Views.{numbersOf, contentOf, nth, tagOf, textsIn, elementOf}
+use Rattle.notepack.specs.inner.Places.{tagStart, elementPlace}
 
 -- ---- number i of a list
 

@@ -10,7 +10,7 @@ use lib.ListN.{length, length-append, length-map}
 use lib.Dec.{eqb}
 use borrow.Author.Tests.{le-leb, lt-leb, eq-eqb, ne-eqb}
 use Rattle.scan.specs.Choice.{pick, Answer, shown, refused, Read, read, andThen}
-use Rattle.scan.specs.Span.{IsBytes}
+use Rattle.scan.specs.Bytes.{IsBytes}
 use Rattle.scan.proofs.SpanLaws.{span-length, span-fits}
 use Rattle.scan.proofs.Reading.{shown-reads, shown-gives, read-same}
 use Rattle.scan.proofs.Many.{then-shown}
@@ -24,8 +24,8 @@ use Rattle.notepack.specs.declared.Pass.{Pass}
 use Rattle.notepack.specs.declared.Pass.the-variants as pass-by
 use Rattle.notepack.specs.Strict.{packTags, pack}
 use Rattle.notepack.specs.Unpack.{bytesOf, textOf, tagsAt, headAt, Packed, packedAt, eventOf, unpack}
-use Rattle.notepack.specs.Tally.{hollowTags, headLen, more, passTags, tallyOf}
-use Rattle.notepack.specs.Answers.{pass, Walked, walkAt}
+use Rattle.notepack.specs.inner.Tally.{hollowTags, headLen, more, passTags, tallyOf}
+use Rattle.notepack.specs.inner.Answers.{pass, Walked, walkAt}
 use Rattle.notepack.proofs.Sound.{Headed, sized-text, head-gives, tags-reads}
 
 -- an input over the limit is refused first of all

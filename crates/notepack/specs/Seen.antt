@@ -1,10 +1,10 @@
--- What is seen of packed bytes is what the event that they show has (document 01, "Views").
+-- What is seen of packed bytes is what the event that they show has (rule 4.9).
 -- Each answer in the event's own words; `proofs/Seen` shows it. Assumes nothing.
 use Prim.Native.Nat.{ℕ}
 use mathlib.Core.Path.{_≡_}
 use mathlib.Core.List.{List}
 use lib.ListN.{length, take, drop}
-use Rattle.scan.specs.Choice.{Answer, shown, andThen}
+use Rattle.scan.specs.Choice.{shown, andThen}
 use Rattle.event.specs.Event.{Tag, Event}
 use Rattle.notepack.specs.declared.Part.{Part}
 use Rattle.notepack.specs.declared.Head.{Head}

@@ -1,13 +1,14 @@
--- Reading notepack at places of the input, with document 01's refusals and their places. `proofs/` shows that it is
+-- Reading notepack at places of the input, with the refusals and places of rules 2, 10 and 11. `proofs/` shows that it
+-- is
 -- `Lays`. Assumes nothing.
 use Prim.Native.Nat.{ℕ, _+_, _-_, _/_, _%_}
 use mathlib.Core.Bool.{Bool, true, false}
-use mathlib.Core.List.{List, [], _∷_, map}
+use mathlib.Core.List.{List, map}
 use lib.ListN.{length, take, drop}
 use lib.Dec.{leb, eqb}
 use Rattle.scan.specs.Choice.{pick, Answer, shown, refused, Read, read, andThen, many}
 use Rattle.varint.specs.Varint.{varintAt}
-use Rattle.utf8.specs.Width.{isUtf8}
+use Rattle.utf8.specs.inner.Width.{isUtf8}
 use Rattle.hex.specs.Hex.{hexes}
 use Rattle.event.specs.Event.{Text, Event}
 use Rattle.notepack.specs.declared.Part.{Part}
@@ -101,10 +102,6 @@ packedAt s =
     andThen (tagsAt (h .«tag_count») s (h .«tags_at»)) λ t.
     pick (eqb (t .next) (length s)) (shown (record { head = h; tags = t .value })) (refused 10 (t .next)))
     (refused 1 0)
-
--- the numbers of its refusals: 1 to 10
-abbrev pub packedNumbers : List ℕ
-packedNumbers = 1 ∷ 2 ∷ 3 ∷ 4 ∷ 5 ∷ 6 ∷ 7 ∷ 8 ∷ 9 ∷ 10 ∷ []
 
 -- the event whose parts stand there
 unfoldable pub eventOf : List ℕ → Packed → Event

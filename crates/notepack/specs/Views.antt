@@ -1,13 +1,12 @@
--- What is asked of a packed event besides its numbers: the content, a tag's number of texts, an element (document 01,
--- "Views"). Assumes nothing.
+-- What is asked of a packed event besides its numbers: the content, a tag's number of texts, an element (rules 4).
+-- Assumes nothing.
 use Prim.Native.Nat.{ℕ, zero, suc}
 use mathlib.Core.List.{List, [], _∷_}
 use lib.ListN.{length}
-use lib.Dec.{ltb}
-use Rattle.scan.specs.Choice.{pick, Answer, shown, refused, Read, andThen}
+use Rattle.scan.specs.Choice.{Answer, shown, refused, andThen}
 use Rattle.notepack.specs.declared.Part.{Part}
 use Rattle.notepack.specs.declared.Head.{Head}
-use Rattle.notepack.specs.Unpack.{bytesOf, elementAt, elementsAt, tagCountAt, tagsAt, Packed, packedAt, packedNumbers}
+use Rattle.notepack.specs.Unpack.{bytesOf, packedAt}
 
 -- the numbers of the event
 unfoldable pub numbersOf : List ℕ → Answer Head
@@ -18,10 +17,6 @@ abbrev pub nth : {A : Type 0} → ℕ → List A → Answer A
 nth i [] = refused 19 0
 nth zero (x ∷ l) = shown x
 nth (suc i) (x ∷ l) = nth i l
-
--- the numbers of a view's refusals: the reader's, and 19
-abbrev pub viewNumbers : List ℕ
-viewNumbers = 19 ∷ packedNumbers
 
 -- tag i
 unfoldable pub tagOf : ℕ → List ℕ → Answer (List Part)
@@ -43,15 +38,3 @@ view s (refused n p) = []
 -- the content
 unfoldable pub contentOf : List ℕ → Answer Part
 contentOf s = andThen (packedAt s) λ p. shown (p .head .content)
-
--- ---- the same by walking from place to place
-
-unfoldable pub tagStart : ℕ → List ℕ → Answer (Read ℕ)
-tagStart i s =
-    andThen (numbersOf s) λ h.
-    pick (ltb i (h .«tag_count»)) (andThen (tagsAt i s (h .«tags_at»)) λ t. tagCountAt s (t .next)) (refused 19 0)
-
-unfoldable pub elementPlace : ℕ → ℕ → List ℕ → Answer (Read Part)
-elementPlace i j s =
-    andThen (tagStart i s) λ n.
-    pick (ltb j (n .value)) (andThen (elementsAt j s (n .next)) λ e. elementAt s (e .next)) (refused 19 0)

@@ -5,7 +5,8 @@ use mathlib.Core.Path.{_≡_, refl, sym, ap}
 use mathlib.Core.Bool.{Bool, true, false}
 use mathlib.Core.List.{List, [], _∷_, _++_, append-nil, map}
 use Rattle.scan.specs.Choice.{Answer, shown, Read, read}
-use Rattle.scan.specs.Span.{Span, here, All, none, also}
+use Rattle.scan.specs.Bytes.{All, none, also}
+use Rattle.scan.specs.inner.Span.{here, Span}
 use Rattle.scan.proofs.SpanLaws.{join, cut, none-span, respell}
 use Rattle.scan.proofs.Many.{after, shown-same}
 use Rattle.escape.specs.Escape.{nsonByte}

@@ -5,16 +5,18 @@ use mathlib.Core.Path.{_≡_, refl, sym}
 use mathlib.Core.List.{List, _++_, append-assoc, map}
 use lib.ListN.{length}
 use borrow.Author.Tests.{leb-true, le-leb}
+use Rattle.scan.specs.Ascii.{ascii}
 use Rattle.scan.specs.Choice.{shown, Read, read}
-use Rattle.scan.specs.Span.{Span, All}
+use Rattle.scan.specs.Bytes.{All}
+use Rattle.scan.specs.inner.Span.{Span}
 use Rattle.scan.proofs.SpanLaws.{join, cut, respell}
 use Rattle.scan.proofs.Many.{after, pick-shown, shown-same}
 use Rattle.decimal.specs.Decimal.{decimal}
 use Rattle.escape.specs.Escape.{nsonByte, escaped}
 use Rattle.event.specs.Event.{Text, Tag}
-use Rattle.jsontext.specs.Escape.{unescape}
+use Rattle.jsontext.specs.inner.Escape.{unescape}
 use Rattle.jsontags.specs.TagText.{tagsText}
-use Rattle.nson.specs.Nson.{kindLabel, contentLabel, tagsLabel, endLabel, Counts, escapedSize}
+use Rattle.nson.specs.Nson.{kindLabel, contentLabel, tagsLabel, Counts, escapedSize}
 use Rattle.nson.specs.Read.{pieceAt, partAt, decimalAt, textAt, kindAt, tagsAt, kindPartAt, contentPartAt, tagsPartAt, Body, bodyAt}
 use Rattle.nson.proofs.Pieces.{piece-shown, piece-accepts, decimal-shown, decimal-accepts}
 use Rattle.nson.proofs.Texts.{Spelled, Good, text-shown, text-accepts}
@@ -55,22 +57,22 @@ content-part-shown n s at v e =
     (a, piece-shown 13 contentLabel s at a p, rw (sym f) (text-shown n s a b q))))
 
 tags-part-shown : (l : List (List ℕ)) (s : List ℕ) (at : ℕ) (v : Read (List Tag)) → tagsPartAt l s at ≡ shown v
-    → (a : ℕ) × (b : ℕ) × Span s at tagsLabel a × Spelled (tagsText nsonByte) (map (map escapedSize)) (All (All Good)) s l a (record { value = v .value; next = b }) × Span s b endLabel (v .next)
+    → (a : ℕ) × (b : ℕ) × Span s at tagsLabel a × Spelled (tagsText nsonByte) (map (map escapedSize)) (All (All Good)) s l a (record { value = v .value; next = b }) × Span s b (ascii "}") (v .next)
 unfolding tagsPartAt
 tags-part-shown l s at v e =
     after (pieceAt 13 tagsLabel s at) _ v e
     (λ a p e₁.
     after (tagsAt l s a) _ v e₁
     (λ t q e₂.
-    after (pieceAt 13 endLabel s (t .next)) _ v e₂
+    after (pieceAt 13 (ascii "}") s (t .next)) _ v e₂
     (λ b r e₃.
     let f : record { value = t .value; next = b } ≡ v = shown-same e₃ in
-    rw (sym f) (a, t .next, piece-shown 13 tagsLabel s at a p, tags-shown s l a t q, piece-shown 13 endLabel s (t .next) b r))))
+    rw (sym f) (a, t .next, piece-shown 13 tagsLabel s at a p, tags-shown s l a t q, piece-shown 13 (ascii "}") s (t .next) b r))))
 
 -- ---- all three
 
 abbrev pub bodySpelling : Body → List ℕ
-bodySpelling b = kindLabel ++ decimal (b .kind) ++ contentLabel ++ escaped nsonByte (b .content) ++ tagsLabel ++ tagsText nsonByte (b .tags) ++ endLabel
+bodySpelling b = kindLabel ++ decimal (b .kind) ++ contentLabel ++ escaped nsonByte (b .content) ++ tagsLabel ++ tagsText nsonByte (b .tags) ++ (ascii "}")
 
 abbrev pub bodyCounts : Body → Counts
 bodyCounts b = record { kind = digits (b .kind); content = escapedSize (b .content); tags = map (map escapedSize) (b .tags) }
@@ -102,7 +104,7 @@ body-shown n s at v e =
     })))
 
 right : (b : Body) → bodySpelling b
-    ≡ kindLabel ++ (decimal (b .kind) ++ (contentLabel ++ (escaped nsonByte (b .content) ++ (tagsLabel ++ (tagsText nsonByte (b .tags) ++ endLabel)))))
+    ≡ kindLabel ++ (decimal (b .kind) ++ (contentLabel ++ (escaped nsonByte (b .content) ++ (tagsLabel ++ (tagsText nsonByte (b .tags) ++ (ascii "}"))))))
 right b = simp append-assoc
 
 -- accepts: what is good and stands there is read by its counts

@@ -1,11 +1,12 @@
--- What the field can hold and what the text allows is together what a carried and valid event's tags are; and the length of the descriptors.
+-- What the field can hold and what the text allows is together what a carried and valid event's tags are; and the
+-- length of the descriptors.
 -- By induction on the tags and their texts.
 use Prim.Native.Nat.{ℕ, _+_, _*_, _≤_}
 use mathlib.Core.Path.{_≡_, refl}
 use mathlib.Core.List.{List, [], _∷_, map}
 use native.Mathlib.Omega.{arith}
 use lib.ListN.{length, length-append, length-map}
-use Rattle.scan.specs.Span.{All, none, also}
+use Rattle.scan.specs.Bytes.{All, none, also}
 use Rattle.scan.proofs.AllLaws.{all-map}
 use Rattle.utf8.specs.Utf8.{Utf8}
 use Rattle.decimal.proofs.Spelling.{length-some, length-u16}

@@ -1,4 +1,5 @@
--- THE completeness: the text of an event that is carried and valid is read as that event; so the text is the event's alone.
+-- THE completeness: the text of an event that is carried and valid is read as that event; so the text is the event's
+-- alone.
 -- The text is cut into its pieces, whose places are known, and each piece is rewritten by its *accepts*.
 use Prim.Native.Nat.{ℕ, _*_}
 use mathlib.Core.Path.{_≡_, refl, sym, ap, _∙_, subst}
@@ -8,7 +9,7 @@ use native.Mathlib.Omega.{arith}
 use lib.ListN.{length}
 use borrow.Author.Tests.{le-leb, eq-eqb}
 use Rattle.scan.specs.Choice.{shown, read}
-use Rattle.scan.specs.Span.{Span}
+use Rattle.scan.specs.inner.Span.{Span}
 use Rattle.scan.proofs.SpanLaws.{cut, cut-at, span-length, input-span, respell, part-of-span}
 use Rattle.scan.proofs.Many.{shown-same}
 use Rattle.hex.specs.Hex.{hexes, unhex}

@@ -10,7 +10,8 @@ use lib.Dec.{eqb}
 use borrow.Author.Tests.{eqb-false, ne-eqb, le-leb}
 use Rattle.scan.specs.Choice.{pick, shown, refused, Read, read}
 use Rattle.scan.specs.Place.{within}
-use Rattle.scan.specs.Span.{Span, All}
+use Rattle.scan.specs.Bytes.{All}
+use Rattle.scan.specs.inner.Span.{Span}
 use Rattle.scan.proofs.SpanLaws.{join, cut-at, span-length}
 use Rattle.scan.proofs.Many.{after, pick-shown, shown-same, many-shown, many-accepts}
 use Rattle.hex.specs.Hex.{hexes}

@@ -10,14 +10,15 @@ use lib.Dec.{leb}
 use borrow.Author.Tests.{leb-true, le-leb}
 use Rattle.scan.specs.Choice.{pick}
 use Rattle.scan.specs.Place.{within}
-use Rattle.scan.specs.Span.{All, none, also}
+use Rattle.scan.specs.Bytes.{All, none, also}
 use Rattle.scan.proofs.Step.{pick-true}
 use Rattle.hex.proofs.Digits.{in-range}
-use Rattle.escape.specs.Escape.{nsonText}
+use Rattle.escape.specs.inner.Controls.{nsonText}
 use Rattle.escape.proofs.QuotedLaws.{nson-text}
 use Rattle.event.specs.Event.{Text, Tag, Event}
 use Rattle.nson.specs.Nson.{escapedSize, nson}
-use Rattle.nson.specs.Carries.{tagBytes, Fits, Carries, fits, allFit, tagsFit, carries}
+use Rattle.nson.specs.Carries.{tagBytes, Fits, Carries}
+use Rattle.nson.specs.inner.Decision.{fits, allFit, tagsFit, carries}
 
 fits-true : (t : Text) → fits t ≡ true → Fits t
 unfolding fits

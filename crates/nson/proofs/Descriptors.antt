@@ -8,10 +8,12 @@ use lib.ListN.{length}
 use lib.Dec.{leb}
 use borrow.Author.Tests.{le-leb}
 use Rattle.scan.specs.Choice.{shown, Read, read}
-use Rattle.scan.specs.Span.{Span, here, step, All, none, also, IsBytes}
+use Rattle.scan.specs.Bytes.{All, none, also, IsBytes}
+use Rattle.scan.specs.inner.Span.{here, step, Span}
 use Rattle.scan.proofs.SpanLaws.{cut-at, span-length, respell}
 use Rattle.scan.proofs.Many.{after, pick-shown, shown-same}
-use Rattle.hex.specs.Hex.{LowerHex, hexes, unhex}
+use Rattle.hex.specs.Hex.{hexes, unhex}
+use Rattle.hex.specs.inner.LowerHex.{LowerHex}
 use Rattle.hex.proofs.Texts.{hexes-digits, hexes-unhex, unhex-hexes}
 use Rattle.nson.specs.Nson.{word}
 use Rattle.nson.specs.Read.{hexAt, byteHere, wordHere, descriptorAt, byteCountAt, wordCountAt}

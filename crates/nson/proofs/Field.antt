@@ -1,4 +1,5 @@
--- The nson field: counts are read at 318 exactly where their field stands there, with the size that the descriptors take.
+-- The nson field: counts are read at 318 exactly where their field stands there, with the size that the descriptors
+-- take.
 -- Descriptor after descriptor; the tags' counts are reads one after the other, and the end is where the size says.
 use Prim.Native.Nat.{ℕ, _+_, _*_, _≤_}
 use mathlib.Core.Path.{_≡_, refl, sym}
@@ -7,7 +8,7 @@ use native.Mathlib.Omega.{arith}
 use lib.ListN.{length}
 use borrow.Author.Tests.{eqb-true, eq-eqb}
 use Rattle.scan.specs.Choice.{shown, Read, read, many}
-use Rattle.scan.specs.Span.{Span}
+use Rattle.scan.specs.inner.Span.{Span}
 use Rattle.scan.proofs.SpanLaws.{join, cut-at, span-length}
 use Rattle.scan.proofs.Many.{after, pick-shown, shown-same, many-shown, many-accepts}
 use Rattle.hex.specs.Hex.{hexes}

@@ -1,4 +1,5 @@
--- Up to the field: id, pubkey, sig and the time are read exactly where they stand, and the places of all are fixed: the field is at 318.
+-- Up to the field: id, pubkey, sig and the time are read exactly where they stand, and the places of all are fixed: the
+-- field is at 318.
 -- Piece after piece; each has a length that is known, so each has one place.
 use Prim.Native.Nat.{ℕ, _+_, _/_, _%_}
 use mathlib.Core.Path.{_≡_, refl, sym, ap, _∙_}
@@ -6,7 +7,7 @@ use mathlib.Core.List.{List, _++_}
 use native.Mathlib.Omega.{arith}
 use lib.ListN.{length}
 use Rattle.scan.specs.Choice.{shown, Read}
-use Rattle.scan.specs.Span.{Span}
+use Rattle.scan.specs.inner.Span.{Span}
 use Rattle.scan.proofs.SpanLaws.{join, span-length, respell}
 use Rattle.scan.proofs.Many.{after, shown-same}
 use Rattle.hex.specs.Hex.{hexes, unhex}

@@ -8,13 +8,14 @@ use native.Mathlib.Omega.{arith}
 use lib.ListN.{length, take, drop, take-append-drop}
 use borrow.Author.Tests.{eqb-true, eq-eqb}
 use Rattle.scan.specs.Choice.{pick, Answer, shown, refused, Read, read, andThen}
-use Rattle.scan.specs.Span.{Span, All}
+use Rattle.scan.specs.Bytes.{All}
+use Rattle.scan.specs.inner.Span.{Span}
 use Rattle.scan.proofs.Step.{pick-true}
 use Rattle.scan.proofs.SpanLaws.{span-length, part-of-span, span-of-part}
 use Rattle.scan.proofs.PlaceLaws.{stands-span, span-stands}
 use Rattle.scan.proofs.Reading.{read-same}
 use Rattle.scan.proofs.Many.{pick-shown, after, shown-same}
-use Rattle.hex.specs.Hex.{LowerHex}
+use Rattle.hex.specs.inner.LowerHex.{LowerHex}
 use Rattle.hex.proofs.Texts.{digits-pass, pass-digits}
 use Rattle.decimal.specs.Decimal.{decimal, numberOf}
 use Rattle.decimal.proofs.Spelling.{number-decimal}

@@ -2,7 +2,8 @@
 use Prim.Native.Nat.{ℕ, _+_}
 use mathlib.Core.Path.{_≡_, refl}
 use lib.ListN.{length}
-use Rattle.nson.specs.Nson.{idLabel, pubkeyLabel, sigLabel, timeLabel, nsonLabel, kindLabel, contentLabel, tagsLabel, idPlace, pubkeyPlace, sigPlace, sizePlace, descriptorsPlace, tagCountsPlace, aroundKind, beforeTags}
+use Rattle.nson.specs.Nson.{idLabel, pubkeyLabel, sigLabel, timeLabel, nsonLabel, kindLabel, contentLabel, tagsLabel}
+use Rattle.nson.specs.inner.Places.{idPlace, pubkeyPlace, sigPlace, sizePlace, descriptorsPlace, tagCountsPlace, aroundKind, beforeTags}
 
 pub id-place : idPlace ≡ length idLabel
 id-place = refl

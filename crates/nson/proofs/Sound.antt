@@ -1,12 +1,14 @@
--- THE soundness: a string that shows an event is the event's own text, and the event is carried and valid; its counts are the event's.
--- From what stands in the input (`Stands`): the bounds of the field give what is carried, the pieces give what is valid.
+-- THE soundness: a string that shows an event is the event's own text, and the event is carried and valid; its counts
+-- are the event's.
+-- From what stands in the input (`Stands`): the bounds of the field give what is carried, the pieces give what is
+-- valid.
 use Prim.Native.Nat.{ℕ, _*_, _≤_}
 use mathlib.Core.Path.{_≡_, refl, sym, _∙_}
 use mathlib.Core.List.{List, [], _∷_, map}
 use native.Mathlib.Omega.{arith}
 use lib.ListN.{length, length-map}
 use Rattle.scan.specs.Choice.{shown, read}
-use Rattle.scan.specs.Span.{Span}
+use Rattle.scan.specs.inner.Span.{Span}
 use Rattle.scan.proofs.SpanLaws.{cut-at, whole-span}
 use Rattle.scan.proofs.Reading.{read-same}
 use Rattle.hex.specs.Hex.{hexes}

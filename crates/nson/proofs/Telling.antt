@@ -1,5 +1,6 @@
 -- Every refusal of the NSON reader has one of its own numbers, and a place that does not pass the input's end.
--- Along the definitions: each piece ends in the input or is refused where it starts, and a fault in a string is 5, 13 or 14.
+-- Along the definitions: each piece ends in the input or is refused where it starts, and a fault in a string is 5, 13
+-- or 14.
 use Prim.{Unit, tt}
 use Prim.Native.Nat.{ℕ, zero, suc, _+_, _-_, _≤_}
 use mathlib.Core.Path.{_≡_, refl}
@@ -14,17 +15,18 @@ use Rattle.scan.specs.Place.{byteAt, standsAt, within}
 use Rattle.scan.proofs.Step.{pick-true, pick-by}
 use Rattle.scan.proofs.SpanLaws.{span-fits}
 use Rattle.scan.proofs.PlaceLaws.{stands-span}
-use Rattle.utf8.specs.Width.{widthOf}
+use Rattle.utf8.specs.inner.Width.{widthOf}
 use Rattle.hex.specs.Hex.{allDigits}
 use Rattle.decimal.specs.Decimal.{decimal, numberOf}
 use Rattle.scan.specs.Compare.{sameBytes}
 use Rattle.event.specs.Event.{Event}
-use Rattle.event.specs.Tells.{among, Tells, value, refusal}
+use Rattle.event.specs.inner.Tells.{among, Tells, value, refusal}
 use Rattle.event.proofs.TellsLaws.{Inside, then-tells, pick-tells, less-tells, many-tells}
 use Rattle.nsonstring.specs.Counted.{isLetter, faultFrom, faultIn}
 use Rattle.nson.specs.Nson.{Counts}
 use Rattle.nson.specs.Read as reading
-use Rattle.nson.specs.Read.{nsonNumbers, partAt, readNson}
+use Rattle.nson.specs.Read.{partAt, readNson}
+use Rattle.nson.specs.inner.Numbers.{nsonNumbers}
 
 -- ---- faults in a string
 

@@ -1,24 +1,27 @@
 -- A counted text is shown exactly where the escaped text stands in so many bytes; likewise an item between its quotes.
--- Without a fault the bytes are well quoted UTF-8, their JSON meaning is their plain text, and that escaped gives them back.
+-- Without a fault the bytes are well quoted UTF-8, their JSON meaning is their plain text, and that escaped gives them
+-- back.
 use Prim.Native.Nat.{ℕ, _+_}
 use mathlib.Core.Path.{_≡_, refl, sym, ap, _∙_}
 use mathlib.Core.List.{List, [], _∷_}
 use lib.ListN.{length}
 use borrow.Author.Tests.{eqb-true, eq-eqb, ne-eqb}
 use Rattle.scan.specs.Choice.{shown, Read, read}
-use Rattle.scan.specs.Span.{Span, All}
+use Rattle.scan.specs.Bytes.{All}
+use Rattle.scan.specs.inner.Span.{Span}
 use Rattle.scan.proofs.SpanLaws.{join, cut, span-length, part-of-span, span-of-part}
 use Rattle.scan.proofs.Many.{after, pick-shown, shown-same}
 use Rattle.utf8.specs.Utf8.{Utf8}
-use Rattle.escape.specs.Escape.{Carried, nsonByte, escaped, meaning, plainFrom, plain}
-use Rattle.escape.specs.Quoted.{Quoted, none, bare, escape, NsonBare, nson-bare, NsonLetter, letter-n, letter-quote, letter-backslash}
+use Rattle.escape.specs.Escape.{Carried, nsonByte, escaped}
+use Rattle.escape.specs.inner.Back.{meaning, plainFrom, plain}
+use Rattle.escape.specs.inner.Quoted.{Quoted, none, bare, escape, NsonBare, nson-bare, NsonLetter, letter-n, letter-quote, letter-backslash}
 use Rattle.escape.proofs.ByteLaws.{nson-escaping}
 use Rattle.escape.proofs.TextLaws.{nson-plain, escaped-utf8}
 use Rattle.escape.proofs.QuotedLaws.{nson-text, nson-quoted}
 use Rattle.escape.proofs.PlainLaws.{nson-spelled, nson-carried, plain-utf8}
 use Rattle.event.specs.Event.{Text}
 use Rattle.jsontext.specs.Grammar as json
-use Rattle.jsontext.specs.Escape.{unescape}
+use Rattle.jsontext.specs.inner.Escape.{unescape}
 use Rattle.jsontext.proofs.Meaning.{unescape-none, unescape-byte, unescape-char}
 use Rattle.nsonstring.specs.Counted.{faultIn}
 use Rattle.nsonstring.proofs.Faults.{no-fault, faultless}

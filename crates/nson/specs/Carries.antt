@@ -1,17 +1,13 @@
--- Which events NSON can carry (document 01, "NSON"): the statement, and its decision. Assumes nothing.
+-- Which events NSON can carry (rule 6.14): the statement. Its decision is `inner/Decision`. Assumes nothing.
 use Prim.Native.Nat.{ℕ, _+_, _*_, _≤_}
-use mathlib.Core.Bool.{Bool, true, false}
 use mathlib.Core.List.{List, [], _∷_}
 use lib.ListN.{length}
-use lib.Dec.{leb}
-use Rattle.scan.specs.Choice.{pick}
-use Rattle.scan.specs.Place.{within}
-use Rattle.scan.specs.Span.{All}
-use Rattle.escape.specs.Escape.{Carried, nsonText}
+use Rattle.scan.specs.Bytes.{All}
+use Rattle.escape.specs.Escape.{Carried}
 use Rattle.event.specs.Event.{Text, Tag, Event}
 use Rattle.nson.specs.Nson.{escapedSize, nson}
 
--- the sum over tags of 1 + 2 × items
+-- the bytes of the descriptors of the tags: 1 for each tag, 2 for each item
 unfoldable pub tagBytes : List Tag → ℕ
 tagBytes [] = 0
 tagBytes (t ∷ l) = 1 + 2 * length t + tagBytes l
@@ -28,21 +24,3 @@ pub record Carries (e : Event) : Type 0 where
   pub texts : All (All Fits) (e .tags)
   pub few : 4 + tagBytes (e .tags) ≤ 127
   pub whole : length (nson e) ≤ 65_536
-
--- ---- the decision
-
-unfoldable pub fits : Text → Bool
-fits t = pick (nsonText t) (leb (escapedSize t) 65_535) false
-
-unfoldable pub allFit : List Text → Bool
-allFit [] = true
-allFit (t ∷ l) = pick (fits t) (allFit l) false
-
-unfoldable pub tagsFit : List Tag → Bool
-tagsFit [] = true
-tagsFit (t ∷ l) = pick (allFit t) (tagsFit l) false
-
-unfoldable pub carries : Event → Bool
-carries e =
-    pick (within 1_000_000_000 9_999_999_999 (e .createdAt))
-    (pick (fits (e .content)) (pick (tagsFit (e .tags)) (pick (leb (4 + tagBytes (e .tags)) 127) (leb (length (nson e)) 65_536) false) false) false) false

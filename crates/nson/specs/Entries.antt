@@ -1,15 +1,15 @@
--- The NSON reader and the NSON writer as entries: s is the input, d the lent buffer. An answer is the length written, or a refusal with its
--- number and place. Demand 3 and the contracts of the code cite these names and no others. Assumes nothing.
+-- The NSON reader and the NSON writer as entries: s is the input, d the lent buffer. An answer is the length written,
+-- or a refusal with its number and place. Demand 3 and the contracts of the code cite these names and no others.
+-- Assumes nothing.
 use Prim.Native.Nat.{ℕ}
 use mathlib.Core.List.{List}
-use lib.ListN.{length}
 use Rattle.scan.specs.Choice.{pick, Answer, shown, refused, andThen}
 use Rattle.buffer.specs.Entry.{writes, leaves}
 use Rattle.event.specs.Event.{Event}
 use Rattle.notepack.specs.Unpack.{unpack}
 use Rattle.notepack.specs.Strict.{pack}
 use Rattle.nson.specs.Nson.{nson}
-use Rattle.nson.specs.Carries.{carries}
+use Rattle.nson.specs.inner.Decision.{carries}
 use Rattle.nson.specs.Read.{readNson}
 
 -- the NSON reader: its answer, and what it leaves in d
@@ -18,10 +18,6 @@ nsonReads s d = writes pack (readNson s) d
 
 abbrev pub nsonLeaves : List ℕ → List ℕ → List ℕ
 nsonLeaves s d = leaves pack (readNson s) d
-
--- the length that it needs, whatever is lent
-abbrev pub nsonNeeds : List ℕ → Answer ℕ
-nsonNeeds s = andThen (readNson s) λ e. shown (length (pack e))
 
 -- an event that NSON can carry; any other is refused with 17 at 0
 abbrev pub carried : Answer Event → Answer Event

@@ -1,78 +1,39 @@
--- The text of NSON (document 01, "NSON"; source document 003). An event has one spelling and no other. Assumes nothing.
-use Prim.Native.Nat.{ℕ, _+_, _*_, _/_, _%_}
+-- The text of NSON (rules 6). An event has one spelling and no other. Assumes nothing.
+use Prim.Native.Nat.{ℕ, _*_, _/_, _%_}
 use mathlib.Core.List.{List, [], _∷_, _++_, map}
 use lib.ListN.{length}
+use Rattle.scan.specs.Ascii.{ascii}
 use Rattle.hex.specs.Hex.{hexes}
 use Rattle.decimal.specs.Decimal.{decimal}
 use Rattle.escape.specs.Escape.{nsonByte, escaped}
-use Rattle.event.specs.Event.{Text, Tag, Event}
+use Rattle.event.specs.Event.{Text, Event}
 use Rattle.jsontags.specs.TagText.{tagsText}
 
 -- ---- the fixed pieces
 
--- {"id":"
 abbrev pub idLabel : List ℕ
-idLabel = 0x7B ∷ 0x22 ∷ 0x69 ∷ 0x64 ∷ 0x22 ∷ 0x3A ∷ 0x22 ∷ []
+idLabel = ascii "{\"id\":\""
 
--- ","pubkey":"
 abbrev pub pubkeyLabel : List ℕ
-pubkeyLabel = 0x22 ∷ 0x2C ∷ 0x22 ∷ 0x70 ∷ 0x75 ∷ 0x62 ∷ 0x6B ∷ 0x65 ∷ 0x79 ∷ 0x22 ∷ 0x3A ∷ 0x22 ∷ []
+pubkeyLabel = ascii "\",\"pubkey\":\""
 
--- ","sig":"
 abbrev pub sigLabel : List ℕ
-sigLabel = 0x22 ∷ 0x2C ∷ 0x22 ∷ 0x73 ∷ 0x69 ∷ 0x67 ∷ 0x22 ∷ 0x3A ∷ 0x22 ∷ []
+sigLabel = ascii "\",\"sig\":\""
 
--- ","created_at":
 abbrev pub timeLabel : List ℕ
-timeLabel = 0x22 ∷ 0x2C ∷ 0x22 ∷ 0x63 ∷ 0x72 ∷ 0x65 ∷ 0x61 ∷ 0x74 ∷ 0x65 ∷ 0x64 ∷ 0x5F ∷ 0x61 ∷ 0x74 ∷ 0x22 ∷ 0x3A ∷ []
+timeLabel = ascii "\",\"created_at\":"
 
--- ,"nson":"
 abbrev pub nsonLabel : List ℕ
-nsonLabel = 0x2C ∷ 0x22 ∷ 0x6E ∷ 0x73 ∷ 0x6F ∷ 0x6E ∷ 0x22 ∷ 0x3A ∷ 0x22 ∷ []
+nsonLabel = ascii ",\"nson\":\""
 
--- ","kind":
 abbrev pub kindLabel : List ℕ
-kindLabel = 0x22 ∷ 0x2C ∷ 0x22 ∷ 0x6B ∷ 0x69 ∷ 0x6E ∷ 0x64 ∷ 0x22 ∷ 0x3A ∷ []
+kindLabel = ascii "\",\"kind\":"
 
--- ,"content":"
 abbrev pub contentLabel : List ℕ
-contentLabel = 0x2C ∷ 0x22 ∷ 0x63 ∷ 0x6F ∷ 0x6E ∷ 0x74 ∷ 0x65 ∷ 0x6E ∷ 0x74 ∷ 0x22 ∷ 0x3A ∷ 0x22 ∷ []
+contentLabel = ascii ",\"content\":\""
 
--- ","tags":
 abbrev pub tagsLabel : List ℕ
-tagsLabel = 0x22 ∷ 0x2C ∷ 0x22 ∷ 0x74 ∷ 0x61 ∷ 0x67 ∷ 0x73 ∷ 0x22 ∷ 0x3A ∷ []
-
--- }
-abbrev pub endLabel : List ℕ
-endLabel = 0x7D ∷ []
-
--- ---- the places of the layout (proofs/Places derives each from the labels)
-
-abbrev pub idPlace : ℕ
-idPlace = 7
-
-abbrev pub pubkeyPlace : ℕ
-pubkeyPlace = 83
-
-abbrev pub sigPlace : ℕ
-sigPlace = 156
-
--- the size, the descriptors behind it, and those of the tags
-abbrev pub sizePlace : ℕ
-sizePlace = 318
-
-abbrev pub descriptorsPlace : ℕ
-descriptorsPlace = 320
-
-abbrev pub tagCountsPlace : ℕ
-tagCountsPlace = 328
-
--- the two labels around the kind; the label and the bracket in front of the first tag
-abbrev pub aroundKind : ℕ
-aroundKind = 21
-
-abbrev pub beforeTags : ℕ
-beforeTags = 10
+tagsLabel = ascii "\",\"tags\":"
 
 -- ---- the counts that the nson field holds
 
@@ -136,7 +97,7 @@ bodyText e =
     ++ escaped nsonByte (e .content)
     ++ tagsLabel
     ++ tagsText nsonByte (e .tags)
-    ++ endLabel
+    ++ ascii "}"
 
 unfoldable pub nson : Event → List ℕ
 nson e = headText e ++ nsonField (counts e) ++ bodyText e

@@ -1,23 +1,21 @@
--- Reading NSON: piece after piece, counts before the text they count, with document 01's refusals and their places. A piece is
--- checked, and what it says is then taken from its place. Assumes nothing.
+-- Reading NSON: piece after piece, counts before the text they count, with the refusals and places of rules 6, 10 and
+-- 11. A piece is checked, and what it says is then taken from its place. Assumes nothing.
 use Prim.Native.Nat.{ℕ, _+_, _*_, _%_}
 use mathlib.Core.Bool.{Bool, true, false}
 use mathlib.Core.List.{List, [], _∷_}
 use lib.ListN.{length, take, drop}
 use lib.Dec.{leb, eqb}
+use Rattle.scan.specs.Ascii.{ascii}
 use Rattle.scan.specs.Choice.{pick, Answer, shown, refused, Read, read, andThen, many}
 use Rattle.scan.specs.Place.{byteAt, standsAt, within}
 use Rattle.hex.specs.Hex.{valueOf, unhex, allDigits}
 use Rattle.decimal.specs.Decimal.{decimal, numberOf}
 use Rattle.scan.specs.Compare.{sameBytes}
 use Rattle.event.specs.Event.{Text, Tag, Event}
-use Rattle.jsontext.specs.Escape.{unescape}
+use Rattle.jsontext.specs.inner.Escape.{unescape}
 use Rattle.nsonstring.specs.Counted.{faultIn}
-use Rattle.nson.specs.Nson.{idLabel, pubkeyLabel, sigLabel, timeLabel, nsonLabel, kindLabel, contentLabel, tagsLabel, endLabel, idPlace, pubkeyPlace, sigPlace, sizePlace, Counts}
-
--- the numbers of refusal that the NSON reader has
-abbrev pub nsonNumbers : List ℕ
-nsonNumbers = 1 ∷ 5 ∷ 6 ∷ 9 ∷ 10 ∷ 12 ∷ 13 ∷ 14 ∷ []
+use Rattle.nson.specs.Nson.{idLabel, pubkeyLabel, sigLabel, timeLabel, nsonLabel, kindLabel, contentLabel, tagsLabel, Counts}
+use Rattle.nson.specs.inner.Places.{idPlace, pubkeyPlace, sigPlace, sizePlace}
 
 -- ---- pieces: the place behind them, or the refusal at their start
 
@@ -80,7 +78,8 @@ byteHere s at = 16 * (valueOf (byteAt s at) % 16) + valueOf (byteAt s (at + 1)) 
 unfoldable pub wordHere : List ℕ → ℕ → ℕ
 wordHere s at = 256 * byteHere s at + byteHere s (at + 2)
 
--- a descriptor of n hex digits: 13 at the size where it would pass the end that the size says, before 12 where it isn't there or no hex
+-- a descriptor of n hex digits: 13 at the size where it would pass the end that the size says, before 12 where it isn't
+-- there or no hex
 unfoldable pub descriptorAt : ℕ → ℕ → List ℕ → ℕ → Answer ℕ
 descriptorAt n end s at = pick (leb (at + n) end) (hexAt n s at) (refused 13 sizePlace)
 
@@ -124,7 +123,7 @@ kindAt n s at = andThen (decimalAt 13 n s at) λ k. pick (leb (k .value) 65_535)
 -- the comma in front of an item that is not the first
 abbrev pub commaAt : Bool → List ℕ → ℕ → Answer ℕ
 commaAt false s at = shown at
-commaAt true s at = pieceAt 13 (0x2C ∷ []) s at
+commaAt true s at = pieceAt 13 (ascii ",") s at
 
 -- items without white space, one for each count
 unfoldable pub itemsAt : {N A : Type 0} → (N → ℕ → Answer (Read A)) → Bool → List N → List ℕ → ℕ → Answer (Read (List A))
@@ -138,17 +137,17 @@ itemsAt item later (n ∷ l) s at =
 -- an array of them: each bracket is a piece of its own
 unfoldable pub arrayAt : {N A : Type 0} → (N → ℕ → Answer (Read A)) → List N → List ℕ → ℕ → Answer (Read (List A))
 arrayAt item l s at =
-    andThen (pieceAt 13 (0x5B ∷ []) s at) λ a.
+    andThen (pieceAt 13 (ascii "[") s at) λ a.
     andThen (itemsAt item false l s a) λ xs.
-    andThen (pieceAt 13 (0x5D ∷ []) s (xs .next)) λ b.
+    andThen (pieceAt 13 (ascii "]") s (xs .next)) λ b.
     read (xs .value) b
 
 -- an item: a quote, a counted text, a quote
 unfoldable pub itemAt : List ℕ → ℕ → ℕ → Answer (Read Text)
 itemAt s n at =
-    andThen (pieceAt 13 (0x22 ∷ []) s at) λ a.
+    andThen (pieceAt 13 (ascii "\"") s at) λ a.
     andThen (textAt n s a) λ b.
-    andThen (pieceAt 13 (0x22 ∷ []) s b) λ c.
+    andThen (pieceAt 13 (ascii "\"") s b) λ c.
     read (unescape (partAt n s a)) c
 
 unfoldable pub tagAt : List ℕ → List ℕ → ℕ → Answer (Read Tag)
@@ -172,7 +171,7 @@ unfoldable pub tagsPartAt : List (List ℕ) → List ℕ → ℕ → Answer (Rea
 tagsPartAt l s at =
     andThen (pieceAt 13 tagsLabel s at) λ a.
     andThen (tagsAt l s a) λ t.
-    andThen (pieceAt 13 endLabel s (t .next)) λ b.
+    andThen (pieceAt 13 (ascii "}") s (t .next)) λ b.
     read (t .value) b
 
 pub record Body : Type 0 where

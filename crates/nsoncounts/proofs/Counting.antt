@@ -11,7 +11,7 @@ use Rattle.scan.proofs.Many.{many-count}
 use Rattle.nson.specs.Read.{hexAt, countsAt, byteHere, wordHere, descriptorAt, byteCountAt, wordCountAt, kindCountAt, tagCountsAt, countsTo}
 use Rattle.nson.proofs.Pieces.{hex-shown}
 use Rattle.nsoncounts.specs.declared.Sizes.{Sizes}
-use Rattle.nsoncounts.specs.Counted.{nextOf, sizesOf}
+use Rattle.nsoncounts.specs.inner.Counted.{nextOf, sizesOf}
 use Rattle.nsoncounts.proofs.Laws.{next-shown, next-refused}
 
 -- ---- n reads of which only the place is kept

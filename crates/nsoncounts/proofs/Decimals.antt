@@ -1,4 +1,5 @@
--- A part is a number's decimal spelling exactly if it is one run of digits up to its end that begins with no 0 unless that is all.
+-- A part is a number's decimal spelling exactly if it is one run of digits up to its end that begins with no 0 unless
+-- that is all.
 -- From the two laws of crate decimal: what is read is digits, and what is spelled is read.
 use Prim.Native.Nat.{ℕ, _+_, _-_, _<_, _≤_}
 use mathlib.Core.Path.{_≡_, refl, sym, ap, _∙_}
@@ -11,16 +12,18 @@ use lib.ListN.{length, getD, take, drop}
 use lib.Dec.{eqb}
 use borrow.Author.Tests.{le-leb, lt-leb, eq-eqb, eqb-true}
 use Rattle.scan.specs.Choice.{pick, refused, read}
-use Rattle.scan.specs.Span.{Span, All}
+use Rattle.scan.specs.Bytes.{All}
+use Rattle.scan.specs.inner.Span.{Span}
 use Rattle.scan.proofs.Step.{pick-true, false-true}
 use Rattle.scan.proofs.SpanLaws.{whole-span, input-span, span-length, span-fits}
-use Rattle.decimal.specs.Decimal.{DecimalDigit, Digits, number, over, decimal, numberOf, digitsAt}
+use Rattle.decimal.specs.Decimal.{DecimalDigit, decimal, numberOf}
+use Rattle.decimal.specs.inner.Run.{number, over, Digits, digitsAt}
 use Rattle.decimal.proofs.Spelling.{decimal-first, decimal-last, decimal-unique, decimal-digits, length-some, ten-length}
 use Rattle.decimal.proofs.Reading.{accepts-number, accepts-over, consumes-number, consumes-over}
 use Rattle.scan.specs.Compare.{sameBytes}
 use Rattle.scan.proofs.CompareLaws.{same-same, bytes-same}
 use Rattle.nson.specs.Read.{isDecimal, decimalAt}
-use Rattle.nsoncounts.specs.Counted.{upTo, fullWidth}
+use Rattle.nsoncounts.specs.inner.Counted.{upTo, fullWidth}
 use Rattle.nsoncounts.proofs.Laws.{part-fits, part-most}
 
 -- where digits end

@@ -10,13 +10,14 @@ use lib.Seq.{length-take-le, take-nil, take-take, drop-drop}
 use lib.Dec.{eqb}
 use borrow.Author.Tests.{eq-eqb, eqb-true}
 use Rattle.scan.specs.Choice.{shown}
-use Rattle.scan.specs.Span.{All, none, also}
+use Rattle.scan.specs.Bytes.{All, none, also}
 use Rattle.scan.proofs.Step.{pick-true}
 use Rattle.scan.proofs.AllLaws.{all-take}
-use Rattle.hex.specs.Hex.{LowerHex, allDigits}
+use Rattle.hex.specs.Hex.{allDigits}
+use Rattle.hex.specs.inner.LowerHex.{LowerHex}
 use Rattle.hex.proofs.Texts.{digits-pass, pass-digits}
 use Rattle.nson.specs.Read.{hexAt}
-use Rattle.nsoncounts.specs.Counted.{fieldDigits}
+use Rattle.nsoncounts.specs.inner.Counted.{fieldDigits}
 use Rattle.nsoncounts.proofs.Laws.{part-fits}
 
 part-all : {P : ℕ → Type 0} (k n m : ℕ) (l : List ℕ) → k + n ≤ m → All P (take m l) → All P (take n (drop k l))

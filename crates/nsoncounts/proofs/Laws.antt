@@ -15,9 +15,9 @@ use Rattle.scan.proofs.PlaceLaws.{stands-span}
 use Rattle.scan.proofs.SpanLaws.{span-fits}
 use Rattle.scan.proofs.Reading.{read-same}
 use Rattle.hex.specs.Hex.{valueOf}
-use Rattle.jsontext.specs.Escape.{unescape}
+use Rattle.jsontext.specs.inner.Escape.{unescape}
 use Rattle.nson.specs.Read.{partAt, textAt, byteHere, wordHere}
-use Rattle.nsoncounts.specs.Counted.{nextOf, textSizeAt}
+use Rattle.nsoncounts.specs.inner.Counted.{nextOf, textSizeAt}
 
 -- ---- what fits
 

@@ -14,7 +14,7 @@ use Rattle.scan.proofs.Reading.{read-same}
 use Rattle.scan.proofs.Many.{many-apart, many-count, pick-shown, after, shown-same}
 use Rattle.nson.specs.Nson.{Counts}
 use Rattle.nson.specs.Read.{hexAt, byteHere, wordHere, descriptorAt, byteCountAt, wordCountAt, kindCountAt, itemCountAt, tagCountsAt, countsTo, countsAt}
-use Rattle.nsoncounts.specs.Counted.{nextOf, itemSizes, tagSizes, sizesOf, countsOf}
+use Rattle.nsoncounts.specs.inner.Counted.{nextOf, itemSizes, tagSizes, sizesOf, countsOf}
 use Rattle.nsoncounts.proofs.Laws.{next-shown}
 use Rattle.nsoncounts.proofs.Counting.{hex-next}
 

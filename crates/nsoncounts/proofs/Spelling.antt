@@ -9,14 +9,14 @@ use lib.Dec.{eqb}
 use borrow.Author.Tests.{eqb-true}
 use Rattle.scan.specs.Choice.{pick, shown, refused, read}
 use Rattle.scan.proofs.Many.{pick-shown}
-use Rattle.escape.specs.Quoted.{Quoted, none, bare, escape, NsonBare, nson-bare, NsonLetter, letter-n, letter-quote, letter-backslash}
+use Rattle.escape.specs.inner.Quoted.{Quoted, none, bare, escape, NsonBare, nson-bare, NsonLetter, letter-n, letter-quote, letter-backslash}
 use Rattle.jsontext.specs.Grammar as json
-use Rattle.jsontext.specs.Escape.{unescape}
+use Rattle.jsontext.specs.inner.Escape.{unescape}
 use Rattle.jsontext.proofs.Meaning.{unescape-none, unescape-byte, unescape-char}
 use Rattle.nsonstring.specs.Counted.{faultIn}
 use Rattle.nsonstring.proofs.Faults.{no-fault}
 use Rattle.nson.specs.Read.{partAt, textAt}
-use Rattle.nsoncounts.specs.Counted.{textSizeAt}
+use Rattle.nsoncounts.specs.inner.Counted.{textSizeAt}
 use Rattle.nsoncounts.proofs.Laws.{part-most, text-shown}
 
 record Short (l : List ℕ) : Type 0 where

@@ -1,22 +1,25 @@
-// What NSON's counts say: the pieces of its text, all in front of the nson field, and the field itself, checked before any text that it counts.
+// What NSON's counts say: the pieces of its text, all in front of the nson field, and the field itself, checked before
+// any text that it counts.
 use decimal::DecimalRead;
 use event::Refusal;
 ghost use Prim.Native.Nat.{_≤_};
 ghost use mathlib.Core.Path.{_≡_};
 ghost use Rattle.scan.specs.Choice.{andThen, read, many};
-ghost use Rattle.nson.specs.Nson.{descriptorsPlace};
+ghost use Rattle.nson.specs.inner.Places.{descriptorsPlace};
 ghost use Rattle.nson.specs.Read.{pieceAt, hexAt, labelledAt, decimalAt, keysAt, timeAt, headAt, byteHere, wordHere, descriptorAt, wordCountAt, kindCountAt, itemCountAt, tagCountsAt, countsTo, countsAt};
-ghost use Rattle.nsoncounts.specs.Counted.{nextOf, upTo, fullWidth, textSizeAt, fieldDigits, sizesOf};
-ghost use Rattle.nsoncounts.specs.Answers.{skip, amountRead, amountIn, sizesRead, sizesIn, placeIn};
+ghost use Rattle.nsoncounts.specs.inner.Counted.{nextOf, upTo, fullWidth, textSizeAt, fieldDigits, sizesOf};
+ghost use Rattle.nsoncounts.specs.inner.Answers.{skip, amountRead, amountIn, sizesRead, sizesIn, placeIn};
 
-// Places of the layout, each behind a label and what stands before it (nson/proofs/Places): {"id":" .. ","pubkey":" .. ","sig":"
+// Places of the layout, each behind a label and what stands before it (nson/proofs/Places): {"id":" .. ","pubkey":" ..
+// ","sig":"
 pub const ID_AT: usize = 7;
 
 pub const PUBKEY_AT: usize = ID_AT + 64 + 12;
 
 pub const SIG_AT: usize = PUBKEY_AT + 64 + 9;
 
-// Behind ","created_at": the ten digits of the time, and ,"nson":" stands the size; then the descriptors, the first three alone, then those of the tags.
+// Behind ","created_at": the ten digits of the time, and ,"nson":" stands the size; then the descriptors, the first
+// three alone, then those of the tags.
 const SIZE_AT: usize = SIG_AT + 128 + 15 + 10 + 9;
 
 const DESCRIPTORS_AT: usize = SIZE_AT + 2;
@@ -120,7 +123,8 @@ impl Cursor {
         }
     }
 
-    // A number in n digits, with no leading zero unless it is 0: `number` refuses another spelling, `over` a number above the maximum.
+    // A number in n digits, with no leading zero unless it is 0: `number` refuses another spelling, `over` a number
+    // above the maximum.
     pub fn counted_number(self, s: &[u8], n: usize, max: u64, number: u8, over: u8) -> AmountRead
         ensures { λ r. ⌜ amountRead r ≡ upTo max over (self .at) (decimalAt number n (now (s .entry)) (self .at)) ⌝ }
     {
@@ -253,7 +257,8 @@ pub fn word_here(s: &[u8], at: usize) -> usize
     256 * byte_here(l, 0) + byte_here(l, 2)
 }
 
-// Whether all from the descriptors up to the end that the size says is there and is hex digits: then no descriptor needs a look of its own.
+// Whether all from the descriptors up to the end that the size says is there and is hex digits: then no descriptor
+// needs a look of its own.
 fn field_digits(s: &[u8], end: usize) -> bool
     requires { ⌜ descriptorsPlace ≤ end ⌝ }
     ensures { λ r. ⌜ r ≡ fieldDigits (now (s .entry)) end ⌝ }

@@ -10,12 +10,12 @@ use Rattle.scan.proofs.Reading.{read-same}
 use Rattle.scan.proofs.Many.{after}
 use Rattle.varint.specs.Uleb.{uleb}
 use Rattle.event.specs.Event.{Text, Tag}
-use Rattle.jsontext.specs.Escape.{unescape}
+use Rattle.jsontext.specs.inner.Escape.{unescape}
 use Rattle.notepack.specs.Strict.{packElement, packElements, packTag, packTags}
 use Rattle.notepack.proofs.Lengths.{tag-form}
 use Rattle.nson.specs.Read.{pieceAt, partAt, textAt, itemsAt, arrayAt, itemAt, tagAt, wordHere, byteHere}
-use Rattle.nsoncounts.specs.Counted.{itemSizes, tagSizes}
-use Rattle.nsonread.specs.Copy.{itemsText, itemsEnd, nsonTagsText}
+use Rattle.nsoncounts.specs.inner.Counted.{itemSizes, tagSizes}
+use Rattle.nsonread.specs.inner.Copy.{itemsText, itemsEnd, nsonTagsText}
 use Rattle.nsonwalk.proofs.Standing.{piece-next, text-next}
 use Rattle.nsonwalk.proofs.Sizing.{items-count, sizes-count}
 use Rattle.nsoncounts.proofs.Placing.{Filled, no-tag, one-more}

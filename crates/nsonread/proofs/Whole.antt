@@ -1,5 +1,7 @@
--- What the second pass writes of an accepted text is its event's strict form; and the walk tells what the reading tells.
--- They follow the same reads, so they refuse alike; where both show, the counts stand at their places, and each part behind the one before.
+-- What the second pass writes of an accepted text is its event's strict form; and the walk tells what the reading
+-- tells.
+-- They follow the same reads, so they refuse alike; where both show, the counts stand at their places, and each part
+-- behind the one before.
 use Prim.Native.Nat.{ℕ, _+_, _<_, _≤_}
 use mathlib.Core.Path.{_≡_, refl, sym, ap, _∙_}
 use mathlib.Core.Bool.{Bool, true, false}
@@ -9,20 +11,21 @@ use lib.ListN.{length}
 use lib.Dec.{leb, eqb}
 use Rattle.scan.specs.Choice.{pick, Answer, shown, refused, Read, andThen}
 use Rattle.scan.proofs.Many.{pick-shown, after, shown-same}
-use Rattle.buffer.specs.Store.{Wrote}
+use Rattle.buffer.specs.inner.Store.{Wrote}
 use Rattle.buffer.specs.Entry.{writes, leaves}
 use Rattle.buffer.proofs.EntryLaws.{short, fitted}
 use Rattle.event.specs.Event.{Event}
 use Rattle.notepack.specs.Strict.{packTags, pack}
-use Rattle.nson.specs.Nson.{tagCountsPlace, aroundKind, beforeTags, Counts}
+use Rattle.nson.specs.Nson.{Counts}
+use Rattle.nson.specs.inner.Places.{tagCountsPlace, aroundKind, beforeTags}
 use Rattle.nson.specs.Read as nson
 use Rattle.nson.proofs.Head.{Head, head-shown}
-use Rattle.nsoncounts.specs.Counted.{tagSizes}
+use Rattle.nsoncounts.specs.inner.Counted.{tagSizes}
 use Rattle.nsoncounts.proofs.Placing.{Placed, counts-placed}
 use Rattle.nsonwalk.specs.declared.NsonWalked.{NsonWalked}
-use Rattle.nsonwalk.specs.Walk.{walkedOf, nsonWalkAt}
+use Rattle.nsonwalk.specs.inner.Walk.{walkedOf, nsonWalkAt}
 use Rattle.nsonwalk.proofs.Standing.{Stands, body-stands, tag-count}
-use Rattle.nsonread.specs.Copy.{nsonTagsText, nsonFrontText, strictOf}
+use Rattle.nsonread.specs.inner.Copy.{nsonTagsText, nsonFrontText, strictOf}
 use Rattle.nsonread.proofs.Copying.{all-copied}
 
 -- what the reading shows: the counts in front of it, and the event

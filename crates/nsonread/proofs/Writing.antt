@@ -5,13 +5,14 @@ use mathlib.Core.Path.{_≡_, refl}
 use mathlib.Core.List.{List, [], _++_}
 use native.Mathlib.Omega.{arith}
 use Rattle.varint.specs.Uleb.{uleb}
-use Rattle.jsontext.specs.Escape.{unescape}
+use Rattle.jsontext.specs.inner.Escape.{unescape}
 use Rattle.notepack.specs.Strict.{packElement}
 use Rattle.nson.specs.Read.{partAt, wordHere, byteHere}
-use Rattle.nsonwalk.specs.Walk.{tagsPlaceMost}
-use Rattle.nsonread.specs.Copy.{itemsText, itemsEnd, nsonTagsText, itemsPlaceMost}
+use Rattle.nsonwalk.specs.inner.Walk.{tagsPlaceMost}
+use Rattle.nsonread.specs.inner.Copy.{itemsText, itemsEnd, nsonTagsText, itemsPlaceMost}
 
--- each of 255 tags: at most 255 items of a text, two quotes and a comma, and two bytes more by its own brackets and comma
+-- each of 255 tags: at most 255 items of a text, two quotes and a comma, and two bytes more by its own brackets and
+-- comma
 items-place-most : itemsPlaceMost ≡ tagsPlaceMost + (65_538 * 255 + 2) * 255
 items-place-most = refl
 

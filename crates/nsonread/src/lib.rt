@@ -5,14 +5,16 @@ use nsonwalk::NsonWalk;
 use nsonwalk::NsonWalked;
 ghost use Prim.Native.Nat.{_+_, _*_, _≤_};
 ghost use mathlib.Core.Path.{_≡_};
-ghost use Rattle.buffer.specs.Store.{Wrote};
-ghost use Rattle.event.specs.Answers.{writing};
-ghost use Rattle.nson.specs.Entries.{nsonReads, nsonLeaves, nsonNeeds};
-ghost use Rattle.nson.specs.Nson.{tagCountsPlace};
-ghost use Rattle.nsonwalk.specs.Walk.{contentPlace, tagsPlace, countsMost, tagsPlaceMost};
-ghost use Rattle.nsonread.specs.Copy.{itemsText, itemsEnd, nsonTagsText, nsonFrontText, strictOf, itemsPlaceMost};
+ghost use Rattle.buffer.specs.inner.Store.{Wrote};
+ghost use Rattle.event.specs.inner.Told.{writing};
+ghost use Rattle.nson.specs.Entries.{nsonReads, nsonLeaves};
+ghost use Rattle.nson.specs.inner.Needs.{nsonNeeds};
+ghost use Rattle.nson.specs.inner.Places.{tagCountsPlace};
+ghost use Rattle.nsonwalk.specs.inner.Walk.{contentPlace, tagsPlace, countsMost, tagsPlaceMost};
+ghost use Rattle.nsonread.specs.inner.Copy.{itemsText, itemsEnd, nsonTagsText, nsonFrontText, strictOf, itemsPlaceMost};
 
-// Behind the nson field: `","kind":` and `,"content":"` around the kind; `","tags":` and a bracket in front of the first tag.
+// Behind the nson field: `","kind":` and `,"content":"` around the kind; `","tags":` and a bracket in front of the
+// first tag.
 const AROUND_KIND: usize = 9 + 12;
 
 const BEFORE_TAGS: usize = 9 + 1;
@@ -107,7 +109,8 @@ fn put_strict_of(out: &mut [u8], s: &[u8], w: NsonWalked) -> usize
     )
 }
 
-// The event of an NSON text, in strict form: every refusal first, then 11 with the length needed; else written from the start.
+// The event of an NSON text, in strict form: every refusal first, then 11 with the length needed; else written from the
+// start.
 pub fn read_nson(s: &[u8], out: &mut [u8]) -> Writing
     ensures { λ r. ⌜ writing r ≡ nsonReads (now (s .entry)) (now (out .entry)) ⌝ }
     ensures { λ _. ⌜ now (out .exit) ≡ nsonLeaves (now (s .entry)) (now (out .entry)) ⌝ }

@@ -1,15 +1,17 @@
--- The sums of a text block by block. `Counting t i n h`: no clash before i, and n and h with what is left make the sums of the whole.
--- It begins behind the first byte, a block is one turn, and at the end it is `Simple`. A block is lent with the byte before it as its first.
+-- The sums of a text block by block. `Counting t i n h`: no clash before i, and n and h with what is left make the sums
+-- of the whole.
+-- It begins behind the first byte, a block is one turn, and at the end it is `Simple`. A block is lent with the byte
+-- before it as its first.
 use Prim.Native.Nat.{ℕ, _+_, _-_, _/_, _<_, _≤_}
 use mathlib.Core.Path.{_≡_, sym}
 use mathlib.Core.List.{List}
 use native.Mathlib.Omega.{arith}
 use lib.ListN.{length, getD, take, drop, length-drop}
 use lib.Seq.{length-take-le}
-use Rattle.scan.specs.Blocks.{neighbours}
+use Rattle.scan.specs.inner.Blocks.{neighbours}
 use Rattle.scan.proofs.BlockLaws.{neighbours-none, neighbours-more, lentSum, neighbours-block}
-use Rattle.jsonstring.specs.Loose.{clashOf}
-use Rattle.nsonstring.specs.Simple.{slashOf, highOf, Simple}
+use Rattle.jsonstring.specs.inner.Loose.{clashOf}
+use Rattle.nsonstring.specs.inner.Simple.{slashOf, highOf, Simple}
 use Rattle.nsonstring.proofs.Simple.{slash-space}
 
 -- the sum over what is left from i on

@@ -13,14 +13,14 @@ use lib.Seq.{getD-drop, drop-drop, drop-append-seam}
 use lib.Dec.{ltb, eqb}
 use borrow.Author.Tests.{lt-ltb, le-ltb, eq-eqb, ne-eqb}
 use Rattle.scan.specs.Choice.{pick}
-use Rattle.scan.specs.Span.{All, also}
+use Rattle.scan.specs.Bytes.{All, also}
 use Rattle.scan.proofs.Step.{rest-none, rest-more, byte-none, false-true}
 use Rattle.scan.proofs.SpanLaws.{from-span, to-span, nth}
 use Rattle.utf8.specs.Utf8.{octet, Char, one, Utf8, char}
-use Rattle.utf8.specs.Width.{widthAt}
+use Rattle.utf8.specs.inner.Width.{widthAt}
 use Rattle.utf8.proofs.WidthLaws.{width-here, width-consumes, width-accepts, char-length}
 use Rattle.utf8.proofs.Laws.{utf8-rest, utf8-char}
-use Rattle.escape.specs.Quoted.{Quoted, none, bare, escape, NsonBare, nson-bare, NsonLetter, letter-n, letter-quote, letter-backslash}
+use Rattle.escape.specs.inner.Quoted.{Quoted, none, bare, escape, NsonBare, nson-bare, NsonLetter, letter-n, letter-quote, letter-backslash}
 use Rattle.escape.proofs.TextLaws.{High, Side, ascii, above, char-side}
 use Rattle.nsonstring.specs.Counted.{isLetter, faultFrom, faultIn}
 

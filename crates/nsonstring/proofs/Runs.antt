@@ -6,10 +6,10 @@ use mathlib.Core.Bool.{Bool, true}
 use mathlib.Core.List.{List, _∷_, _++_}
 use native.Mathlib.Omega.{arith}
 use lib.ListN.{length, getD, take, drop}
-use Rattle.scan.specs.Span.{All, also}
+use Rattle.scan.specs.Bytes.{All, also}
 use Rattle.scan.proofs.Step.{rest-none, rest-more, rest-block}
-use Rattle.escape.specs.Quoted.{Quoted, none, bare, escape, NsonBare, NsonLetter}
-use Rattle.jsonunescape.specs.Run.{backslashAt}
+use Rattle.escape.specs.inner.Quoted.{Quoted, none, bare, escape, NsonBare, NsonLetter}
+use Rattle.jsonunescape.specs.inner.Run.{backslashAt}
 use Rattle.jsonunescape.proofs.Unescape.{run-onward, run-slash}
 use Rattle.nsonstring.specs.Counted.{isLetter}
 use Rattle.nsonstring.proofs.Faults.{test-letter, letter-place}

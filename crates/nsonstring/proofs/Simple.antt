@@ -1,5 +1,6 @@
 -- A text without a clash is quoted, and shorter by its backslashes; without a byte above ASCII it is UTF-8.
--- By induction over the list with the byte before it: behind a backslash stands the letter of an escape, else a bare byte or a backslash.
+-- By induction over the list with the byte before it: behind a backslash stands the letter of an escape, else a bare
+-- byte or a backslash.
 use Prim.Native.Nat.{ℕ, suc, _+_, _-_, _<_, _≤_}
 use mathlib.Core.Path.{_≡_, sym, ap, _∙_}
 use mathlib.Core.List.{List, [], _∷_}
@@ -8,20 +9,20 @@ use native.Mathlib.Nat.{zero-add}
 use native.Mathlib.Omega.{arith}
 use native.Mathlib.Decide.{ℕ-discrete}
 use lib.ListN.{length, getD}
-use Rattle.scan.specs.Span.{All, also}
+use Rattle.scan.specs.Bytes.{All, also}
 use Rattle.utf8.specs.Utf8.{Utf8}
 use Rattle.utf8.proofs.Laws.{utf8-ascii}
-use Rattle.escape.specs.Quoted.{Quoted, none, bare, escape, NsonBare, nson-bare, NsonLetter, letter-n, letter-quote}
+use Rattle.escape.specs.inner.Quoted.{Quoted, none, bare, escape, NsonBare, nson-bare, NsonLetter, letter-n, letter-quote}
 use Rattle.jsontext.specs.Grammar as json
-use Rattle.jsontext.specs.Escape.{unescape}
-use Rattle.scan.specs.Blocks.{neighbours}
+use Rattle.jsontext.specs.inner.Escape.{unescape}
+use Rattle.scan.specs.inner.Blocks.{neighbours}
 use Rattle.jsontext.proofs.Meaning.{unescape-none, unescape-byte, unescape-char}
 use Rattle.jsonunescape.proofs.Unescape.{unescape-end}
 use Rattle.scan.proofs.BlockLaws.{one-is, one-not}
-use Rattle.jsonstring.specs.Loose.{clashOf}
+use Rattle.jsonstring.specs.inner.Loose.{clashOf}
 use Rattle.jsonstring.proofs.ClashLaws.{clash-bare, clash-letter}
 use Rattle.nsonstring.specs.Counted.{faultIn}
-use Rattle.nsonstring.specs.Simple.{slashOf, highOf, Simple}
+use Rattle.nsonstring.specs.inner.Simple.{slashOf, highOf, Simple}
 use Rattle.nsonstring.proofs.Faults.{faultless, fault-end}
 
 -- ---- one byte

@@ -6,7 +6,7 @@ use mathlib.Core.Bool.{Bool, true, false}
 use mathlib.Core.List.{List}
 use native.Mathlib.Omega.{arith}
 use lib.ListN.{length, getD, drop}
-use Rattle.utf8.specs.Width.{widthAt}
+use Rattle.utf8.specs.inner.Width.{widthAt}
 use Rattle.utf8.proofs.WidthLaws.{width-within}
 use Rattle.nsonstring.specs.Counted.{isLetter, faultIn}
 use Rattle.nsonstring.proofs.Faults.{letter-place, fault-end, fault-quote, fault-control, fault-letter, fault-escape, fault-ill, fault-width}

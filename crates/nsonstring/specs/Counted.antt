@@ -1,17 +1,18 @@
--- The bytes between two quotes of NSON: the earliest fault (document 01, "Numbers of refusal"). Assumes nothing.
+-- The bytes between two quotes of NSON: the earliest fault (rules 6 and 11). Assumes nothing.
 use Prim.Native.Nat.{ℕ, zero, suc, _-_}
-use mathlib.Core.Bool.{Bool}
+use mathlib.Core.Bool.{Bool, true}
 use mathlib.Core.List.{List, [], _∷_}
 use lib.Dec.{ltb, eqb}
-use Rattle.scan.specs.Choice.{pick, either}
+use Rattle.scan.specs.Choice.{pick}
 use Rattle.scan.specs.Place.{byteAt}
-use Rattle.utf8.specs.Width.{widthOf}
+use Rattle.utf8.specs.inner.Width.{widthOf}
 
 -- the letters behind a backslash: n " \
 unfoldable pub isLetter : ℕ → Bool
-isLetter b = either (eqb b 0x6E) (either (eqb b 0x22) (eqb b 0x5C))
+isLetter b = pick (eqb b 0x6E) true (pick (eqb b 0x22) true (eqb b 0x5C))
 
--- 0 where there is no fault; a bare quote is 13, a raw byte below 20 or a bad or cut escape 14, ill-formed or cut UTF-8 5.
+-- The number of the earliest fault, 0 where there is none (rule 6.25): 13 is a quote without a backslash, 14 a byte
+-- below 20 or a backslash without its letter, 5 UTF-8 that is ill-formed or cut.
 -- `skip` bytes of the escape or sequence at hand are still to pass.
 unfoldable pub faultFrom : (skip : ℕ) → List ℕ → ℕ
 faultFrom zero [] = 0

@@ -1,15 +1,16 @@
-// The bytes between two quotes of NSON: whether they are free of faults, in a fast look; and which fault is the earliest.
+// The bytes between two quotes of NSON: whether they are free of faults, in a fast look; and which fault is the
+// earliest.
 ghost use Prim.Native.Nat.{_<_, _≤_};
 ghost use mathlib.Core.Path.{_≡_};
 ghost use mathlib.Core.Bool.{true, false};
 ghost use lib.ListN.{length, getD, drop};
-ghost use Rattle.scan.specs.Blocks.{neighbours};
-ghost use Rattle.jsontext.specs.Escape.{unescape};
-ghost use Rattle.scan.specs.Span.{All};
-ghost use Rattle.escape.specs.Quoted.{Quoted, NsonBare, NsonLetter};
+ghost use Rattle.scan.specs.inner.Blocks.{neighbours};
+ghost use Rattle.jsontext.specs.inner.Escape.{unescape};
+ghost use Rattle.scan.specs.Bytes.{All};
+ghost use Rattle.escape.specs.inner.Quoted.{Quoted, NsonBare, NsonLetter};
 ghost use Rattle.nsonstring.specs.Counted.{isLetter, faultIn};
-ghost use Rattle.jsonstring.specs.Loose.{clashOf};
-ghost use Rattle.nsonstring.specs.Simple.{slashOf, highOf, Simple};
+ghost use Rattle.jsonstring.specs.inner.Loose.{clashOf};
+ghost use Rattle.nsonstring.specs.inner.Simple.{slashOf, highOf, Simple};
 
 // Whether a byte behind a backslash makes an escape.
 fn is_letter(b: u8) -> bool
@@ -106,7 +107,8 @@ struct Sums {
     high: u8,
 }
 
-// The sums of a block that is lent with the byte before it as its first. No exit on the way, and sums in bytes: a loop for vectors.
+// The sums of a block that is lent with the byte before it as its first. No exit on the way, and sums in bytes: a loop
+// for vectors.
 fn look_at(block: &[u8]) -> Sums
     requires { ⌜ (1 ≤ length (now block)) × (length (now block) ≤ 129) ⌝ }
     ensures { λ r. ⌜ r .clashes ≡ neighbours clashOf (getD (now (block .entry)) 0 0) (drop 1 (now (block .entry))) ⌝ }
@@ -148,7 +150,8 @@ fn no_count() -> Count
     }
 }
 
-// The count of a text that is not empty: its first byte stands as behind a space, its last is no backslash; then block by block.
+// The count of a text that is not empty: its first byte stands as behind a space, its last is no backslash; then block
+// by block.
 fn count_simple(t: &[u8]) -> Count
     requires { ⌜ 1 ≤ length (now t) ⌝ }
     ensures { λ r. ⌜ (r .simple ≡ true → Simple (now (t .entry)) (r .slashes) (r .high)) ⌝ }
@@ -183,13 +186,15 @@ fn count_simple(t: &[u8]) -> Count
     }
 }
 
-// The earliest fault of the bytes between two quotes, 0 where there is none; and the length of the text that they spell.
+// The earliest fault of the bytes between two quotes, 0 where there is none; and the length of the text that they
+// spell.
 pub struct Seen {
     pub fault: u8,
     pub len: usize,
 }
 
-// Both in one look where the escapes are simple; else each by its own function. The slice is handed on as a new one, as in `utf8::is_utf8`.
+// Both in one look where the escapes are simple; else each by its own function. The slice is handed on as a new one, as
+// in `utf8::is_utf8`.
 pub fn look(t: &[u8]) -> Seen
     ensures { λ r. ⌜ r .fault ≡ faultIn (now (t .entry)) ⌝ }
     ensures { λ r. ⌜ r .len ≡ length (unescape (now (t .entry))) ⌝ }

@@ -1,4 +1,5 @@
--- A read whose strict form's length was gathered, taken apart; and the bounds, from what a count of one byte and of two can say.
+-- A read whose strict form's length was gathered, taken apart; and the bounds, from what a count of one byte and of two
+-- can say.
 use Prim.Native.Nat.{ℕ, _+_, _*_}
 use mathlib.Core.Path.{_≡_, refl, sym, ap}
 use mathlib.Core.List.{List}
@@ -6,8 +7,8 @@ use native.Mathlib.Omega.{arith}
 use lib.ListN.{length}
 use Rattle.scan.specs.Choice.{Answer, shown, refused, Read, read}
 use Rattle.scan.proofs.Reading.{read-same}
-use Rattle.nson.specs.Nson.{descriptorsPlace, tagCountsPlace, aroundKind, beforeTags}
-use Rattle.nsonwalk.specs.Walk.{gathered, elementMost, tagMost, countsMost, tagsPlaceMost}
+use Rattle.nson.specs.inner.Places.{descriptorsPlace, tagCountsPlace, aroundKind, beforeTags}
+use Rattle.nsonwalk.specs.inner.Walk.{gathered, elementMost, tagMost, countsMost, tagsPlaceMost}
 
 module _ {A : Type 0} where
   -- a value whose length was gathered was read

@@ -1,4 +1,5 @@
--- The parts behind the descriptors as the code passes over them: each way out of the tags' part and of the body is one law.
+-- The parts behind the descriptors as the code passes over them: each way out of the tags' part and of the body is one
+-- law.
 -- By the definitions, with each read taken apart.
 use Prim.Native.Nat.{ℕ, _+_}
 use mathlib.Core.Path.{_≡_, refl, sym, ap, _∙_}
@@ -6,15 +7,16 @@ use mathlib.Core.Bool.{false}
 use mathlib.Core.List.{List, [], _∷_}
 use native.Mathlib.Omega.{arith}
 use lib.ListN.{length}
+use Rattle.scan.specs.Ascii.{ascii}
 use Rattle.scan.specs.Choice.{Answer, shown, refused, Read, read, andThen}
 use Rattle.event.specs.Event.{Text, Tag}
-use Rattle.jsontext.specs.Escape.{unescape}
+use Rattle.jsontext.specs.inner.Escape.{unescape}
 use Rattle.notepack.specs.Strict.{packTags}
-use Rattle.nson.specs.Nson.{contentLabel, tagsLabel, endLabel, Counts}
+use Rattle.nson.specs.Nson.{contentLabel, tagsLabel, Counts}
 use Rattle.nson.specs.Read.{partAt, pieceAt, textAt, itemsAt, tagAt, tagsAt, kindPartAt, contentPartAt, tagsPartAt, bodyAt}
 use Rattle.nsonwalk.specs.declared.BodySizes.{BodySizes}
-use Rattle.nsoncounts.specs.Counted.{textSizeAt}
-use Rattle.nsonwalk.specs.Walk.{gathered, bodySize}
+use Rattle.nsoncounts.specs.inner.Counted.{textSizeAt}
+use Rattle.nsonwalk.specs.inner.Walk.{gathered, bodySize}
 use Rattle.nsonwalk.proofs.Laws.{gathered-shown, gathered-refused}
 use Rattle.nsonwalk.proofs.Sizing.{array-gathered}
 
@@ -41,16 +43,16 @@ module _ (l : List (List ℕ)) (s : List ℕ) (at : ℕ) where
   unfolding tagsPartAt
   list-stops {a} e q = rw (e, gathered-refused packTags 0 (tagsAt l s a) q) refl
 
-  pub brace-stops : {a b m n p : ℕ} → pieceAt 13 tagsLabel s at ≡ shown a → gathered packTags 0 (tagsAt l s a) ≡ read m b → pieceAt 13 endLabel s b ≡ refused n p → Part l s at ≡ refused n p
+  pub brace-stops : {a b m n p : ℕ} → pieceAt 13 tagsLabel s at ≡ shown a → gathered packTags 0 (tagsAt l s a) ≡ read m b → pieceAt 13 (ascii "}") s b ≡ refused n p → Part l s at ≡ refused n p
   unfolding tagsPartAt
   brace-stops {a} e q h = let x = gathered-shown packTags 0 (tagsAt l s a) q in rw (e, x .1, h) refl
 
-  part-read : {a b c : ℕ} (t : List Tag) → pieceAt 13 tagsLabel s at ≡ shown a → tagsAt l s a ≡ read t b → pieceAt 13 endLabel s b ≡ shown c
+  part-read : {a b c : ℕ} (t : List Tag) → pieceAt 13 tagsLabel s at ≡ shown a → tagsAt l s a ≡ read t b → pieceAt 13 (ascii "}") s b ≡ shown c
       → Part l s at ≡ read (0 + length (packTags t)) c
   unfolding tagsPartAt
   part-read t e q h = rw (e, q, h) refl
 
-  pub part-gathered : {a b c m : ℕ} → pieceAt 13 tagsLabel s at ≡ shown a → gathered packTags 0 (tagsAt l s a) ≡ read m b → pieceAt 13 endLabel s b ≡ shown c → Part l s at ≡ read m c
+  pub part-gathered : {a b c m : ℕ} → pieceAt 13 tagsLabel s at ≡ shown a → gathered packTags 0 (tagsAt l s a) ≡ read m b → pieceAt 13 (ascii "}") s b ≡ shown c → Part l s at ≡ read m c
   part-gathered {a} {c = c} e q h =
       let x = gathered-shown packTags 0 (tagsAt l s a) q in
       part-read (x .0) e (x .1) h ∙ ap (λ (i : ℕ). read i c) (sym (x .2))

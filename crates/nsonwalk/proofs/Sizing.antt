@@ -10,12 +10,12 @@ use Rattle.scan.specs.Choice.{Answer, shown, refused, Read, read, andThen}
 use Rattle.scan.proofs.Many.{then-shown}
 use Rattle.scan.proofs.Reading.{read-same}
 use Rattle.varint.specs.Uleb.{uleb}
-use Rattle.jsontext.specs.Escape.{unescape}
+use Rattle.jsontext.specs.inner.Escape.{unescape}
 use Rattle.notepack.specs.Strict.{packElement, packElements, packTag}
 use Rattle.notepack.proofs.Lengths.{tag-form}
 use Rattle.nson.specs.Read.{partAt, pieceAt, commaAt, itemsAt, arrayAt, itemAt, tagAt, wordHere, byteHere}
-use Rattle.nsoncounts.specs.Counted.{textSizeAt, itemSizes, tagSizes}
-use Rattle.nsonwalk.specs.Walk.{gathered}
+use Rattle.nsoncounts.specs.inner.Counted.{textSizeAt, itemSizes, tagSizes}
+use Rattle.nsonwalk.specs.inner.Walk.{gathered}
 use Rattle.nsoncounts.proofs.Laws.{text-shown, text-refused}
 use Rattle.nsonwalk.proofs.Laws.{gathered-shown, gathered-refused}
 

@@ -1,4 +1,5 @@
--- Where the parts of an accepted body stand, and that what was measured of them is the length of the event's strict form.
+-- Where the parts of an accepted body stand, and that what was measured of them is the length of the event's strict
+-- form.
 -- The counts stand at their places, and each part begins where the one before it ends.
 use Prim.Native.Nat.{ℕ, _+_}
 use mathlib.Core.Path.{_≡_, sym, ap, _∙_}
@@ -7,22 +8,24 @@ use mathlib.Core.List.{List, [], _∷_}
 use native.Mathlib.Omega.{arith}
 use lib.ListN.{length, length-append}
 use lib.Dec.{leb, eqb}
+use Rattle.scan.specs.Ascii.{ascii}
 use Rattle.scan.specs.Choice.{pick, shown, refused, Read, read}
 use Rattle.scan.proofs.SpanLaws.{span-length}
 use Rattle.scan.proofs.Reading.{read-same}
 use Rattle.scan.proofs.Many.{pick-shown, after, shown-same}
 use Rattle.varint.specs.Uleb.{uleb}
 use Rattle.event.specs.Event.{Text, Tag, Event}
-use Rattle.jsontext.specs.Escape.{unescape}
+use Rattle.jsontext.specs.inner.Escape.{unescape}
 use Rattle.notepack.specs.Strict.{packTags, pack}
 use Rattle.nsonstring.specs.Counted.{faultIn}
-use Rattle.nson.specs.Nson.{kindLabel, contentLabel, tagsLabel, endLabel, aroundKind, beforeTags, Counts}
+use Rattle.nson.specs.Nson.{kindLabel, contentLabel, tagsLabel, Counts}
+use Rattle.nson.specs.inner.Places.{aroundKind, beforeTags}
 use Rattle.nson.specs.Read as nson
 use Rattle.nson.proofs.Pieces.{piece-shown}
 use Rattle.nson.proofs.Head.{Head}
-use Rattle.nsoncounts.specs.Counted.{sizesOf}
+use Rattle.nsoncounts.specs.inner.Counted.{sizesOf}
 use Rattle.nsonwalk.specs.declared.NsonWalked.{NsonWalked}
-use Rattle.nsonwalk.specs.Walk.{bodySize, kept, walkedOf}
+use Rattle.nsonwalk.specs.inner.Walk.{bodySize, kept, walkedOf}
 use Rattle.nsonwalk.proofs.Sizing.{items-count}
 
 -- ---- where a part ends
@@ -74,7 +77,7 @@ tags-said l s at v e =
     (λ a q e₁.
     after (nson.tagsAt l s a) _ v e₁
     (λ t r e₂.
-    after (nson.pieceAt 13 endLabel s (t .next)) _ v e₂
+    after (nson.pieceAt 13 (ascii "}") s (t .next)) _ v e₂
     (λ b u e₃.
     after (nson.pieceAt 13 (0x5B ∷ []) s a) _ t r
     (λ c w e₄.

@@ -7,8 +7,8 @@ use mathlib.Core.List.{List}
 use Rattle.scan.specs.Choice.{Answer, shown, refused, Read, read}
 use Rattle.notepack.specs.Strict.{packElement, packElements, packTag, packTags}
 use Rattle.nson.specs.Read.{commaAt, itemsAt, itemAt, tagAt, wordHere, byteHere}
-use Rattle.nsoncounts.specs.Counted.{itemSizes, tagSizes}
-use Rattle.nsonwalk.specs.Walk.{gathered}
+use Rattle.nsoncounts.specs.inner.Counted.{itemSizes, tagSizes}
+use Rattle.nsonwalk.specs.inner.Walk.{gathered}
 use Rattle.nsonwalk.proofs.Sizing.{item-more, comma-stops, item-stops, items-none, items-first, items-end, tags-first, tags-end}
 
 -- what is left of the items, and of the tags, with the length gathered

@@ -12,11 +12,11 @@ use Rattle.nson.specs.Nson.{Counts}
 use Rattle.nson.specs.Read as nson
 use Rattle.nson.proofs.Head.{head-shown}
 use Rattle.nsoncounts.specs.declared.Sizes.{Sizes}
-use Rattle.nsoncounts.specs.Counted.{sizesOf, countsOf}
+use Rattle.nsoncounts.specs.inner.Counted.{sizesOf, countsOf}
 use Rattle.nsoncounts.proofs.Placing.{counts-placed}
 use Rattle.nsonwalk.specs.declared.BodySizes.{BodySizes}
 use Rattle.nsonwalk.specs.declared.NsonWalked.{NsonWalked}
-use Rattle.nsonwalk.specs.Walk.{bodySize, kept, nsonWalkAt}
+use Rattle.nsonwalk.specs.inner.Walk.{bodySize, kept, nsonWalkAt}
 use Rattle.nsonwalk.proofs.Standing.{body-stands, kept-is}
 
 -- ---- a read whose value is turned into another

@@ -1,4 +1,5 @@
-// The first pass over NSON: the text is followed along its counts, every byte that they count is checked, and the strict form is measured.
+// The first pass over NSON: the text is followed along its counts, every byte that they count is checked, and the
+// strict form is measured.
 use event::Refusal;
 use nsoncounts::AmountRead;
 use nsoncounts::Cursor;
@@ -10,14 +11,14 @@ ghost use mathlib.Core.Path.{_≡_};
 ghost use mathlib.Core.Bool.{false};
 ghost use lib.ListN.{length};
 ghost use Rattle.scan.specs.Choice.{andThen, read};
-ghost use Rattle.jsontext.specs.Escape.{unescape};
+ghost use Rattle.jsontext.specs.inner.Escape.{unescape};
 ghost use Rattle.notepack.specs.Strict.{packElement, packElements, packTag, packTags};
-ghost use Rattle.nson.specs.Nson.{tagCountsPlace};
+ghost use Rattle.nson.specs.inner.Places.{tagCountsPlace};
 ghost use Rattle.nson.specs.Read.{partAt, commaAt, itemsAt, itemAt, tagAt, tagsAt, kindPartAt, contentPartAt, tagsPartAt, bodyAt};
-ghost use Rattle.nsoncounts.specs.Counted.{itemSizes, tagSizes, countsOf};
-ghost use Rattle.nsoncounts.specs.Answers.{skip, amountRead, amountIn};
-ghost use Rattle.nsonwalk.specs.Walk.{gathered, elementMost, tagMost, countsMost, tagsPlaceMost, bodySize, kept, tagsPlace, nsonWalkAt};
-ghost use Rattle.nsonwalk.specs.Answers.{bodyRead, contentSizeIn, tagsSizeIn, nsonWalk, sizesOfWalk, tagsPlaceOf};
+ghost use Rattle.nsoncounts.specs.inner.Counted.{itemSizes, tagSizes, countsOf};
+ghost use Rattle.nsoncounts.specs.inner.Answers.{skip, amountRead, amountIn};
+ghost use Rattle.nsonwalk.specs.inner.Walk.{gathered, elementMost, tagMost, countsMost, tagsPlaceMost, bodySize, kept, tagsPlace, nsonWalkAt};
+ghost use Rattle.nsonwalk.specs.inner.Answers.{bodyRead, contentSizeIn, tagsSizeIn, nsonWalk, sizesOfWalk, tagsPlaceOf};
 
 // A number and the cursor behind it.
 struct Numbered {

@@ -11,11 +11,12 @@ use borrow.Author.Tests.{leb-true}
 use Rattle.scan.specs.Place.{within}
 use Rattle.scan.proofs.Step.{pick-true}
 use Rattle.decimal.specs.Decimal.{decimal}
-use Rattle.escape.specs.Escape.{nsonText}
+use Rattle.escape.specs.inner.Controls.{nsonText}
 use Rattle.event.specs.Event.{Text, Tag, Event}
 use Rattle.nson.specs.Nson.{escapedSize, counts, word, words, tagCounts, descriptors}
-use Rattle.nson.specs.Carries.{tagBytes, fits, allFit, tagsFit, carries}
-use Rattle.nsonwrite.specs.Measure.{cutWord, cutWords, cutCounts, cutDescriptors}
+use Rattle.nson.specs.Carries.{tagBytes}
+use Rattle.nson.specs.inner.Decision.{fits, allFit, tagsFit, carries}
+use Rattle.nsonwrite.specs.inner.Measure.{cutWord, cutWords, cutCounts, cutDescriptors}
 
 -- ---- counts that are not cut
 

@@ -14,17 +14,18 @@ use borrow.Author.Tests.{leb-true, lt-leb}
 use Rattle.scan.specs.Choice.{pick, Answer, shown, refused}
 use Rattle.scan.specs.Place.{within}
 use Rattle.scan.proofs.Step.{pick-true}
-use Rattle.buffer.specs.Store.{Wrote}
+use Rattle.buffer.specs.inner.Store.{Wrote}
 use Rattle.buffer.specs.Entry.{writes, leaves}
 use Rattle.buffer.proofs.EntryLaws.{short, fitted}
 use Rattle.event.specs.Event.{Event, Valid}
 use Rattle.notepack.specs.Unpack.{unpack}
-use Rattle.notepack.specs.Answers.{Walked, walkAt}
+use Rattle.notepack.specs.inner.Answers.{Walked, walkAt}
 use Rattle.notepack.proofs.Walking.{walk-refuses}
 use Rattle.nson.specs.Nson.{counts, nson}
-use Rattle.nson.specs.Carries.{tagBytes, carries}
+use Rattle.nson.specs.Carries.{tagBytes}
+use Rattle.nson.specs.inner.Decision.{carries}
 use Rattle.nson.specs.Entries.{carried}
-use Rattle.nsonwrite.specs.Measure.{cutDescriptors, textsFit, lengthWith, measuredFit, nsonWith}
+use Rattle.nsonwrite.specs.inner.Measure.{cutDescriptors, textsFit, lengthWith, measuredFit, nsonWith}
 use Rattle.buffer.proofs.Places.{ends}
 use Rattle.nsonwrite.proofs.Counts.{cut-length, cut-whole}
 use Rattle.nsonwrite.proofs.Whole.{nson-with, nson-length, fit}

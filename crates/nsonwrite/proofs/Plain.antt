@@ -6,11 +6,12 @@ use mathlib.Core.Bool.{true}
 use mathlib.Core.List.{List}
 use lib.ListN.{drop}
 use native.Mathlib.Omega.{arith}
-use Rattle.scan.specs.Span.{IsBytes}
+use Rattle.scan.specs.Bytes.{IsBytes}
 use Rattle.scan.proofs.AllLaws.{all-map, all-take, all-drop}
-use Rattle.hex.specs.Hex.{LowerHex, number, letter}
+use Rattle.hex.specs.inner.LowerHex.{number, letter, LowerHex}
 use Rattle.hex.proofs.Texts.{hexes-digits}
-use Rattle.escape.specs.Escape.{Carried, other, nsonText}
+use Rattle.escape.specs.Escape.{Carried, other}
+use Rattle.escape.specs.inner.Controls.{nsonText}
 use Rattle.escape.proofs.QuotedLaws.{nson-text}
 use Rattle.notepack.specs.declared.Part.{Part}
 use Rattle.notepack.specs.Unpack.{textOf}

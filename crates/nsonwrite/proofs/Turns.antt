@@ -7,18 +7,19 @@ use mathlib.Core.List.{List, [], _∷_, _++_, map}
 use lib.ListN.{length}
 use lib.Dec.{leb}
 use Rattle.scan.specs.Choice.{pick}
-use Rattle.buffer.specs.Store.{Wrote}
+use Rattle.buffer.specs.inner.Store.{Wrote}
 use Rattle.decimal.specs.Decimal.{decimal}
-use Rattle.escape.specs.Escape.{nsonByte, escaped, nsonText}
+use Rattle.escape.specs.Escape.{nsonByte, escaped}
+use Rattle.escape.specs.inner.Controls.{nsonText}
 use Rattle.event.specs.Event.{Text, Tag}
 use Rattle.notepack.specs.declared.Head.{Head}
 use Rattle.notepack.specs.Unpack.{textOf}
-use Rattle.notepack.specs.Again.{tagsAgain, eventAgain}
+use Rattle.notepack.specs.inner.Again.{tagsAgain, eventAgain}
 use Rattle.notepack.proofs.Again.{tags-count}
 use Rattle.jsontags.specs.TagText.{commaed, tagText}
 use Rattle.nson.specs.Nson.{escapedSize}
-use Rattle.nson.specs.Carries.{fits, allFit, tagsFit}
-use Rattle.nsonwrite.specs.Measure.{cutWord, cutWords, cutCounts, cutDescriptors, textsFit, textsLength}
+use Rattle.nson.specs.inner.Decision.{fits, allFit, tagsFit}
+use Rattle.nsonwrite.specs.inner.Measure.{cutWord, cutWords, cutCounts, cutDescriptors, textsFit, textsLength}
 
 -- ---- whether all fit
 

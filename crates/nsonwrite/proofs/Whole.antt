@@ -8,18 +8,20 @@ use mathlib.Core.List.{List, [], _∷_, _++_, map, append-assoc}
 use native.Mathlib.Omega.{arith}
 use lib.ListN.{length, length-append}
 use lib.Dec.{leb}
+use Rattle.scan.specs.Ascii.{ascii}
 use Rattle.scan.specs.Choice.{pick}
 use Rattle.scan.specs.Place.{within}
-use Rattle.buffer.specs.Store.{Wrote}
+use Rattle.buffer.specs.inner.Store.{Wrote}
 use Rattle.hex.specs.Hex.{hexes}
 use Rattle.hex.proofs.Texts.{length-hexes}
 use Rattle.decimal.specs.Decimal.{decimal}
 use Rattle.escape.specs.Escape.{nsonByte, escaped}
 use Rattle.event.specs.Event.{Event, Valid}
 use Rattle.jsontags.specs.TagText.{commaed, tagText, tagsText}
-use Rattle.nson.specs.Nson.{idLabel, pubkeyLabel, sigLabel, timeLabel, nsonLabel, kindLabel, contentLabel, tagsLabel, endLabel, escapedSize, counts, descriptors, nsonField, headText, bodyText, nson}
-use Rattle.nson.specs.Carries.{tagBytes, fits, tagsFit, carries}
-use Rattle.nsonwrite.specs.Measure.{textsFit, textsLength, lengthWith, measuredFit, fieldWith, nsonWith}
+use Rattle.nson.specs.Nson.{idLabel, pubkeyLabel, sigLabel, timeLabel, nsonLabel, kindLabel, contentLabel, tagsLabel, escapedSize, counts, descriptors, nsonField, headText, bodyText, nson}
+use Rattle.nson.specs.Carries.{tagBytes}
+use Rattle.nson.specs.inner.Decision.{fits, tagsFit, carries}
+use Rattle.nsonwrite.specs.inner.Measure.{textsFit, textsLength, lengthWith, measuredFit, fieldWith, nsonWith}
 use Rattle.nsonwrite.proofs.Counts.{descriptors-length}
 
 -- ---- the pieces
@@ -30,7 +32,7 @@ brackets x label before tags behind end = simp append-assoc
 
 -- the pieces' lengths, of any texts in their places and any size byte
 pieces : (id key sig time : List ℕ) (size : ℕ) (d kind content tags : List ℕ)
-    → length (idLabel ++ hexes id ++ pubkeyLabel ++ hexes key ++ sigLabel ++ hexes sig ++ timeLabel ++ time ++ nsonLabel ++ hexes (size ∷ d) ++ (kindLabel ++ kind ++ contentLabel ++ content ++ tagsLabel ++ (0x5B ∷ (tags ++ (0x5D ∷ []))) ++ endLabel))
+    → length (idLabel ++ hexes id ++ pubkeyLabel ++ hexes key ++ sigLabel ++ hexes sig ++ timeLabel ++ time ++ nsonLabel ++ hexes (size ∷ d) ++ (kindLabel ++ kind ++ contentLabel ++ content ++ tagsLabel ++ (0x5B ∷ (tags ++ (0x5D ∷ []))) ++ (ascii "}")))
     ≡ 87 + 2 * length id + 2 * length key + 2 * length sig + length time + 2 * length d + length kind + length content + length tags
 pieces id key sig time size d kind content tags = simp (length-append, length-hexes) (omega arith)
 
@@ -41,12 +43,12 @@ pick-both false b c = refl
 
 module _ (e : Event) where
   pub body-wrote : {d : List ℕ} {at : ℕ} {d′ : List ℕ} {r : ℕ}
-      → Wrote d at (kindLabel ++ decimal (e .kind) ++ contentLabel ++ escaped nsonByte (e .content) ++ (tagsLabel ++ (0x5B ∷ [])) ++ commaed (map (tagText nsonByte) (e .tags)) ++ (0x5D ∷ endLabel)) d′ r
+      → Wrote d at (kindLabel ++ decimal (e .kind) ++ contentLabel ++ escaped nsonByte (e .content) ++ (tagsLabel ++ (0x5B ∷ [])) ++ commaed (map (tagText nsonByte) (e .tags)) ++ (0x5D ∷ (ascii "}"))) d′ r
       → Wrote d at (bodyText e) d′ r
   unfolding bodyText tagsText
   body-wrote {d} {at} {d′} {r} w =
       let x = kindLabel ++ decimal (e .kind) ++ contentLabel ++ escaped nsonByte (e .content) in
-      subst (λ (l : List ℕ). Wrote d at l d′ r) (brackets x tagsLabel (0x5B ∷ []) (commaed (map (tagText nsonByte) (e .tags))) (0x5D ∷ []) endLabel) w
+      subst (λ (l : List ℕ). Wrote d at l d′ r) (brackets x tagsLabel (0x5B ∷ []) (commaed (map (tagText nsonByte) (e .tags))) (0x5D ∷ []) (ascii "}")) w
 
   -- with the event's own descriptors it is the event's NSON
   pub nson-with : (d : List ℕ) → d ≡ descriptors (counts e) → length d ≤ 127 → nsonWith d e ≡ nson e

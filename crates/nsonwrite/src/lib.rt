@@ -12,16 +12,17 @@ ghost use mathlib.Core.List.{map};
 ghost use lib.ListN.{length};
 ghost use lib.Dec.{leb};
 ghost use Rattle.scan.specs.Choice.{pick};
-ghost use Rattle.buffer.specs.Store.{Wrote};
-ghost use Rattle.event.specs.Answers.{writing};
-ghost use Rattle.escape.specs.Escape.{nsonByte, escaped, nsonText};
+ghost use Rattle.buffer.specs.inner.Store.{Wrote};
+ghost use Rattle.event.specs.inner.Told.{writing};
+ghost use Rattle.escape.specs.Escape.{nsonByte, escaped};
+ghost use Rattle.escape.specs.inner.Controls.{nsonText};
 ghost use Rattle.notepack.specs.Unpack.{textOf};
-ghost use Rattle.notepack.specs.Again.{textsAgain, textsEnd, tagsAgain, eventAgain};
+ghost use Rattle.notepack.specs.inner.Again.{textsAgain, textsEnd, tagsAgain, eventAgain};
 ghost use Rattle.jsontags.specs.TagText.{quoted, commaed, tagText};
 ghost use Rattle.nson.specs.Nson.{headText, bodyText};
-ghost use Rattle.nson.specs.Carries.{allFit, tagsFit};
+ghost use Rattle.nson.specs.inner.Decision.{allFit, tagsFit};
 ghost use Rattle.nson.specs.Entries.{nsonWrites, writerLeaves};
-ghost use Rattle.nsonwrite.specs.Measure.{cutWord, cutWords, cutCounts, cutDescriptors, textsFit, textsLength, lengthWith, measuredFit, fieldWith, nsonWith};
+ghost use Rattle.nsonwrite.specs.inner.Measure.{cutWord, cutWords, cutCounts, cutDescriptors, textsFit, textsLength, lengthWith, measuredFit, fieldWith, nsonWith};
 
 // What NSON can carry: the times, the longest text between two quotes, and the most bytes of descriptors.
 const MIN_CREATED_AT: u64 = 1_000_000_000;

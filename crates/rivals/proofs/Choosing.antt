@@ -13,7 +13,7 @@ use Rattle.notepack.specs.declared.Head.{Head}
 use Rattle.notepack.specs.Views.{numbersOf}
 use Rattle.notepack.proofs.Viewing.{Numbered, numbers-event, numbers-refused}
 use Rattle.keys.specs.Key.{isReplaceable, sameKey}
-use Rattle.keys.specs.Place.{keyAt, keyThere}
+use Rattle.keys.specs.inner.Place.{keyAt, keyThere}
 use Rattle.keys.proofs.Keys.{replaceable-key, key-shown}
 use Rattle.rivals.specs.declared.Kept.{Kept}
 use Rattle.rivals.specs.declared.Kept.the-variants.{NotRivals}

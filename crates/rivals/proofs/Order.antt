@@ -1,4 +1,5 @@
--- Choosing is symmetric but for the full tie, and the order of choosing does not change the (created_at, id) that is kept.
+-- Choosing is symmetric but for the full tie, and the order of choosing does not change the (created_at, id) that is
+-- kept.
 -- `over` is a strict total order on (created_at, id); the rest is by cases.
 use Prim.Native.Nat.{ℕ, _≤_, _<_}
 use mathlib.Core.Path.{_≡_, refl, sym, ap, _∙_}

@@ -7,11 +7,12 @@ use mathlib.Core.List.{List}
 use lib.ListN.{length}
 use Rattle.scan.specs.Choice.{Answer, shown, refused}
 use Rattle.event.specs.Event.{Event}
-use Rattle.event.specs.Tells.{Tells, value, refusal}
-use Rattle.notepack.specs.Unpack.{packedNumbers, unpack}
+use Rattle.event.specs.inner.Tells.{Tells, value, refusal}
+use Rattle.notepack.specs.Unpack.{unpack}
+use Rattle.notepack.specs.inner.Numbers.{packedNumbers}
 use Rattle.notepack.proofs.Telling.{unpack-tells}
 use Rattle.rivals.specs.Rivals.{chooses, rivals}
-use Rattle.rivals.specs.Telling.{RivalsTell, told, of-first, of-second}
+use Rattle.rivals.specs.inner.Telling.{RivalsTell, told, of-first, of-second}
 
 pub rivals-tells : (s t : List ℕ) → RivalsTell s t (rivals s t)
 unfolding rivals

@@ -1,3 +1,2 @@
 pub mod Rivals
-pub mod Answers
-pub mod Telling
+pub mod inner

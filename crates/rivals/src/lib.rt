@@ -5,9 +5,9 @@ use notepack::HeadRead;
 ghost use mathlib.Core.Path.{_≡_};
 ghost use lib.ListN.{take};
 ghost use Rattle.keys.specs.Key.{sameKey};
-ghost use Rattle.keys.specs.Place.{keyAt, keyThere};
+ghost use Rattle.keys.specs.inner.Place.{keyAt, keyThere};
 ghost use Rattle.rivals.specs.Rivals.{keepsBy, rivals};
-ghost use Rattle.rivals.specs.Answers.{rivalsRead, keptBytes};
+ghost use Rattle.rivals.specs.inner.Answers.{rivalsRead, keptBytes};
 
 pub enum Kept {
     First,
@@ -38,7 +38,8 @@ fn kept_of(s: &[u8], h: Head, t: &[u8], k: Head) -> Kept
     Kept::First
 }
 
-// Whether two packed events have the same key. A replaceable kind's is told by kind and author, with no look at the tags.
+// Whether two packed events have the same key. A replaceable kind's is told by kind and author, with no look at the
+// tags.
 fn same_keys(s: &[u8], h: Head, t: &[u8], k: Head) -> bool
     ensures { λ r. ⌜ r ≡ sameKey (keyThere (now (s .entry)) (keyAt (now (s .entry)) h)) (keyThere (now (t .entry)) (keyAt (now (t .entry)) k)) ⌝ }
 {
@@ -72,7 +73,7 @@ pub fn compare(s: &[u8], t: &[u8]) -> RivalsRead
     }
 }
 
-// That one of the two lent inputs which is to be kept; empty where there is none.
+// The record that is kept, of the two; empty where none is.
 pub fn choose<'a>(s: &'a [u8], t: &'a [u8]) -> &'a [u8]
     ensures { λ r. ⌜ now r ≡ keptBytes (now (s .entry)) (now (t .entry)) (rivals (now (s .entry)) (now (t .entry))) ⌝ }
 {

@@ -13,7 +13,7 @@ use lib.ListN.{length, getD, take, drop, length-take, length-drop}
 use lib.Seq.{getD-drop, getD-take, drop-drop}
 use borrow.Author.Tests.{lt-ltb, le-ltb, eq-eqb, ne-eqb}
 use Rattle.scan.specs.Choice.{pick}
-use Rattle.scan.specs.Blocks.{isOne, controlCount, sumOf, neighbours, beforeStop}
+use Rattle.scan.specs.inner.Blocks.{isOne, controlCount, sumOf, neighbours, beforeStop}
 use Rattle.scan.proofs.Step.{rest-none, rest-more, pick-by}
 
 -- ---- one byte

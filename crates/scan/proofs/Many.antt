@@ -7,7 +7,8 @@ use mathlib.Core.List.{List, [], _∷_, _++_}
 use native.Mathlib.Omega.{arith}
 use lib.ListN.{length}
 use Rattle.scan.specs.Choice.{pick, Answer, shown, refused, Read, read, andThen, many}
-use Rattle.scan.specs.Span.{Span, here, All, none, also}
+use Rattle.scan.specs.Bytes.{All, none, also}
+use Rattle.scan.specs.inner.Span.{here, Span}
 use Rattle.scan.proofs.SpanLaws.{join, cut, none-span, span-length, respell}
 use Rattle.scan.proofs.Reading.{read-same}
 
@@ -59,7 +60,8 @@ module _ {A : Type 0} (item : ℕ → Answer (Read A)) where
       let b = many-at i n (a .0 .next) (a .1) (a .3) (omega arith) in
       (record { value = a .0 .value ∷ b .0 .value; next = b .0 .next }, b .1, b .2, rw (a .2, b .3), b .4, a .4 ∙ ap (λ (l : List A). a .0 .value ∷ l) (b .5))
 
--- Reads one after the other are shown exactly where the spellings of their values stand one after the other; G is what the single spellings g make together.
+-- Reads one after the other are shown exactly where the spellings of their values stand one after the other; G is what
+-- the single spellings g make together.
 module _ {A : Type 0} (g : A → List ℕ) (G : List A → List ℕ) (nothing : G [] ≡ []) (more : (x : A) (l : List A) → G (x ∷ l) ≡ g x ++ G l) (Q : A → Type 0) (s : List ℕ)
     (item : ℕ → Answer (Read A)) where
   pub many-shown : ((at : ℕ) (v : Read A) → item at ≡ shown v → Span s at (g (v .value)) (v .next) × Q (v .value))

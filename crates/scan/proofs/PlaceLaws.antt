@@ -1,5 +1,6 @@
 -- A fixed byte string stands at a place exactly where it is a span, and a run is the longest span of bytes that pass.
--- The loops of the code cite the laws of each turn and the ruleset `runs`; a grammar cites the four laws that speak of `Span`.
+-- The loops of the code cite the laws of each turn and the ruleset `runs`; a grammar cites the four laws that speak of
+-- `Span`.
 use Prim.Native.Nat.{ℕ, _+_, _-_, _<_, _≤_}
 use mathlib.Core.Path.{_≡_, refl, sym, ap, _∙_}
 use mathlib.Core.Bool.{Bool, true, false}
@@ -11,7 +12,8 @@ use lib.ListN.{length, getD, drop, length-drop}
 use lib.Dec.{eqb}
 use borrow.Author.Tests.{eq-eqb, ne-eqb, eqb-true}
 use Rattle.scan.specs.Place.{begins, standsAt, run, runAt}
-use Rattle.scan.specs.Span.{Span, here, step, All, none, also}
+use Rattle.scan.specs.Bytes.{All, none, also}
+use Rattle.scan.specs.inner.Span.{here, step, Span}
 use Rattle.scan.proofs.Step.{rest-none, rest-more, pick-by, pick-true, false-true}
 use Rattle.scan.proofs.SpanLaws.{from-span, to-span, place, span-fits}
 

@@ -1,4 +1,5 @@
--- `Reads G s a r`: if the answer r is a value, then a piece of the grammar G spells it from place a to the answer's place.
+-- `Reads G s a r`: if the answer r is a value, then a piece of the grammar G spells it from place a to the answer's
+-- place.
 -- Soundness of a reader is a walk over its definition with one law for each form: a choice, and one read after another.
 use Prim.Native.Nat.{ℕ, _+_, _-_, _≤_}
 use mathlib.Core.Path.{_≡_, refl, sym, ap, _∙_}
@@ -7,7 +8,7 @@ use mathlib.Core.List.{List, [], _∷_, _++_}
 use native.Mathlib.Omega.{arith}
 use lib.ListN.{length, take, drop, length-take, length-drop, take-append-drop}
 use Rattle.scan.specs.Choice.{pick, Answer, shown, refused, Read, read, andThen}
-use Rattle.scan.specs.Span.{Span}
+use Rattle.scan.specs.inner.Span.{Span}
 use Rattle.scan.proofs.SpanLaws.{to-span}
 
 pub data Reads {A : Type 0} (G : A → List ℕ → Type 0) (s : List ℕ) (a : ℕ) : Answer (Read A) → Type 0 where

@@ -12,7 +12,7 @@ use lib.ListN.{length, getD, drop, take, take-append-drop}
 use lib.Seq.{take-at}
 use lib.Dec.{ltb, eqb}
 use borrow.Author.Tests.{eqb-true, eqb-false}
-use Rattle.scan.specs.Span.{Span, here, step}
+use Rattle.scan.specs.inner.Span.{here, step, Span}
 use Rattle.scan.proofs.Step.{rest-more, rest-none, byte-none, false-true}
 
 pub join : {s : List ℕ} {a b c : ℕ} {l m : List ℕ} → Span s a l b → Span s b m c → Span s a (l ++ m) c

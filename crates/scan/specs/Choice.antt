@@ -1,4 +1,5 @@
--- How a definition chooses and goes on: `pick` by a test, `Answer` for what a reader tells, `andThen` for one read after another. Assumes nothing.
+-- How a definition chooses and goes on: `pick` by a test, `Answer` for what a reader tells, `andThen` for one read
+-- after another. Assumes nothing.
 use Prim.Native.Nat.{ℕ, zero, suc}
 use mathlib.Core.Bool.{Bool, true, false}
 use mathlib.Core.List.{List, [], _∷_}
@@ -8,12 +9,7 @@ abbrev pub pick : {A : Type 0} → Bool → A → A → A
 pick true a b = a
 pick false a b = b
 
--- one of two tests holds
-abbrev pub either : Bool → Bool → Bool
-either true b = true
-either false b = b
-
--- What a reader tells: a value, or a refusal by its number and its place (document 01, "Numbers of refusal").
+-- What a reader tells: a value, or a refusal by its number and its place (rules 10).
 pub data Answer (A : Type 0) : Type 0 where
   shown : A → Answer A
   refused : (number place : ℕ) → Answer A
@@ -31,11 +27,6 @@ read a next = shown (record { value = a; next = next })
 abbrev pub andThen : {A B : Type 0} → Answer A → (A → Answer B) → Answer B
 andThen (shown a) f = f a
 andThen (refused n p) f = refused n p
-
--- what an answer is turned into, and `other` for a refusal
-abbrev pub orElse : {A B : Type 0} → B → Answer A → (A → B) → B
-orElse other (shown a) f = f a
-orElse other (refused n p) f = other
 
 -- n reads, one after the other, as one read of a list
 unfoldable pub many : {A : Type 0} → (ℕ → Answer (Read A)) → ℕ → ℕ → Answer (Read (List A))

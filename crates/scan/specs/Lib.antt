@@ -1,6 +1,6 @@
 pub mod Choice
 pub mod Place
-pub mod Span
+pub mod Bytes
 pub mod Ascii
 pub mod Compare
-pub mod Blocks
+pub mod inner

@@ -5,7 +5,7 @@ ghost use lib.ListN.{length, take, drop};
 ghost use Rattle.scan.specs.Choice.{pick};
 ghost use Rattle.scan.specs.Place.{byteAt, standsAt, within, runAt};
 ghost use Rattle.scan.specs.Compare.{sameBytes, lower};
-ghost use Rattle.scan.specs.Blocks.{isOne, controlCount};
+ghost use Rattle.scan.specs.inner.Blocks.{isOne, controlCount};
 
 // The byte at a place, and 0 past the end.
 pub fn byte_at(s: &[u8], at: usize) -> u8

@@ -13,7 +13,7 @@ use borrow.Author.Tests.{eq-eqb, ne-eqb}
 use Rattle.scan.specs.Choice.{pick, Answer, shown, refused, andThen}
 use Rattle.scan.specs.Compare.{sameBytes}
 use Rattle.scan.proofs.CompareLaws.{same-same, bytes-same}
-use Rattle.buffer.specs.Store.{Wrote}
+use Rattle.buffer.specs.inner.Store.{Wrote}
 use Rattle.buffer.specs.Entry.{writes, leaves}
 use Rattle.buffer.proofs.EntryLaws.{short, fitted}
 use Rattle.varint.specs.Uleb.{uleb}
@@ -23,14 +23,14 @@ use Rattle.notepack.specs.declared.Walk.{Walk}
 use Rattle.notepack.specs.declared.Walk.the-variants as walk-by
 use Rattle.notepack.specs.Strict.{packElements, packTag, packTags, pack}
 use Rattle.notepack.specs.Unpack.{unpack}
-use Rattle.notepack.specs.Again.{textsAgain, tagsAgain, eventAgain}
-use Rattle.notepack.specs.Answers.{Walked, walk, walkAt}
+use Rattle.notepack.specs.inner.Again.{textsAgain, tagsAgain, eventAgain}
+use Rattle.notepack.specs.inner.Answers.{Walked, walk, walkAt}
 use Rattle.notepack.proofs.Piece.{piece-decides}
 use Rattle.notepack.proofs.Lengths.{tag-form}
 use Rattle.notepack.proofs.Walking.{walk-refuses}
 use Rattle.notepack.proofs.Again.{texts-count, tags-count, Accepted}
 use Rattle.strict.specs.Strict.{strict}
-use Rattle.strict.specs.Copy.{packedHead}
+use Rattle.strict.specs.inner.Copy.{packedHead}
 
 -- ---- the strict question
 

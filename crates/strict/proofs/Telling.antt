@@ -4,9 +4,9 @@ use Prim.Native.Nat.{ℕ}
 use mathlib.Core.Bool.{Bool}
 use mathlib.Core.List.{List}
 use lib.ListN.{length}
-use Rattle.event.specs.Tells.{Tells, value}
+use Rattle.event.specs.inner.Tells.{Tells, value}
 use Rattle.event.proofs.TellsLaws.{then-tells}
-use Rattle.notepack.specs.Unpack.{packedNumbers}
+use Rattle.notepack.specs.inner.Numbers.{packedNumbers}
 use Rattle.notepack.proofs.Telling.{unpack-tells}
 use Rattle.strict.specs.Strict.{strict}
 

@@ -1,3 +1,2 @@
 pub mod Strict
-pub mod Copy
-pub mod Answers
+pub mod inner

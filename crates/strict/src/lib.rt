@@ -7,17 +7,17 @@ use notepack::Tally;
 use notepack::Walk;
 ghost use mathlib.Core.Path.{_≡_};
 ghost use Rattle.scan.specs.Choice.{shown};
-ghost use Rattle.buffer.specs.Store.{Wrote};
+ghost use Rattle.buffer.specs.inner.Store.{Wrote};
 ghost use Rattle.buffer.specs.Entry.{writes, leaves};
-ghost use Rattle.event.specs.Answers.{writing};
+ghost use Rattle.event.specs.inner.Told.{writing};
 ghost use Rattle.hex.specs.Hex.{hexes};
 ghost use Rattle.notepack.specs.Strict.{packElement, packElements, packTags, pack};
 ghost use Rattle.notepack.specs.Unpack.{textOf, unpack};
-ghost use Rattle.notepack.specs.Again.{textsAgain, textsEnd, tagsAgain, eventAgain};
-ghost use Rattle.notepack.specs.Answers.{walkAt};
+ghost use Rattle.notepack.specs.inner.Again.{textsAgain, textsEnd, tagsAgain, eventAgain};
+ghost use Rattle.notepack.specs.inner.Answers.{walkAt};
 ghost use Rattle.strict.specs.Strict.{strict};
-ghost use Rattle.strict.specs.Copy.{packedHead};
-ghost use Rattle.strict.specs.Answers.{strictRead};
+ghost use Rattle.strict.specs.inner.Copy.{packedHead};
+ghost use Rattle.strict.specs.inner.Answers.{strictRead};
 
 pub enum StrictRead {
     Strict(bool),

@@ -10,12 +10,13 @@ use native.Mathlib.Decide.{decLt, ℕ-discrete}
 use lib.ListN.{length, getD, take, drop, length-take, length-drop}
 use Rattle.scan.proofs.Step.{rest-more}
 use Rattle.scan.proofs.AllLaws.{all-map}
-use Rattle.jsontext.specs.Escape.{escapeAt, orItself, unescape}
-use Rattle.jsonunescape.specs.Run.{backslashAt}
+use Rattle.jsontext.specs.inner.Escape.{escapeAt, orItself, unescape}
+use Rattle.jsonunescape.specs.inner.Run.{backslashAt}
 use Rattle.jsontext.proofs.Meaning.{unescape-byte, unescape-itself}
 use Rattle.jsonunescape.proofs.Unescape.{unescape-end, taken, length-escape, unescape-whole}
 use Rattle.varint.specs.Uleb.{uleb}
-use Rattle.hex.specs.Hex.{LowerHex, number, letter, unhex, goesAsBytes}
+use Rattle.hex.specs.Hex.{unhex, goesAsBytes}
+use Rattle.hex.specs.inner.LowerHex.{number, letter, LowerHex}
 use Rattle.hex.proofs.Texts.{go-digits}
 use Rattle.notepack.specs.Strict.{packElement}
 use Rattle.notepack.proofs.Lengths.{element-bytes, element-text, length-as-bytes, length-as-text}

@@ -1,9 +1,10 @@
-// The strict element whose text a spelled string stands for: its length, and the element written. Most strings have no escape and are taken as they stand.
+// The strict element whose text a spelled string stands for: its length, and the element written. Most strings have no
+// escape and are taken as they stand.
 ghost use Prim.Native.Nat.{_+_, _≤_};
 ghost use mathlib.Core.Path.{_≡_};
 ghost use lib.ListN.{length, take, drop};
-ghost use Rattle.buffer.specs.Store.{Wrote};
-ghost use Rattle.jsontext.specs.Escape.{unescape};
+ghost use Rattle.buffer.specs.inner.Store.{Wrote};
+ghost use Rattle.jsontext.specs.inner.Escape.{unescape};
 ghost use Rattle.notepack.specs.Strict.{packElement};
 
 // The length of the strict element, where the string has escapes.
@@ -18,7 +19,8 @@ fn escaped_element_len(s: &[u8], from: usize, n: usize) -> usize
     varint::varint_len(2 * k as u64) + k
 }
 
-// The length of the strict element whose text the n bytes of s from a place on spell. Hex is asked for first: digits are no backslash.
+// The length of the strict element whose text the n bytes of s from a place on spell. Hex is asked for first: digits
+// are no backslash.
 pub fn spelled_element_len(s: &[u8], from: usize, n: usize) -> usize
     ensures { λ r. ⌜ r ≡ length (packElement (unescape (take n (drop from (now (s .entry)))))) ⌝ }
     ensures { λ r. ⌜ r ≤ n + 10 ⌝ }

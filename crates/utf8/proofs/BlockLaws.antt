@@ -13,8 +13,8 @@ use lib.Dec.{eqb, ltb}
 use borrow.Author.Tests.{eq-eqb, ne-eqb, lt-ltb, le-ltb}
 use Rattle.scan.proofs.Step.{rest-none, rest-more}
 use Rattle.utf8.specs.Utf8.{octet, one}
-use Rattle.utf8.specs.Width.{widthAt, isUtf8}
-use Rattle.utf8.specs.Block.{highest, Passed, PassedTo}
+use Rattle.utf8.specs.inner.Width.{widthAt, isUtf8}
+use Rattle.utf8.specs.inner.Block.{highest, Passed, PassedTo}
 use Rattle.utf8.proofs.WidthLaws.{width-within}
 use Rattle.utf8.proofs.Laws.{rest-end, rest-stop, rest-step, rest-char}
 

@@ -1,4 +1,5 @@
--- The encoding of a scalar value is one character of the grammar, it decodes to the value again, and every character is such an encoding.
+-- The encoding of a scalar value is one character of the grammar, it decodes to the value again, and every character is
+-- such an encoding.
 -- Each row of the table is one equation under its bounds; the rest is arithmetic on quotients and remainders.
 use Prim.Native.Nat.{ℕ, _+_, _-_, _*_, _/_, _<_, _≤_}
 use mathlib.Core.Path.{_≡_, _∙_}
@@ -12,7 +13,8 @@ use lib.ListN.{length}
 use borrow.Author.Tests.{lt-ltb, le-ltb, le-leb, lt-leb}
 use Rattle.scan.specs.Place.{within}
 use Rattle.utf8.specs.Utf8.{octet, Tail, Char, one, two, three-E0, three-E1, three-ED, three-EE, four-F0, four-F1, four-F4, Utf8}
-use Rattle.utf8.specs.Encode.{Scalar, below, above, tailOf, encode, scalarOf}
+use Rattle.utf8.specs.Encode.{Scalar, below, above, tailOf, encode}
+use Rattle.utf8.specs.inner.Scalar.{scalarOf}
 use Rattle.utf8.proofs.WidthLaws.{char-length}
 use Rattle.utf8.proofs.Laws.{utf8-char}
 

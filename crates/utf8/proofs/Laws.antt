@@ -1,4 +1,5 @@
--- The decision `isUtf8` says true exactly of the texts of RFC 3629's `UTF8-octets`, and a reader may go sequence by sequence.
+-- The decision `isUtf8` says true exactly of the texts of RFC 3629's `UTF8-octets`, and a reader may go sequence by
+-- sequence.
 -- One step law turns the recursion over bytes into a step over a whole sequence; both directions follow it.
 use Prim.Native.Nat.{ℕ, zero, suc, _+_, _-_, _<_, _≤_}
 use mathlib.Core.Path.{_≡_, refl, sym, ap, _∙_}
@@ -13,11 +14,11 @@ use lib.Seq.{getD-drop, drop-drop, drop-append-seam}
 use lib.Dec.{eqb}
 use borrow.Author.Tests.{eq-eqb, ne-eqb}
 use Rattle.scan.specs.Choice.{pick}
-use Rattle.scan.specs.Span.{All, none, also, IsBytes}
+use Rattle.scan.specs.Bytes.{All, none, also, IsBytes}
 use Rattle.scan.proofs.Step.{rest-none, rest-more, false-true}
 use Rattle.scan.proofs.SpanLaws.{from-span, to-span}
 use Rattle.utf8.specs.Utf8.{Octet, octet, Tail, Char, one, two, three-E0, three-E1, three-ED, three-EE, four-F0, four-F1, four-F4, Utf8, char}
-use Rattle.utf8.specs.Width.{widthAt, sequences, isUtf8}
+use Rattle.utf8.specs.inner.Width.{widthAt, sequences, isUtf8}
 use Rattle.utf8.proofs.WidthLaws.{width-here, width-place, width-accepts, width-consumes, char-length}
 
 -- ---- the step over a whole sequence

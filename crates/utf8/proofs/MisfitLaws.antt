@@ -1,5 +1,6 @@
 -- A text is well-formed exactly if no byte misfits behind the three before it, nor the end, which counts as a 0.
--- Behind a whole character no tail is asked for (`Clean`); so one character after the other is read off the windows, and the other way.
+-- Behind a whole character no tail is asked for (`Clean`); so one character after the other is read off the windows,
+-- and the other way.
 use Prim.Native.Nat.{ℕ, zero, suc, _+_, _-_, _/_, _<_, _≤_}
 use mathlib.Core.Path.{_≡_, refl, sym, ap, _∙_}
 use mathlib.Core.Bool.{Bool, true, false}
@@ -16,9 +17,9 @@ use Rattle.scan.specs.Choice.{pick}
 use Rattle.scan.specs.Place.{within}
 use Rattle.scan.proofs.Step.{rest-none, rest-more, pick-by}
 use Rattle.utf8.specs.Utf8.{Octet, octet, Tail, Char, one, two, three-E0, three-E1, three-ED, three-EE, four-F0, four-F1, four-F4, Utf8, char}
-use Rattle.utf8.specs.Width.{secondLow, secondHigh, isUtf8}
-use Rattle.utf8.specs.Block.{highest}
-use Rattle.utf8.specs.Misfit.{misfit, misfits, misfitsFrom}
+use Rattle.utf8.specs.inner.Width.{secondLow, secondHigh, isUtf8}
+use Rattle.utf8.specs.inner.Block.{highest}
+use Rattle.utf8.specs.inner.Misfit.{misfit, misfits, misfitsFrom}
 use Rattle.utf8.proofs.RowLaws.{in-range, to-range, second, char-three, char-four}
 use Rattle.utf8.proofs.WidthLaws.{char-length}
 use Rattle.utf8.proofs.Laws.{is-utf8}

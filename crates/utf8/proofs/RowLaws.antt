@@ -14,7 +14,7 @@ use Rattle.scan.specs.Choice.{pick}
 use Rattle.scan.specs.Place.{byteAt, within}
 use Rattle.scan.proofs.Step.{pick-true, pick-by}
 use Rattle.utf8.specs.Utf8.{Octet, octet, Tail, Char, one, two, three-E0, three-E1, three-ED, three-EE, four-F0, four-F1, four-F4}
-use Rattle.utf8.specs.Width.{isTail, secondLow, secondHigh, twoOf, threeOf, fourOf, widthOf}
+use Rattle.utf8.specs.inner.Width.{isTail, secondLow, secondHigh, twoOf, threeOf, fourOf, widthOf}
 
 -- ---- a range of bytes as a test
 

@@ -10,11 +10,11 @@ use native.Mathlib.Decide.{decLt, ℕ-discrete}
 use lib.ListN.{length, getD, drop, length-drop}
 use lib.Seq.{getD-drop}
 use borrow.Author.Tests.{lt-ltb, le-ltb}
-use Rattle.scan.specs.Span.{Span, here, step}
+use Rattle.scan.specs.inner.Span.{here, step, Span}
 use Rattle.scan.proofs.Step.{byte-none}
 use Rattle.scan.proofs.SpanLaws.{from-span, span-fits}
 use Rattle.utf8.specs.Utf8.{Char, one, two, three-E0, three-E1, three-ED, three-EE, four-F0, four-F1, four-F4}
-use Rattle.utf8.specs.Width.{widthOf, widthAt}
+use Rattle.utf8.specs.inner.Width.{widthOf, widthAt}
 use Rattle.utf8.proofs.RowLaws.{of-one, widthFirst, char-width, Row, bad, row-one, row-two, row-three, row-four, row}
 
 -- ---- from bytes to places

@@ -1,5 +1,5 @@
 -- The encoding of a scalar value: the table of RFC 3629, section 3, row by row. Assumes nothing.
-use Prim.Native.Nat.{ℕ, _+_, _-_, _*_, _/_, _%_, _≤_, _<_}
+use Prim.Native.Nat.{ℕ, _+_, _/_, _%_, _≤_, _<_}
 use mathlib.Core.List.{List, [], _∷_}
 use lib.Dec.{ltb}
 use Rattle.scan.specs.Choice.{pick}
@@ -22,11 +22,3 @@ encode n =
     (pick (within 0xD800 0xDFFF n) []
     (pick (ltb n 0x10000) ((0xE0 + n / 4096) ∷ tailOf (n / 64) ∷ tailOf n ∷ [])
     (pick (ltb n 0x110000) ((0xF0 + n / 262144) ∷ tailOf (n / 4096) ∷ tailOf (n / 64) ∷ tailOf n ∷ []) []))))
-
--- the scalar value that a character's bytes say: the x bits of its row, put together
-unfoldable pub scalarOf : List ℕ → ℕ
-scalarOf [] = 0
-scalarOf (a ∷ []) = a
-scalarOf (a ∷ b ∷ []) = (a - 0xC0) * 64 + (b - 0x80)
-scalarOf (a ∷ b ∷ c ∷ []) = (a - 0xE0) * 4096 + (b - 0x80) * 64 + (c - 0x80)
-scalarOf (a ∷ b ∷ c ∷ d ∷ l) = (a - 0xF0) * 262144 + (b - 0x80) * 4096 + (c - 0x80) * 64 + (d - 0x80)

@@ -1,5 +1,3 @@
 pub mod Utf8
-pub mod Width
 pub mod Encode
-pub mod Block
-pub mod Misfit
+pub mod inner

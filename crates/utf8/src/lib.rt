@@ -5,10 +5,10 @@ ghost use mathlib.Core.List.{[], _∷_, _++_};
 ghost use lib.ListN.{length};
 ghost use lib.Dec.{ltb};
 ghost use Rattle.scan.specs.Place.{within};
-ghost use Rattle.buffer.specs.Store.{Wrote};
-ghost use Rattle.utf8.specs.Width.{secondLow, secondHigh, twoOf, threeOf, fourOf, widthOf, widthAt, isUtf8};
-ghost use Rattle.utf8.specs.Block.{highest, PassedTo};
-ghost use Rattle.utf8.specs.Misfit.{misfit, misfits, misfitsFrom};
+ghost use Rattle.buffer.specs.inner.Store.{Wrote};
+ghost use Rattle.utf8.specs.inner.Width.{secondLow, secondHigh, twoOf, threeOf, fourOf, widthOf, widthAt, isUtf8};
+ghost use Rattle.utf8.specs.inner.Block.{highest, PassedTo};
+ghost use Rattle.utf8.specs.inner.Misfit.{misfit, misfits, misfitsFrom};
 ghost use Rattle.utf8.specs.Encode.{tailOf, encode};
 
 // The lowest second byte behind a first byte of three or four.
@@ -280,8 +280,8 @@ fn is_short(s: &[u8]) -> bool
     is_mixed(&s[..])
 }
 
-// Whether a text is well-formed. `&s[..]` hands on the slice as a new one: handed on as it came it is copied whole, and the copy waits for
-// the two stores of whoever has just made it.
+// Whether a text is well-formed. `&s[..]` hands on the slice as a new one: handed on as it came it is copied whole, and
+// the copy waits for the two stores of whoever has just made it.
 pub fn is_utf8(s: &[u8]) -> bool
     ensures { λ r. ⌜ r ≡ isUtf8 (now (s .entry)) ⌝ }
 {

@@ -1,5 +1,6 @@
 -- What the bytes of a list spell from its start is `Uleb` of the bytes in front, in both directions.
--- By induction on the spelling and on the list; ten bytes whose last is 00 or 01 are a number below 2 * 128 ^ 9, that is 2 ^ 64.
+-- By induction on the spelling and on the list; ten bytes whose last is 00 or 01 are a number below 2 * 128 ^ 9, that
+-- is 2 ^ 64.
 use Prim.Native.Nat.{ℕ, zero, suc, _+_, _*_, _-_, _^_, _≤_, _<_}
 use mathlib.Core.Path.{_≡_, refl, ap}
 use mathlib.Core.List.{List, [], _∷_, _++_}
@@ -8,7 +9,7 @@ use native.Mathlib.Omega.{arith}
 use lib.ListN.{length}
 use lib.Dec.{ltb, leb}
 use borrow.Author.Tests.{lt-ltb, le-ltb, le-leb, ltb-true, ltb-false, leb-true}
-use Rattle.scan.specs.Span.{All, also, IsBytes}
+use Rattle.scan.specs.Bytes.{All, also, IsBytes}
 use Rattle.scan.proofs.Step.{pick-by}
 use Rattle.varint.specs.Uleb.{Uleb, last, more}
 use Rattle.varint.specs.Varint.{Spelled, number, over, cut, carry, spelled}

@@ -1,4 +1,5 @@
--- The turns of the loop that reads a varint: what was gathered, put in front of what the rest spells, is the answer at the start.
+-- The turns of the loop that reads a varint: what was gathered, put in front of what the rest spells, is the answer at
+-- the start.
 -- `Held` keeps the number small: seven bits more in each of nine turns, and one bit in the tenth byte.
 use Prim.Native.Nat.{ℕ, zero, suc, _+_, _*_, _-_, _^_, _≤_, _<_}
 use mathlib.Core.Path.{_≡_, refl, sym, ap, _∙_}
@@ -15,7 +16,8 @@ use Rattle.scan.specs.Choice.{pick, Answer, refused, Read, read}
 use Rattle.scan.proofs.Step.{rest-none, rest-more}
 use Rattle.varint.specs.declared.VarintRead.{VarintRead}
 use Rattle.varint.specs.declared.VarintRead.the-variants.{Refused}
-use Rattle.varint.specs.Varint.{Spelled, number, over, cut, carry, spelled, answered, varintAt, varintRead}
+use Rattle.varint.specs.Varint.{Spelled, number, over, cut, carry, spelled, answered, varintAt}
+use Rattle.varint.specs.inner.Answers.{varintRead}
 
 -- ---- the number stays small
 

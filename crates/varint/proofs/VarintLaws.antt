@@ -11,13 +11,15 @@ use lib.ListN.{length, getD, drop, length-append, length-drop}
 use lib.Dec.{ltb}
 use borrow.Author.Tests.{lt-ltb, le-ltb, eq-eqb, eqb-true}
 use Rattle.scan.specs.Choice.{Answer, shown, refused, Read, read}
-use Rattle.scan.specs.Span.{Span, All, Byte, IsBytes}
+use Rattle.scan.specs.Bytes.{All, Byte, IsBytes}
+use Rattle.scan.specs.inner.Span.{Span}
 use Rattle.scan.proofs.Step.{pick-by, false-true}
 use Rattle.scan.proofs.SpanLaws.{from-span, to-span, span-length, span-fits, span-unique}
 use Rattle.scan.proofs.AllLaws.{span-all}
 use Rattle.scan.proofs.Reading.{Reads, reads, fails}
 use Rattle.varint.specs.Uleb.{Spells, uleb}
-use Rattle.varint.specs.Varint.{Spelled, number, over, cut, spelled, answered, varintAt, isShortest, shortestAt}
+use Rattle.varint.specs.Varint.{Spelled, number, over, cut, spelled, answered, varintAt}
+use Rattle.varint.specs.inner.Shortest.{isShortest, shortestAt}
 use Rattle.varint.proofs.UlebLaws.{uleb-spells, spells-one, spells-unique}
 use Rattle.varint.proofs.SpelledLaws.{spelled-digits, Taken, taken, taken-over, taken-cut, spelled-taken}
 

@@ -1,2 +1,3 @@
 pub mod Uleb
 pub mod Varint
+pub mod inner

@@ -1,14 +1,10 @@
--- A varint as it is read at a place: its value and the place behind it, or refusal 2, 3 or 4 at the varint (document 01, "Varints"). Assumes nothing.
+-- A varint as it is read at a place: its value and the place behind it, or refusal 2, 3 or 4 at the varint (rules 2).
+-- Assumes nothing.
 use Prim.Native.Nat.{ℕ, zero, suc, _+_, _*_, _-_}
-use mathlib.Core.Bool.{Bool, true, false}
 use mathlib.Core.List.{List, [], _∷_}
 use lib.ListN.{length, drop}
-use lib.Dec.{ltb, leb, eqb}
-use Rattle.scan.specs.Choice.{pick, Answer, shown, refused, Read, read}
-use Rattle.event.specs.Answers.{told}
-use Rattle.varint.specs.declared.VarintRead.{VarintRead}
-use Rattle.varint.specs.declared.VarintRead.the-variants.{Value, Refused}
-use Rattle.varint.specs.Uleb.{uleb}
+use lib.Dec.{ltb, leb}
+use Rattle.scan.specs.Choice.{pick, Answer, refused, Read, read}
 
 -- what the bytes of a list spell from its start: a number in so many bytes, more than 64 bits hold, or no last byte
 pub data Spelled : Type 0 where
@@ -37,17 +33,3 @@ answered at cut = refused 4 at
 -- the varint at a place: no byte at all is truncated
 unfoldable pub varintAt : List ℕ → ℕ → Answer (Read ℕ)
 varintAt s at = pick (ltb at (length s)) (answered at (spelled 9 (drop at s))) (refused 2 at)
-
--- the meaning of the code's answer
-abbrev pub varintRead : VarintRead → Answer (Read ℕ)
-varintRead (Value n c) = read n (c .at)
-varintRead (Refused r) = told r
-
--- an answer is the shortest spelling: it is a number, in as many bytes as `uleb` takes
-abbrev pub isShortest : ℕ → Answer (Read ℕ) → Bool
-isShortest at (shown r) = eqb (r .next) (at + length (uleb (r .value)))
-isShortest at (refused n p) = false
-
--- whether the varint at a place is there and is spelled as short as it can be
-unfoldable pub shortestAt : List ℕ → ℕ → Bool
-shortestAt s at = isShortest at (varintAt s at)

@@ -3,9 +3,11 @@ use event::Refusal;
 ghost use Prim.Native.Nat.{_≤_};
 ghost use mathlib.Core.Path.{_≡_};
 ghost use lib.ListN.{length};
-ghost use Rattle.buffer.specs.Store.{Wrote};
+ghost use Rattle.buffer.specs.inner.Store.{Wrote};
 ghost use Rattle.varint.specs.Uleb.{uleb};
-ghost use Rattle.varint.specs.Varint.{varintRead, varintAt, shortestAt};
+ghost use Rattle.varint.specs.Varint.{varintAt};
+ghost use Rattle.varint.specs.inner.Shortest.{shortestAt};
+ghost use Rattle.varint.specs.inner.Answers.{varintRead};
 
 // A place in the input. A cursor past the end reads as the end.
 pub struct Cursor {

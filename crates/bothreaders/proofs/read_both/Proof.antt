@@ -3,7 +3,7 @@
 use mathlib.Core.Path.{ap}
 use Rattle.scan.specs.Choice.{pick, shown}
 use mathlib.Core.Bool.{Bool}
-use Rattle.event.specs.Answers.{writing}
+use Rattle.event.specs.inner.Told.{writing}
 use Rattle.bothreaders.proofs.Laws.{both-refused, both-short, both-short-first, json-alone, both-written}
 use borrow.Author.Needs.{needs}
 use Rattle.bothreaders.proofs.read_both.Statement.{statement}

@@ -1,4 +1,5 @@
--- `same_start` tells whether two buffers start with the same text: parts of one length, and the one stands at the other's start.
+-- `same_start` tells whether two buffers start with the same text: parts of one length, and the one stands at the
+-- other's start.
 use mathlib.Core.Path.{sym, _∙_}
 use Rattle.bothreaders.proofs.Laws.{stands-same, other-length}
 use borrow.Author.Needs.{needs}

@@ -8,7 +8,7 @@ use native.Mathlib.Omega.{arith}
 use lib.ListN.{length}
 use borrow.Author.Needs.{needs}
 use Rattle.escape.specs.Escape.{canonicalByte}
-use Rattle.notepack.specs.Again.{textsAgain, textsEnd}
+use Rattle.notepack.specs.inner.Again.{textsAgain, textsEnd}
 use Rattle.notepack.proofs.Again.{texts-turn, texts-left}
 use Rattle.jsontags.specs.TagText.{quoted, commaed}
 use Rattle.jsontags.proofs.Turns.{strings-count, strings-left}

@@ -2,8 +2,8 @@
 -- Seven writers in a row are one.
 use borrow.Author.Needs.{needs}
 use Rattle.buffer.proofs.Laws.{then}
-use Rattle.notepack.specs.Again.{eventAgain}
-use Rattle.canonical.specs.Front.{canonicalFront}
+use Rattle.notepack.specs.inner.Again.{eventAgain}
+use Rattle.canonical.specs.inner.Front.{canonicalFront}
 use Rattle.canonical.proofs.put_canonical_front.Statement.{statement}
 use Rattle.canonical.proofs.put_canonical_front.Tie as tie
 

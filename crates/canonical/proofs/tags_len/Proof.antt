@@ -9,7 +9,7 @@ use lib.ListN.{length}
 use borrow.Author.Needs.{needs}
 use Rattle.scan.proofs.AllLaws.{all-places}
 use Rattle.escape.specs.Escape.{canonicalByte}
-use Rattle.notepack.specs.Again.{tagsAgain}
+use Rattle.notepack.specs.inner.Again.{tagsAgain}
 use Rattle.notepack.proofs.Again.{count-few}
 use Rattle.jsontags.specs.TagText.{commaed, tagText}
 use Rattle.jsontags.proofs.Turns.{arrays-count, arrays-left}

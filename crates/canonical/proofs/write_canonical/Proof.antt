@@ -1,4 +1,4 @@
--- `write_canonical` answers as document 01 says: the reader's refusal, 11 with the length needed, or the length
+-- `write_canonical` answers as rules 5 and 12.1 say: the reader's refusal, 11 with the length needed, or the length
 -- written; and leaves the buffer so.
 -- By the laws of the entry for each outcome of the walk; where there is room for three times the input, nothing is
 -- measured.
@@ -6,7 +6,7 @@ use mathlib.Core.Path.{ap}
 use native.Mathlib.Omega.{arith}
 use borrow.Author.Needs.{needs}
 use Rattle.scan.proofs.AllLaws.{all-places}
-use Rattle.notepack.specs.Answers.{walk}
+use Rattle.notepack.specs.inner.Answers.{walk}
 use Rattle.notepack.proofs.Again.{accepted}
 use Rattle.canonical.proofs.Whole.{write-refused, write-short, write-fitted, write-wide}
 use Rattle.canonical.proofs.write_canonical.Statement.{statement}

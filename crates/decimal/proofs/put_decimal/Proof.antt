@@ -1,4 +1,5 @@
--- `put_decimal` fills an array from the back with the digits and writes them: the digits of what is left and those in the array are the digits of n.
+-- `put_decimal` fills an array from the back with the digits and writes them: the digits of what is left and those in
+-- the array are the digits of n.
 -- A turn is `decimal-more` and the law `back`; the array has room for them by `length-u64`.
 use Prim.Native.Nat.{_+_, _-_, _/_, _%_, _≤_}
 use mathlib.Core.Path.{_≡_, refl}

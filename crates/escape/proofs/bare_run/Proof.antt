@@ -7,7 +7,7 @@ use native.Mathlib.Omega.{arith}
 use borrow.Author.Needs.{needs}
 use lib.ListN.{length, drop}
 use Rattle.scan.proofs.BlockLaws.{stop-within, stop-more, stop-done}
-use Rattle.escape.specs.Block.{isEscaped, runOf}
+use Rattle.escape.specs.inner.Block.{isEscaped, runOf}
 use Rattle.escape.proofs.bare_run.Statement.{statement}
 use Rattle.escape.proofs.bare_run.Tie as tie
 

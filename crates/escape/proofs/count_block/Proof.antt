@@ -7,7 +7,8 @@ use mathlib.Core.Bool.{false}
 use native.Mathlib.Omega.{arith}
 use borrow.Author.Needs.{needs}
 use lib.ListN.{length, drop}
-use Rattle.escape.specs.Escape.{nsonByte, escaped, controls}
+use Rattle.escape.specs.Escape.{nsonByte, escaped}
+use Rattle.escape.specs.inner.Controls.{controls}
 use Rattle.escape.proofs.BlockLaws.{count-more, count-all, control-more, control-all}
 use Rattle.escape.proofs.count_block.Statement.{statement}
 use Rattle.escape.proofs.count_block.Tie as tie

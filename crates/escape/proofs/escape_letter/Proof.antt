@@ -1,7 +1,7 @@
 -- `escape_letter` makes the tests of `escapeLetter`, in its order.
 -- By `tests`: each return under the tests that lead to it.
 use Rattle.scan.proofs.Step.{tests}
-use Rattle.escape.specs.Block.{escapeLetter}
+use Rattle.escape.specs.inner.Block.{escapeLetter}
 use Rattle.escape.proofs.escape_letter.Statement.{statement}
 use Rattle.escape.proofs.escape_letter.Tie as tie
 

@@ -5,7 +5,7 @@ use mathlib.Core.Path.{_≡_}
 use native.Mathlib.Omega.{arith}
 use lib.ListN.{length, drop, length-take, length-drop}
 use Rattle.escape.specs.Escape.{escaped}
-use Rattle.escape.specs.Block.{byteBy}
+use Rattle.escape.specs.inner.Block.{byteBy}
 use Rattle.escape.proofs.ByteLaws.{escaping-by}
 use Rattle.escape.proofs.TextLaws.{length-least, length-most}
 use Rattle.escape.proofs.BlockLaws.{length-block, length-last}

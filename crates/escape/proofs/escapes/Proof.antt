@@ -7,7 +7,7 @@ use native.Mathlib.Omega.{arith}
 use borrow.Author.Needs.{needs}
 use lib.ListN.{length, drop}
 use Rattle.escape.specs.Escape.{escaped}
-use Rattle.escape.specs.Block.{byteBy}
+use Rattle.escape.specs.inner.Block.{byteBy}
 use Rattle.escape.proofs.BlockLaws.{count-more, count-all}
 use Rattle.escape.proofs.escapes.Statement.{statement}
 use Rattle.escape.proofs.escapes.Tie as tie

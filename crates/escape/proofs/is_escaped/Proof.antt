@@ -3,7 +3,7 @@
 use borrow.Author.Needs.{needs}
 use borrow.Author.Tests.{eq-eqb, ne-eqb}
 use Rattle.scan.proofs.Step.{tests}
-use Rattle.escape.specs.Block.{isEscaped}
+use Rattle.escape.specs.inner.Block.{isEscaped}
 use Rattle.escape.proofs.is_escaped.Statement.{statement}
 use Rattle.escape.proofs.is_escaped.Tie as tie
 

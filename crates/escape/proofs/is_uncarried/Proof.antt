@@ -2,7 +2,7 @@
 -- By `tests`: each return under the tests that lead to it.
 use native.Mathlib.Omega.{arith}
 use Rattle.scan.proofs.Step.{tests}
-use Rattle.escape.specs.Escape.{isUncarried}
+use Rattle.escape.specs.inner.Controls.{isUncarried}
 use Rattle.escape.proofs.is_uncarried.Statement.{statement}
 use Rattle.escape.proofs.is_uncarried.Tie as tie
 

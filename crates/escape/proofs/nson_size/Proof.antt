@@ -5,7 +5,8 @@ use mathlib.Core.Path.{_≡_}
 use mathlib.Core.Bool.{false}
 use native.Mathlib.Omega.{arith}
 use lib.ListN.{length, drop, length-take, length-drop}
-use Rattle.escape.specs.Escape.{nsonByte, escaped, controls, nsonText}
+use Rattle.escape.specs.Escape.{nsonByte, escaped}
+use Rattle.escape.specs.inner.Controls.{controls, nsonText}
 use Rattle.escape.proofs.ByteLaws.{escaping-by}
 use Rattle.escape.proofs.TextLaws.{length-least, length-most}
 use Rattle.escape.proofs.BlockLaws.{length-block, length-last, controls-block, controls-end}

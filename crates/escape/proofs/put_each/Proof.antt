@@ -7,7 +7,7 @@ use lib.ListN.{length, drop}
 use Rattle.scan.proofs.Step.{rest-none, rest-more}
 use Rattle.buffer.proofs.Laws.{Left, start, part, same, done}
 use Rattle.escape.specs.Escape.{escaped}
-use Rattle.escape.specs.Block.{byteBy}
+use Rattle.escape.specs.inner.Block.{byteBy}
 use Rattle.escape.proofs.TextLaws.{escaped-none, escaped-more}
 use Rattle.escape.proofs.put_each.Statement.{statement}
 use Rattle.escape.proofs.put_each.Tie as tie

@@ -8,7 +8,7 @@ use borrow.Author.Needs.{needs}
 use lib.ListN.{length, drop, length-set, length-take, length-drop}
 use Rattle.buffer.proofs.Laws.{Left, start, also, full, finish, kept}
 use Rattle.escape.specs.Escape.{escaped}
-use Rattle.escape.specs.Block.{byteBy}
+use Rattle.escape.specs.inner.Block.{byteBy}
 use Rattle.buffer.proofs.OverLaws.{two-bytes}
 use Rattle.scan.proofs.Step.{rest-whole}
 use Rattle.escape.proofs.BlockLaws.{run-written, run-letter}

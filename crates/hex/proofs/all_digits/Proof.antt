@@ -1,4 +1,5 @@
--- `all_digits` tests block by block. The invariant is one equation: the whole text passes exactly if the text from here does.
+-- `all_digits` tests block by block. The invariant is one equation: the whole text passes exactly if the text from here
+-- does.
 -- Each turn and each return is one law of a block.
 use Prim.Native.Nat.{_+_, _-_, _≤_}
 use mathlib.Core.Path.{_≡_, refl}

@@ -1,5 +1,7 @@
--- `hex_all` stores two digits for each byte. The invariant: what is left to write is the hex of s from i on, and the place is `at + 2 * i`.
--- A turn is two bytes of it, by `two-bytes`; the room is arithmetic on the requirement. The upper half of a byte is below 16.
+-- `hex_all` stores two digits for each byte. The invariant: what is left to write is the hex of s from i on, and the
+-- place is `at + 2 * i`.
+-- A turn is two bytes of it, by `two-bytes`; the room is arithmetic on the requirement. The upper half of a byte is
+-- below 16.
 use Prim.Native.Nat.{_+_, _*_, _-_, _/_, _%_, _≤_}
 use mathlib.Core.Path.{_≡_, refl}
 use native.Mathlib.Omega.{arith}

@@ -3,7 +3,7 @@
 use native.Mathlib.Omega.{arith}
 use borrow.Author.Needs.{needs}
 use borrow.Author.Tests.{lt-ltb, le-ltb}
-use Rattle.hex.specs.Block.{isOther}
+use Rattle.hex.specs.inner.Block.{isOther}
 use Rattle.hex.proofs.is_other.Statement.{statement}
 use Rattle.hex.proofs.is_other.Tie as tie
 

@@ -1,11 +1,12 @@
--- `others` counts the bytes of a block that are no digits. The invariant: the count and those that are left make the whole.
+-- `others` counts the bytes of a block that are no digits. The invariant: the count and those that are left make the
+-- whole.
 -- A byte adds 0 or 1, so the sum is at most i and fits a byte.
 use Prim.Native.Nat.{_+_, _-_, _≤_}
 use mathlib.Core.Path.{_≡_}
 use native.Mathlib.Omega.{arith}
 use borrow.Author.Needs.{needs}
 use lib.ListN.{length, drop}
-use Rattle.hex.specs.Block.{othersOf}
+use Rattle.hex.specs.inner.Block.{othersOf}
 use Rattle.hex.proofs.BlockLaws.{other-again, other-left}
 use Rattle.hex.proofs.others.Statement.{statement}
 use Rattle.hex.proofs.others.Tie as tie

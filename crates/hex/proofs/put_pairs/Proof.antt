@@ -1,4 +1,5 @@
--- `put_pairs` stores a byte for each two values. The invariant: what is left to write are the bytes of v from place 2 * i on.
+-- `put_pairs` stores a byte for each two values. The invariant: what is left to write are the bytes of v from place 2 *
+-- i on.
 -- A turn is `pairs-two` and one byte stored; a last value alone is no byte, by `pairs-ended`.
 use Prim.Native.Nat.{_+_, _*_, _-_, _/_, _≤_}
 use mathlib.Core.Path.{_≡_, refl, ap}
@@ -7,7 +8,7 @@ use native.Mathlib.Omega.{arith}
 use borrow.Author.Needs.{needs}
 use lib.ListN.{length, drop, length-set}
 use Rattle.buffer.proofs.Laws.{Left, start, byte, also, done}
-use Rattle.hex.specs.Block.{pairsOf}
+use Rattle.hex.specs.inner.Block.{pairsOf}
 use Rattle.hex.proofs.Pairs.{pairs-two, pairs-ended}
 use Rattle.hex.proofs.put_pairs.Statement.{statement}
 use Rattle.hex.proofs.put_pairs.Tie as tie

@@ -6,7 +6,7 @@ use native.Mathlib.Omega.{arith}
 use borrow.Author.Needs.{needs}
 use lib.ListN.{length, drop, length-set}
 use Rattle.buffer.proofs.Laws.{Left, start, byte, also, done}
-use Rattle.hex.specs.Block.{valuesOf}
+use Rattle.hex.specs.inner.Block.{valuesOf}
 use Rattle.hex.proofs.Pairs.{values-more, values-ended}
 use Rattle.hex.proofs.put_values.Statement.{statement}
 use Rattle.hex.proofs.put_values.Tie as tie

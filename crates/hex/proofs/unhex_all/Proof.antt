@@ -1,4 +1,5 @@
--- `unhex_all` goes in blocks of 64 digits. The invariant: what is left to write are the bytes of t from i on, and the place is `at + i / 2`.
+-- `unhex_all` goes in blocks of 64 digits. The invariant: what is left to write are the bytes of t from i on, and the
+-- place is `at + i / 2`.
 -- A turn is `unhex-block-on` and the block written; the rest is written pair by pair.
 use Prim.Native.Nat.{_+_, _*_, _-_, _≤_}
 use mathlib.Core.Path.{_≡_, refl, _∙_}

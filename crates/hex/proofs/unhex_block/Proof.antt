@@ -4,9 +4,9 @@ use mathlib.Core.Path.{_≡_, ap, _∙_}
 use native.Mathlib.Omega.{arith}
 use borrow.Author.Needs.{needs}
 use lib.ListN.{length}
-use Rattle.buffer.specs.Store.{Wrote}
+use Rattle.buffer.specs.inner.Store.{Wrote}
 use Rattle.hex.specs.Hex.{unhex}
-use Rattle.hex.specs.Block.{valuesOf, pairsOf}
+use Rattle.hex.specs.inner.Block.{valuesOf, pairsOf}
 use Rattle.buffer.proofs.Places.{all-over}
 use Rattle.hex.proofs.Pairs.{length-values, pairs-values}
 use Rattle.hex.proofs.unhex_block.Statement.{statement}

@@ -1,4 +1,5 @@
--- `unhex_each` stores a byte for each two digits. The invariant: what is left to write are the bytes of t from i on, and the place is `at + i / 2`.
+-- `unhex_each` stores a byte for each two digits. The invariant: what is left to write are the bytes of t from i on,
+-- and the place is `at + i / 2`.
 -- A turn is `unhex-two` and one byte stored; a last digit alone is no byte, by `unhex-ended`.
 use Prim.Native.Nat.{_+_, _*_, _-_, _≤_}
 use mathlib.Core.Path.{_≡_, refl}

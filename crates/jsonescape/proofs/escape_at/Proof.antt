@@ -1,7 +1,7 @@
 -- `escape_at` makes the test of `escapeAt` and asks for the letter or the unit.
 -- By what each call promises; past the end there is no letter.
 use mathlib.Core.Path.{sym}
-use Rattle.jsontext.specs.Escape.{escapeAt}
+use Rattle.jsontext.specs.inner.Escape.{escapeAt}
 use borrow.Author.Tests.{eq-eqb, ne-eqb}
 use borrow.Author.Needs.{needs}
 use Rattle.jsontext.proofs.EscapeLaws.{escape-none}

@@ -3,7 +3,7 @@
 use borrow.Author.Needs.{needs}
 use native.Mathlib.Omega.{arith}
 use Rattle.hex.proofs.Turn.{low-enough}
-use Rattle.jsontext.specs.Escape.{hexValue}
+use Rattle.jsontext.specs.inner.Escape.{hexValue}
 use Rattle.jsonescape.proofs.hex_value.Statement.{statement}
 use Rattle.jsonescape.proofs.hex_value.Tie as tie
 

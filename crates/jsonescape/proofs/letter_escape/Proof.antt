@@ -1,6 +1,6 @@
 -- `letter_escape` makes the test of `letterEscape`.
 -- By the test alone.
-use Rattle.jsontext.specs.Escape.{letterEscape}
+use Rattle.jsontext.specs.inner.Escape.{letterEscape}
 use borrow.Author.Tests.{eq-eqb, ne-eqb}
 use Rattle.jsonescape.proofs.letter_escape.Statement.{statement}
 use Rattle.jsonescape.proofs.letter_escape.Tie as tie

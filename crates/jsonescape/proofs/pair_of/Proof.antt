@@ -1,6 +1,6 @@
 -- `pair_of` makes the tests of `pairOf`.
 -- The first unit is a high surrogate, so that no difference falls below 0.
-use Rattle.jsontext.specs.Escape.{pairOf}
+use Rattle.jsontext.specs.inner.Escape.{pairOf}
 use borrow.Author.Tests.{le-ltb, lt-ltb}
 use borrow.Author.Needs.{needs}
 use Rattle.jsonescape.proofs.pair_of.Statement.{statement}

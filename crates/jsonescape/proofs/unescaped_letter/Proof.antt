@@ -1,6 +1,6 @@
 -- `unescaped_letter` makes the tests of `unescapedLetter`, in its order.
 -- By the tests alone.
-use Rattle.jsontext.specs.Escape.{unescapedLetter}
+use Rattle.jsontext.specs.inner.Escape.{unescapedLetter}
 use borrow.Author.Tests.{eq-eqb, ne-eqb}
 use Rattle.jsonescape.proofs.unescaped_letter.Statement.{statement}
 use Rattle.jsonescape.proofs.unescaped_letter.Tie as tie

@@ -1,6 +1,6 @@
 -- `unicode_at` makes the tests of `unicodeAt`, in its order.
 -- By what each call promises.
-use Rattle.jsontext.specs.Escape.{unicodeAt}
+use Rattle.jsontext.specs.inner.Escape.{unicodeAt}
 use borrow.Author.Tests.{le-ltb, lt-ltb}
 use borrow.Author.Needs.{needs}
 use Rattle.jsonescape.proofs.unicode_at.Statement.{statement}

@@ -1,6 +1,6 @@
 -- `unit_at` makes the tests of `unitAt` and reads the four digits.
 -- By what each call promises.
-use Rattle.jsontext.specs.Escape.{unitAt}
+use Rattle.jsontext.specs.inner.Escape.{unitAt}
 use borrow.Author.Tests.{eq-eqb, ne-eqb}
 use borrow.Author.Needs.{needs}
 use Rattle.jsonescape.proofs.unit_at.Statement.{statement}

@@ -1,6 +1,6 @@
 -- `unit_of` makes the tests of `unitOf`, one for each digit.
 -- Each digit is below 16, so that no sum wraps.
-use Rattle.jsontext.specs.Escape.{unitOf}
+use Rattle.jsontext.specs.inner.Escape.{unitOf}
 use borrow.Author.Tests.{le-ltb, lt-ltb}
 use borrow.Author.Needs.{needs}
 use Rattle.jsonescape.proofs.unit_of.Statement.{statement}

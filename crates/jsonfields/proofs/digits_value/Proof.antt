@@ -2,7 +2,7 @@
 -- By the laws of `Values` for each answer of the digits.
 use mathlib.Core.Path.{sym, ap, _∙_}
 use borrow.Author.Needs.{needs}
-use Rattle.decimal.specs.Decimal.{decimalRead}
+use Rattle.decimal.specs.inner.Run.{decimalRead}
 use Rattle.jsonfields.proofs.Values.{whole-number, whole-over, whole-number-on, whole-over-on, whole-none}
 use Rattle.jsonfields.proofs.digits_value.Statement.{statement}
 use Rattle.jsonfields.proofs.digits_value.Tie as tie

@@ -1,7 +1,7 @@
 -- `behind` goes behind a byte and white space; the end stays.
 -- By the test that the definition makes, and the promise of `past_space`.
 use borrow.Author.Tests.{le-ltb, lt-ltb}
-use Rattle.jsonread.specs.Copy.{behindAt}
+use Rattle.jsonread.specs.inner.Copy.{behindAt}
 use borrow.Author.Needs.{needs}
 use Rattle.jsonread.proofs.behind.Statement.{statement}
 use Rattle.jsonread.proofs.behind.Tie as tie

@@ -2,7 +2,7 @@
 -- By the laws of the length for each outcome of the first pass.
 use mathlib.Core.Path.{ap}
 use borrow.Author.Needs.{needs}
-use Rattle.jsonread.specs.Whole.{wholeRead}
+use Rattle.jsonread.specs.inner.Whole.{wholeRead}
 use Rattle.jsonread.proofs.Whole.{len-long, len-refused, len-shown}
 use Rattle.jsonread.proofs.json_len.Statement.{statement}
 use Rattle.jsonread.proofs.json_len.Tie as tie

@@ -2,7 +2,7 @@
 -- Nine writers in a row are one; content and tags are two writers each.
 use borrow.Author.Needs.{needs}
 use Rattle.buffer.proofs.Laws.{then, kept}
-use Rattle.jsonread.specs.Copy.{fieldsText}
+use Rattle.jsonread.specs.inner.Copy.{fieldsText}
 use Rattle.jsonread.proofs.put_event.Statement.{statement}
 use Rattle.jsonread.proofs.put_event.Tie as tie
 

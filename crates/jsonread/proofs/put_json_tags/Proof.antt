@@ -1,8 +1,9 @@
--- `put_json_tags` writes the strict tags as it reads them again. The invariant: what is left to write is the text of the tags left.
+-- `put_json_tags` writes the strict tags as it reads them again. The invariant: what is left to write is the text of
+-- the tags left.
 -- Each turn is one law: the count, the texts, and the tags behind where they end.
 use borrow.Author.Needs.{needs}
 use Rattle.buffer.proofs.Laws.{Left, start, part, done, also, same}
-use Rattle.jsonread.specs.Copy.{jsonTagsText}
+use Rattle.jsonread.specs.inner.Copy.{jsonTagsText}
 use Rattle.jsonread.proofs.Copying.{tags-again, tags-left}
 use Rattle.jsonread.proofs.put_json_tags.Statement.{statement}
 use Rattle.jsonread.proofs.put_json_tags.Tie as tie

@@ -2,7 +2,7 @@
 -- By the test that the definition makes.
 use borrow.Author.Needs.{needs}
 use borrow.Author.Tests.{eq-eqb, ne-eqb}
-use Rattle.jsonread.specs.Copy.{spotContent}
+use Rattle.jsonread.specs.inner.Copy.{spotContent}
 use Rattle.jsonread.proofs.put_text_spot.Statement.{statement}
 use Rattle.jsonread.proofs.put_text_spot.Tie as tie
 

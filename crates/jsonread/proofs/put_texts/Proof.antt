@@ -1,11 +1,12 @@
--- `put_texts` writes the texts of a tag as it reads them again. The invariant: what is left to write is the text of those left, and they end where all end.
+-- `put_texts` writes the texts of a tag as it reads them again. The invariant: what is left to write is the text of
+-- those left, and they end where all end.
 -- Each turn is one law, for a plain string and for any other; a refusal ends both alike.
 use Prim.Native.Nat.{_-_}
 use mathlib.Core.Path.{_≡_, refl, sym, ap, _∙_}
 use borrow.Author.Needs.{needs}
 use Rattle.buffer.proofs.Laws.{Left, start, part, done, also, same}
-use Rattle.jsonread.specs.Copy.{textsText, jsonTextsEnd}
-use Rattle.jsonstring.specs.Answers.{textRead}
+use Rattle.jsonread.specs.inner.Copy.{textsText, jsonTextsEnd}
+use Rattle.jsonstring.specs.inner.Answers.{textRead}
 use Rattle.jsonstring.proofs.PlainLaws.{told-own}
 use Rattle.jsonread.proofs.Copying.{texts-turn, texts-stop, texts-left, next-place, same-wrote}
 use Rattle.jsonread.proofs.put_texts.Statement.{statement}

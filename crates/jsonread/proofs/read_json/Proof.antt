@@ -1,8 +1,9 @@
--- `read_json` answers as document 01 says: 1, the reader's refusal, 11 with the length needed, or the length written; and leaves the buffer so.
+-- `read_json` answers as rules 7 and 12.1 say: 1, the reader's refusal, 11 with the length needed, or the length
+-- written; and leaves the buffer so.
 -- By the laws of the entry for each outcome of the first pass.
 use mathlib.Core.Path.{ap}
 use borrow.Author.Needs.{needs}
-use Rattle.jsonread.specs.Whole.{wholeRead}
+use Rattle.jsonread.specs.inner.Whole.{wholeRead}
 use Rattle.jsonread.proofs.Whole.{json-long, json-refused, json-short, json-fitted}
 use Rattle.jsonread.proofs.read_json.Statement.{statement}
 use Rattle.jsonread.proofs.read_json.Tie as tie

@@ -2,8 +2,8 @@
 -- By what was read.
 use mathlib.Core.Path.{sym, ap, _∙_}
 use borrow.Author.Needs.{needs}
-use Rattle.jsonread.specs.Copy.{textEnd}
-use Rattle.jsonstring.specs.Answers.{textRead}
+use Rattle.jsonread.specs.inner.Copy.{textEnd}
+use Rattle.jsonstring.specs.inner.Answers.{textRead}
 use Rattle.jsonread.proofs.text_end.Statement.{statement}
 use Rattle.jsonread.proofs.text_end.Tie as tie
 

@@ -1,6 +1,6 @@
 -- `whole_text` reads the object with white space around it, and 10 at anything behind.
 -- By the definition's tests, in its order.
-use Rattle.jsonread.specs.Whole.{wholeSpotsAt}
+use Rattle.jsonread.specs.inner.Whole.{wholeSpotsAt}
 use borrow.Author.Tests.{eq-eqb, ne-eqb}
 use borrow.Author.Needs.{needs}
 use Rattle.jsonread.proofs.whole_text.Statement.{statement}

@@ -5,8 +5,8 @@ use mathlib.Core.Path.{_≡_}
 use native.Mathlib.Omega.{arith}
 use borrow.Author.Needs.{needs}
 use lib.ListN.{length, getD, drop}
-use Rattle.scan.specs.Blocks.{neighbours}
-use Rattle.jsonstring.specs.Loose.{clashOf}
+use Rattle.scan.specs.inner.Blocks.{neighbours}
+use Rattle.jsonstring.specs.inner.Loose.{clashOf}
 use Rattle.scan.proofs.BlockLaws.{neighbours-again, neighbours-left}
 use Rattle.jsonstring.proofs.clashes.Statement.{statement}
 use Rattle.jsonstring.proofs.clashes.Tie as tie

@@ -1,7 +1,7 @@
 -- `is_special` makes the tests of `isSpecial`, in its order.
 -- By the tests alone.
 use borrow.Author.Tests.{lt-ltb, le-ltb, eq-eqb, ne-eqb}
-use Rattle.jsonstring.specs.Plain.{isSpecial}
+use Rattle.jsonstring.specs.inner.Plain.{isSpecial}
 use Rattle.jsonstring.proofs.is_special.Statement.{statement}
 use Rattle.jsonstring.proofs.is_special.Tie as tie
 

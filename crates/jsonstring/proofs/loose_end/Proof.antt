@@ -4,7 +4,7 @@ use Prim.Native.Nat.{_-_, _≤_}
 use native.Mathlib.Omega.{arith}
 use borrow.Author.Needs.{needs}
 use lib.ListN.{length}
-use Rattle.jsonstring.specs.Loose.{LooseTo, nothing}
+use Rattle.jsonstring.specs.inner.Loose.{LooseTo, nothing}
 use Rattle.jsonstring.proofs.Turn.{before-end}
 use Rattle.jsontext.proofs.EscapeLaws.{width-fits}
 use Rattle.jsonstring.proofs.LooseLaws.{then, then-bare, then-escape, loose-onward, loose-inside}

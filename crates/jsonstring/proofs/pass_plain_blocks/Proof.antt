@@ -4,7 +4,7 @@ use Prim.Native.Nat.{_-_}
 use native.Mathlib.Omega.{arith}
 use borrow.Author.Needs.{needs}
 use lib.ListN.{length}
-use Rattle.jsonstring.specs.Plain.{PlainTo}
+use Rattle.jsonstring.specs.inner.Plain.{PlainTo}
 use Rattle.jsonstring.proofs.PlainLaws.{plain-none, plain-block}
 use Rattle.jsonstring.proofs.pass_plain_blocks.Statement.{statement}
 use Rattle.jsonstring.proofs.pass_plain_blocks.Tie as tie

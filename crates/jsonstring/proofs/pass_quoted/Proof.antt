@@ -1,10 +1,11 @@
--- `pass_quoted` passes blocks without a clash. The invariant: bare bytes and escapes stand up to here, or up to the backslash before here.
+-- `pass_quoted` passes blocks without a clash. The invariant: bare bytes and escapes stand up to here, or up to the
+-- backslash before here.
 -- A block is one use of `quoting-block`: the part `&s[i - 1..e]` is `take (e - (i - 1)) (drop (i - 1) s)`.
 use Prim.Native.Nat.{_-_, _≤_}
 use native.Mathlib.Omega.{arith}
 use borrow.Author.Needs.{needs}
 use lib.ListN.{length}
-use Rattle.jsonstring.specs.Loose.{nothing}
+use Rattle.jsonstring.specs.inner.Loose.{nothing}
 use Rattle.jsonstring.proofs.ClashLaws.{Quoting, quoting-start, quoting-block}
 use Rattle.jsonstring.proofs.pass_quoted.Statement.{statement}
 use Rattle.jsonstring.proofs.pass_quoted.Tie as tie

@@ -5,9 +5,9 @@ use mathlib.Core.Path.{_≡_}
 use native.Mathlib.Omega.{arith}
 use borrow.Author.Needs.{needs}
 use lib.ListN.{length, drop}
-use Rattle.scan.specs.Blocks.{beforeStop}
+use Rattle.scan.specs.inner.Blocks.{beforeStop}
 use Rattle.scan.proofs.BlockLaws.{stop-within, stop-more, stop-done}
-use Rattle.jsonstring.specs.Plain.{isSpecial}
+use Rattle.jsonstring.specs.inner.Plain.{isSpecial}
 use Rattle.jsonstring.proofs.plain_prefix.Statement.{statement}
 use Rattle.jsonstring.proofs.plain_prefix.Tie as tie
 

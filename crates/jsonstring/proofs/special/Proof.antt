@@ -2,7 +2,7 @@
 -- Each of them is at most 1.
 use native.Mathlib.Omega.{arith}
 use borrow.Author.Needs.{needs}
-use Rattle.jsonstring.specs.Plain.{specialOf}
+use Rattle.jsonstring.specs.inner.Plain.{specialOf}
 use Rattle.jsonstring.proofs.special.Statement.{statement}
 use Rattle.jsonstring.proofs.special.Tie as tie
 

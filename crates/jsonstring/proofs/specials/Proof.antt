@@ -5,8 +5,8 @@ use mathlib.Core.Path.{_≡_}
 use native.Mathlib.Omega.{arith}
 use borrow.Author.Needs.{needs}
 use lib.ListN.{length, drop}
-use Rattle.jsonstring.specs.Plain.{specialOf}
-use Rattle.scan.specs.Blocks.{sumOf}
+use Rattle.jsonstring.specs.inner.Plain.{specialOf}
+use Rattle.scan.specs.inner.Blocks.{sumOf}
 use Rattle.scan.proofs.BlockLaws.{sum-again, sum-left}
 use Rattle.jsonstring.proofs.specials.Statement.{statement}
 use Rattle.jsonstring.proofs.specials.Tie as tie

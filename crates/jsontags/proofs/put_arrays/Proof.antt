@@ -4,8 +4,8 @@
 use mathlib.Core.List.{map}
 use borrow.Author.Needs.{needs}
 use Rattle.buffer.proofs.Laws.{Left, start, part, done, also, same}
-use Rattle.escape.specs.Escape.{byteOf}
-use Rattle.notepack.specs.Again.{tagsAgain}
+use Rattle.escape.specs.inner.Which.{byteOf}
+use Rattle.notepack.specs.inner.Again.{tagsAgain}
 use Rattle.jsontags.specs.TagText.{commaed, tagText}
 use Rattle.jsontags.proofs.Turns.{arrays-turn, arrays-left}
 use Rattle.jsontags.proofs.put_arrays.Statement.{statement}

@@ -5,8 +5,8 @@ use mathlib.Core.Path.{_≡_, refl, sym, _∙_}
 use mathlib.Core.List.{map}
 use borrow.Author.Needs.{needs}
 use Rattle.buffer.proofs.Laws.{Left, start, part, done, also, same}
-use Rattle.escape.specs.Escape.{byteOf}
-use Rattle.notepack.specs.Again.{textsAgain, textsEnd}
+use Rattle.escape.specs.inner.Which.{byteOf}
+use Rattle.notepack.specs.inner.Again.{textsAgain, textsEnd}
 use Rattle.notepack.proofs.Again.{texts-turn, texts-left}
 use Rattle.jsontags.specs.TagText.{quoted, commaed}
 use Rattle.jsontags.proofs.Turns.{strings-turn, strings-left}

@@ -1,6 +1,6 @@
 -- `escape_or_itself` makes the test of `orItself`.
 -- By what the call promises.
-use Rattle.jsontext.specs.Escape.{orItself}
+use Rattle.jsontext.specs.inner.Escape.{orItself}
 use borrow.Author.Tests.{eq-eqb, ne-eqb}
 use borrow.Author.Needs.{needs}
 use Rattle.jsonunescape.proofs.escape_or_itself.Statement.{statement}

@@ -1,11 +1,12 @@
--- `even_pairs` looks block by block for odd bytes. The invariant is one equation: there are as many in the whole as there are from here on.
+-- `even_pairs` looks block by block for odd bytes. The invariant is one equation: there are as many in the whole as
+-- there are from here on.
 -- A block is one use of `pairs-again`, or of `pairs-odd` where it has one.
 use Prim.Native.Nat.{_-_, _≤_}
 use mathlib.Core.Path.{_≡_, refl}
 use native.Mathlib.Omega.{arith}
 use lib.ListN.{length, getD, drop, length-take, length-drop}
-use Rattle.scan.specs.Blocks.{neighbours}
-use Rattle.jsonunescape.specs.Short.{oddOf}
+use Rattle.scan.specs.inner.Blocks.{neighbours}
+use Rattle.jsonunescape.specs.inner.Short.{oddOf}
 use Rattle.jsonunescape.proofs.ShortLaws.{pairs-again, pairs-odd, pairs-rest}
 use Rattle.jsonunescape.proofs.even_pairs.Statement.{statement}
 use Rattle.jsonunescape.proofs.even_pairs.Tie as tie

@@ -1,4 +1,5 @@
--- `four_plain` looks at four bytes. Where it says true, none of them is a backslash, and the run goes on behind them (`run-four`).
+-- `four_plain` looks at four bytes. Where it says true, none of them is a backslash, and the run goes on behind them
+-- (`run-four`).
 -- Where it says false, it promises nothing.
 use native.Mathlib.Omega.{arith}
 use borrow.Author.Needs.{needs}

@@ -1,10 +1,11 @@
--- `next_backslash` runs over the bytes that are no backslash, blocks first. The invariant is one equation: the run from the start ends where the run from here ends.
+-- `next_backslash` runs over the bytes that are no backslash, blocks first. The invariant is one equation: the run from
+-- the start ends where the run from here ends.
 -- Each turn is one law of `plains`.
 use Prim.Native.Nat.{_-_}
 use mathlib.Core.Path.{_≡_, _∙_}
 use borrow.Author.Needs.{needs}
 use lib.ListN.{length}
-use Rattle.jsonunescape.specs.Run.{backslashAt}
+use Rattle.jsonunescape.specs.inner.Run.{backslashAt}
 use Rattle.jsonunescape.proofs.RunLaws.{plains}
 use Rattle.jsonunescape.proofs.next_backslash.Statement.{statement}
 use Rattle.jsonunescape.proofs.next_backslash.Tie as tie

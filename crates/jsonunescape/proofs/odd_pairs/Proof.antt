@@ -1,12 +1,13 @@
--- `odd_pairs` adds up the odd bytes of a block behind its first. The invariant: the sum and what is left make the whole.
+-- `odd_pairs` adds up the odd bytes of a block behind its first. The invariant: the sum and what is left make the
+-- whole.
 -- A byte adds at most 1, so the sum is at most 128 and fits a byte.
 use Prim.Native.Nat.{_+_, _-_, _≤_}
 use mathlib.Core.Path.{_≡_}
 use native.Mathlib.Omega.{arith}
 use borrow.Author.Needs.{needs}
 use lib.ListN.{length, getD, drop}
-use Rattle.scan.specs.Blocks.{neighbours}
-use Rattle.jsonunescape.specs.Short.{oddOf}
+use Rattle.scan.specs.inner.Blocks.{neighbours}
+use Rattle.jsonunescape.specs.inner.Short.{oddOf}
 use Rattle.scan.proofs.BlockLaws.{neighbours-again, neighbours-left}
 use Rattle.jsonunescape.proofs.odd_pairs.Statement.{statement}
 use Rattle.jsonunescape.proofs.odd_pairs.Tie as tie

@@ -1,10 +1,11 @@
--- `pass_fours` passes four bytes a turn. The invariant is one equation: the run from the start ends where the run from here ends.
+-- `pass_fours` passes four bytes a turn. The invariant is one equation: the run from the start ends where the run from
+-- here ends.
 -- A turn is what `four_plain` says.
 use Prim.Native.Nat.{_-_, _≤_}
 use mathlib.Core.Path.{_≡_, refl, _∙_}
 use native.Mathlib.Omega.{arith}
 use lib.ListN.{length}
-use Rattle.jsonunescape.specs.Run.{backslashAt}
+use Rattle.jsonunescape.specs.inner.Run.{backslashAt}
 use borrow.Author.Tests.{not-false}
 use Rattle.jsonunescape.proofs.pass_fours.Statement.{statement}
 use Rattle.jsonunescape.proofs.pass_fours.Tie as tie

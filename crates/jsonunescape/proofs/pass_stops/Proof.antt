@@ -1,11 +1,12 @@
--- `pass_stops` passes blocks without a stop. The invariant is one equation: the run from the start ends where the run from here ends.
+-- `pass_stops` passes blocks without a stop. The invariant is one equation: the run from the start ends where the run
+-- from here ends.
 -- A block is one use of `run-block`: the part `&t[i..e]` is `take (e - i) (drop i t)`.
 use Prim.Native.Nat.{_-_, _≤_}
 use mathlib.Core.Path.{_≡_, refl}
 use native.Mathlib.Omega.{arith}
 use borrow.Author.Needs.{needs}
 use lib.ListN.{length}
-use Rattle.jsonunescape.specs.Run.{backslashAt}
+use Rattle.jsonunescape.specs.inner.Run.{backslashAt}
 use Rattle.jsonunescape.proofs.RunLaws.{run-block}
 use Rattle.jsonunescape.proofs.pass_stops.Statement.{statement}
 use Rattle.jsonunescape.proofs.pass_stops.Tie as tie

@@ -1,4 +1,5 @@
--- `put_fours` writes a run four bytes a turn. The invariant: what was written is the run from the start to here, and the place is within the output.
+-- `put_fours` writes a run four bytes a turn. The invariant: what was written is the run from the start to here, and
+-- the place is within the output.
 -- A turn is `ran-four`, with what `four_plain` and `put_four` promise.
 use Prim.Native.Nat.{_-_, _≤_}
 use native.Mathlib.Omega.{arith}
@@ -6,7 +7,7 @@ use borrow.Author.Needs.{needs}
 use borrow.Author.Tests.{not-false}
 use lib.ListN.{length}
 use Rattle.buffer.proofs.Laws.{kept}
-use Rattle.jsonunescape.specs.Run.{Ran}
+use Rattle.jsonunescape.specs.inner.Run.{Ran}
 use Rattle.jsonunescape.proofs.RunLaws.{ran-none, ran-four}
 use Rattle.jsonunescape.proofs.put_fours.Statement.{statement}
 use Rattle.jsonunescape.proofs.put_fours.Tie as tie

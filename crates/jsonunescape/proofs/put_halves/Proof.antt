@@ -1,4 +1,5 @@
--- `put_halves` writes a byte for each two digits. The invariant: what is left to write are the bytes of the half that is read and of t from here on.
+-- `put_halves` writes a byte for each two digits. The invariant: what is left to write are the bytes of the half that
+-- is read and of t from here on.
 -- A turn is `held-byte` and one byte written, or `held-half` and none.
 use Prim.Native.Nat.{_-_}
 use mathlib.Core.Path.{_≡_, refl, sym, ap, _∙_}
@@ -8,7 +9,7 @@ use lib.ListN.{length, drop}
 use Rattle.scan.proofs.Step.{rest-more, rest-none}
 use Rattle.buffer.proofs.Laws.{Left, start, one, also, done, same}
 use Rattle.hex.specs.Hex.{unhex}
-use Rattle.jsonunescape.specs.Half.{held, halfBehind}
+use Rattle.jsonunescape.specs.inner.Half.{held, halfBehind}
 use Rattle.jsonunescape.proofs.Parts.{held-byte, held-half, held-end, behind-byte, behind-half, behind-end}
 use Rattle.jsonunescape.proofs.put_halves.Statement.{statement}
 use Rattle.jsonunescape.proofs.put_halves.Tie as tie

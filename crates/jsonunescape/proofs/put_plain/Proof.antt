@@ -5,7 +5,7 @@ use native.Mathlib.Omega.{arith}
 use borrow.Author.Needs.{needs}
 use lib.ListN.{length}
 use Rattle.buffer.proofs.Laws.{kept}
-use Rattle.jsonunescape.specs.Run.{Ran}
+use Rattle.jsonunescape.specs.inner.Run.{Ran}
 use Rattle.jsonunescape.proofs.RunLaws.{plain-left, plain-broke, ran-none, ran-byte}
 use Rattle.jsonunescape.proofs.put_plain.Statement.{statement}
 use Rattle.jsonunescape.proofs.put_plain.Tie as tie

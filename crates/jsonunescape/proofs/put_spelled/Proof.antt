@@ -1,11 +1,12 @@
 -- `put_spelled` writes the text. The invariant: what is left to write is the text from here on.
--- A turn writes a run, by `unescape-run`, and what an escape stands for: by `letter-text` where it is a letter's, and else by `turn-text`.
+-- A turn writes a run, by `unescape-run`, and what an escape stands for: by `letter-text` where it is a letter's, and
+-- else by `turn-text`.
 use Prim.Native.Nat.{_-_}
 use native.Mathlib.Omega.{arith}
 use borrow.Author.Needs.{needs}
 use lib.ListN.{length, drop}
 use Rattle.buffer.proofs.Laws.{Left, start, part, one, also, done, same, kept}
-use Rattle.jsontext.specs.Escape.{unescape}
+use Rattle.jsontext.specs.inner.Escape.{unescape}
 use Rattle.jsonunescape.proofs.Unescape.{unescape-run, unescape-end, turn-text, steps}
 use Rattle.jsonunescape.proofs.Letters.{letter-fits, letter-less, letter-text}
 use Rattle.jsonunescape.proofs.put_spelled.Statement.{statement}

@@ -6,8 +6,8 @@ use borrow.Author.Needs.{needs}
 use lib.ListN.{length, drop}
 use Rattle.buffer.proofs.Laws.{Left, start, part, also, done, same, kept}
 use Rattle.hex.specs.Hex.{unhex}
-use Rattle.jsontext.specs.Escape.{unescape}
-use Rattle.jsonunescape.specs.Half.{held}
+use Rattle.jsontext.specs.inner.Escape.{unescape}
+use Rattle.jsonunescape.specs.inner.Half.{held}
 use Rattle.jsonunescape.proofs.Unescape.{steps}
 use Rattle.jsonunescape.proofs.Parts.{held-none, unhex-run, unhex-escape, unhex-end, with-half}
 use Rattle.jsonunescape.proofs.put_spelled_unhex.Statement.{statement}

@@ -1,11 +1,12 @@
--- `slashes` adds up the backslashes block by block. The invariant: the sum and what is left make the whole, and it is no more than was passed.
+-- `slashes` adds up the backslashes block by block. The invariant: the sum and what is left make the whole, and it is
+-- no more than was passed.
 -- A block is one use of `sum-block`: the part `&t[i..e]` is `take (e - i) (drop i t)`.
 use Prim.Native.Nat.{_+_, _-_, _≤_}
 use mathlib.Core.Path.{_≡_}
 use native.Mathlib.Omega.{arith}
 use lib.ListN.{length, drop, length-take, length-drop}
-use Rattle.jsonunescape.specs.Run.{isSlash}
-use Rattle.scan.specs.Blocks.{sumOf}
+use Rattle.jsonunescape.specs.inner.Run.{isSlash}
+use Rattle.scan.specs.inner.Blocks.{sumOf}
 use Rattle.scan.proofs.BlockLaws.{sum-left, sum-block}
 use Rattle.jsonunescape.proofs.slashes.Statement.{statement}
 use Rattle.jsonunescape.proofs.slashes.Tie as tie

@@ -2,7 +2,7 @@
 -- Each of them is at most 1.
 use native.Mathlib.Omega.{arith}
 use borrow.Author.Needs.{needs}
-use Rattle.jsonunescape.specs.Run.{isSlash, stopOf}
+use Rattle.jsonunescape.specs.inner.Run.{isSlash, stopOf}
 use Rattle.jsonunescape.proofs.stop_of.Statement.{statement}
 use Rattle.jsonunescape.proofs.stop_of.Tie as tie
 

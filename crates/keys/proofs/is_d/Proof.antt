@@ -1,7 +1,7 @@
 -- `is_d` says whether the first of n texts is `d`.
 -- The same tests as the definition, in its order.
 use borrow.Author.Tests.{le-ltb, lt-ltb}
-use Rattle.keys.specs.Place.{isD}
+use Rattle.keys.specs.inner.Place.{isD}
 use borrow.Author.Needs.{needs}
 use Rattle.keys.proofs.is_d.Statement.{statement}
 use Rattle.keys.proofs.is_d.Tie as tie

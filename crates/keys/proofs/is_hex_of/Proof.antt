@@ -1,4 +1,5 @@
--- `is_hex_of` compares a text with the hex of bytes, two digits for each. The invariant is one equation: the answer is that for what is left of both.
+-- `is_hex_of` compares a text with the hex of bytes, two digits for each. The invariant is one equation: the answer is
+-- that for what is left of both.
 -- Each turn and each end is one law of `Loops`; a slice's numbers are bytes.
 use Prim.Native.Nat.{_≤_, _-_}
 use mathlib.Core.Path.{_≡_, refl, sym, _∙_}

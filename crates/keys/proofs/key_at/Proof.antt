@@ -1,7 +1,7 @@
 -- `key_at` finds where the key of a packed event stands.
 -- The same tests as the definition, in its order.
 use borrow.Author.Needs.{needs}
-use Rattle.keys.specs.Place.{keyAt}
+use Rattle.keys.specs.inner.Place.{keyAt}
 use Rattle.keys.proofs.key_at.Statement.{statement}
 use Rattle.keys.proofs.key_at.Tie as tie
 

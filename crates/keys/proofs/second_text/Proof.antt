@@ -1,6 +1,6 @@
 -- `second_text` gives the key by the second of n texts.
 -- The same test as the definition.
-use Rattle.keys.specs.Place.{secondAt}
+use Rattle.keys.specs.inner.Place.{secondAt}
 use borrow.Author.Tests.{le-ltb, lt-ltb}
 use borrow.Author.Needs.{needs}
 use Rattle.keys.proofs.second_text.Statement.{statement}

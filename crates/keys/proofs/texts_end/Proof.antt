@@ -3,7 +3,7 @@
 use mathlib.Core.Path.{_≡_, refl, sym, _∙_}
 use native.Mathlib.Omega.{arith}
 use borrow.Author.Needs.{needs}
-use Rattle.notepack.specs.Again.{textsEnd}
+use Rattle.notepack.specs.inner.Again.{textsEnd}
 use Rattle.notepack.proofs.Again.{texts-turn, texts-left}
 use Rattle.keys.proofs.texts_end.Statement.{statement}
 use Rattle.keys.proofs.texts_end.Tie as tie

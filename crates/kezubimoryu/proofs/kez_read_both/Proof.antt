@@ -1,4 +1,5 @@
--- The entry answers the two numbers of the two readers' comparison, tells the length and leaves both buffers as that does.
+-- The entry answers the two numbers of the two readers' comparison, tells the length and leaves both buffers as that
+-- does.
 -- By what its callee told, case by case.
 use mathlib.Core.Path.{refl}
 use borrow.Author.Needs.{needs}

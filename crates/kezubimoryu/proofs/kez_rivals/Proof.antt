@@ -1,4 +1,5 @@
--- The entry answers the two numbers of `rivals`: not rivals is 0, the first 1, the second 2; or the refusal of whichever input is refused.
+-- The entry answers the two numbers of `rivals`: not rivals is 0, the first 1, the second 2; or the refusal of
+-- whichever input is refused.
 -- By what its callee told, case by case.
 use borrow.Author.Needs.{needs}
 use Rattle.kezubimoryu.proofs.kez_rivals.Statement.{statement}

@@ -2,7 +2,7 @@
 -- By what its callee told, case by case.
 use mathlib.Core.Path.{refl}
 use borrow.Author.Needs.{needs}
-use Rattle.notepack.specs.Again.{countAgain}
+use Rattle.notepack.specs.inner.Again.{countAgain}
 use Rattle.notepack.proofs.count_again.Statement.{statement}
 use Rattle.notepack.proofs.count_again.Tie as tie
 

@@ -1,7 +1,7 @@
 -- `find_part` walks to element j of tag i: the tag's start, then past j elements, or 19.
 -- The same tests as the definition, in its order.
 use borrow.Author.Tests.{le-ltb, lt-ltb}
-use Rattle.notepack.specs.Views.{elementPlace}
+use Rattle.notepack.specs.inner.Places.{elementPlace}
 use borrow.Author.Needs.{needs}
 use Rattle.notepack.proofs.find_part.Statement.{statement}
 use Rattle.notepack.proofs.find_part.Tie as tie

@@ -1,6 +1,6 @@
 -- `find_tag` walks to tag i: the event's numbers, then past i tags to the count, or 19.
 -- The same tests as the definition, in its order.
-use Rattle.notepack.specs.Views.{tagStart}
+use Rattle.notepack.specs.inner.Places.{tagStart}
 use borrow.Author.Tests.{le-ltb, lt-ltb}
 use borrow.Author.Needs.{needs}
 use Rattle.notepack.proofs.find_tag.Statement.{statement}

@@ -2,7 +2,7 @@
 -- By the promises of `varint_len`; the sum fits, since the content is within the limit.
 use native.Mathlib.Omega.{arith}
 use borrow.Author.Needs.{needs}
-use Rattle.notepack.specs.Tally.{headLen}
+use Rattle.notepack.specs.inner.Tally.{headLen}
 use Rattle.notepack.proofs.head_len.Statement.{statement}
 use Rattle.notepack.proofs.head_len.Tie as tie
 

@@ -1,6 +1,6 @@
 -- `is_hollow` says whether a part is raw and empty.
 -- The same tests as the definition, in its order.
-use Rattle.notepack.specs.Tally.{isHollow}
+use Rattle.notepack.specs.inner.Tally.{isHollow}
 use Rattle.notepack.proofs.is_hollow.Statement.{statement}
 use Rattle.notepack.proofs.is_hollow.Tie as tie
 

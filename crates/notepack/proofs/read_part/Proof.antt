@@ -1,7 +1,7 @@
 -- `read_part` reads an element's part again.
 -- By what its two callees told, case by case.
 use borrow.Author.Needs.{needs}
-use Rattle.notepack.specs.Again.{elementPartAt}
+use Rattle.notepack.specs.inner.Again.{elementPartAt}
 use Rattle.notepack.proofs.read_part.Statement.{statement}
 use Rattle.notepack.proofs.read_part.Tie as tie
 

@@ -5,7 +5,7 @@ use mathlib.Core.Bool.{false}
 use borrow.Author.Needs.{needs}
 use Rattle.notepack.specs.declared.Tally.{Tally}
 use Rattle.notepack.specs.Unpack.{elementAt}
-use Rattle.notepack.specs.Answers.{pass}
+use Rattle.notepack.specs.inner.Answers.{pass}
 use Rattle.notepack.proofs.Viewing.{skip-elements}
 use Rattle.notepack.proofs.skip_elements.Statement.{statement}
 use Rattle.notepack.proofs.skip_elements.Tie as tie

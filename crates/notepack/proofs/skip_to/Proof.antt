@@ -5,7 +5,7 @@ use mathlib.Core.Bool.{false}
 use borrow.Author.Needs.{needs}
 use Rattle.notepack.specs.declared.Tally.{Tally}
 use Rattle.notepack.specs.Unpack.{tagCountAt}
-use Rattle.notepack.specs.Answers.{pass}
+use Rattle.notepack.specs.inner.Answers.{pass}
 use Rattle.notepack.proofs.Viewing.{skip-tags}
 use Rattle.notepack.proofs.skip_to.Statement.{statement}
 use Rattle.notepack.proofs.skip_to.Tie as tie

@@ -2,7 +2,7 @@
 -- By the laws of `Walking` for each way it can end.
 use mathlib.Core.Path.{_≡_, sym, ap, _∙_}
 use borrow.Author.Needs.{needs}
-use Rattle.notepack.specs.Answers.{headRead}
+use Rattle.notepack.specs.inner.Answers.{headRead}
 use Rattle.notepack.proofs.Walking.{walk-long, walk-front}
 use Rattle.notepack.proofs.walk_packed.Statement.{statement}
 use Rattle.notepack.proofs.walk_packed.Tie as tie

@@ -6,7 +6,7 @@ use mathlib.Core.Path.{_≡_, ap}
 use native.Mathlib.Omega.{arith}
 use borrow.Author.Needs.{needs}
 use Rattle.scan.proofs.AllLaws.{all-places}
-use Rattle.notepack.specs.Answers.{pass}
+use Rattle.notepack.specs.inner.Answers.{pass}
 use Rattle.notepack.proofs.Walking.{content-short, head-room, walk-done, walk-after, walk-refused}
 use Rattle.notepack.proofs.walk_tags.Statement.{statement}
 use Rattle.notepack.proofs.walk_tags.Tie as tie

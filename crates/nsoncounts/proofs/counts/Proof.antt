@@ -2,7 +2,7 @@
 -- The size's two digits stand at 318, so the descriptors begin at 320 and end at 575 or before.
 use mathlib.Core.Path.{sym, ap, _∙_}
 use native.Mathlib.Omega.{arith}
-use Rattle.nsoncounts.specs.Answers.{skip}
+use Rattle.nsoncounts.specs.inner.Answers.{skip}
 use Rattle.nsoncounts.proofs.Counting.{field-stops, field-counts}
 use borrow.Author.Needs.{needs}
 use Rattle.nsoncounts.proofs.counts.Statement.{statement}

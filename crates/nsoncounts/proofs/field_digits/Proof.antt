@@ -2,7 +2,7 @@
 -- By the definition's two tests.
 use borrow.Author.Tests.{eq-eqb, ne-eqb}
 use borrow.Author.Needs.{needs}
-use Rattle.nsoncounts.specs.Counted.{fieldDigits}
+use Rattle.nsoncounts.specs.inner.Counted.{fieldDigits}
 use Rattle.nsoncounts.proofs.field_digits.Statement.{statement}
 use Rattle.nsoncounts.proofs.field_digits.Tie as tie
 

@@ -1,6 +1,6 @@
 -- `is_full_width`: whether digits that end at a place are n, with no leading zero unless it is all.
 -- By the definition's tests.
-use Rattle.nsoncounts.specs.Counted.{fullWidth}
+use Rattle.nsoncounts.specs.inner.Counted.{fullWidth}
 use borrow.Author.Tests.{eq-eqb, ne-eqb}
 use borrow.Author.Needs.{needs}
 use Rattle.nsoncounts.proofs.is_full_width.Statement.{statement}

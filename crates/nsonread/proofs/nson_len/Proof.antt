@@ -2,7 +2,7 @@
 -- By what the walk says of each.
 use mathlib.Core.Path.{ap}
 use borrow.Author.Needs.{needs}
-use Rattle.nsonwalk.specs.Answers.{nsonWalk}
+use Rattle.nsonwalk.specs.inner.Answers.{nsonWalk}
 use Rattle.nsonread.proofs.Whole.{len-refused, len-shown}
 use Rattle.nsonread.proofs.nson_len.Statement.{statement}
 use Rattle.nsonread.proofs.nson_len.Tie as tie

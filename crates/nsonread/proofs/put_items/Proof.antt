@@ -1,11 +1,12 @@
--- `put_items` writes the elements one after the other. The invariant: what is left to write is the text of the items left, and they end where all end.
+-- `put_items` writes the elements one after the other. The invariant: what is left to write is the text of the items
+-- left, and they end where all end.
 -- A turn is one law of `Writing`; a count is at most 65,535, so no place passes a word.
 use borrow.Author.Needs.{needs}
 use Prim.Native.Nat.{_+_, _*_, _≤_}
 use mathlib.Core.Path.{_≡_, refl, sym, _∙_}
 use native.Mathlib.Omega.{arith}
 use Rattle.buffer.proofs.Laws.{Left, start, part, done, also, same}
-use Rattle.nsonread.specs.Copy.{itemsText, itemsEnd}
+use Rattle.nsonread.specs.inner.Copy.{itemsText, itemsEnd}
 use Rattle.nsonread.proofs.Writing.{items-write, items-written}
 use Rattle.nsonread.proofs.put_items.Statement.{statement}
 use Rattle.nsonread.proofs.put_items.Tie as tie

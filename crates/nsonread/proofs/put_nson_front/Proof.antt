@@ -1,7 +1,7 @@
 -- `put_nson_front` writes all in front of the tags, piece by piece.
 -- Eight writers in a row are one.
 use Rattle.buffer.proofs.Laws.{then, kept}
-use Rattle.nsonread.specs.Copy.{nsonFrontText}
+use Rattle.nsonread.specs.inner.Copy.{nsonFrontText}
 use borrow.Author.Needs.{needs}
 use Rattle.nsonread.proofs.put_nson_front.Statement.{statement}
 use Rattle.nsonread.proofs.put_nson_front.Tie as tie

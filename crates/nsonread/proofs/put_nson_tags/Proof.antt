@@ -1,10 +1,12 @@
--- `put_nson_tags` writes the tags one after the other: a count, then the elements. The invariant: what is left to write is the text of the tags left.
--- A turn is one law of `Writing`; a tag's items end less than 16,712,192 bytes behind its bracket, so no place passes a word.
+-- `put_nson_tags` writes the tags one after the other: a count, then the elements. The invariant: what is left to write
+-- is the text of the tags left.
+-- A turn is one law of `Writing`; a tag's items end less than 16,712,192 bytes behind its bracket, so no place passes a
+-- word.
 use borrow.Author.Needs.{needs}
 use Prim.Native.Nat.{_+_, _*_, _≤_}
 use native.Mathlib.Omega.{arith}
 use Rattle.buffer.proofs.Laws.{Left, start, part, done, also, same}
-use Rattle.nsonread.specs.Copy.{nsonTagsText}
+use Rattle.nsonread.specs.inner.Copy.{nsonTagsText}
 use Rattle.nsonread.proofs.Writing.{tags-write, tags-written}
 use Rattle.nsonread.proofs.put_nson_tags.Statement.{statement}
 use Rattle.nsonread.proofs.put_nson_tags.Tie as tie

@@ -2,7 +2,7 @@
 -- Two writers in a row are one.
 use native.Mathlib.Omega.{arith}
 use Rattle.buffer.proofs.Laws.{then}
-use Rattle.nsonread.specs.Copy.{strictOf}
+use Rattle.nsonread.specs.inner.Copy.{strictOf}
 use borrow.Author.Needs.{needs}
 use Rattle.nsonread.proofs.put_strict_of.Statement.{statement}
 use Rattle.nsonread.proofs.put_strict_of.Tie as tie

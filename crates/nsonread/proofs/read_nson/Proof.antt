@@ -1,7 +1,8 @@
--- `read_nson` answers as document 01 says: the refusal, 11 with the length needed, or the length written; and leaves the buffer so.
+-- `read_nson` answers as rules 6 and 12.1 say: the refusal, 11 with the length needed, or the length written; and
+-- leaves the buffer so.
 -- By the laws of the entry for each outcome of the walk.
 use mathlib.Core.Path.{ap}
-use Rattle.nsonwalk.specs.Answers.{nsonWalk}
+use Rattle.nsonwalk.specs.inner.Answers.{nsonWalk}
 use Rattle.nsonread.proofs.Whole.{write-refused, write-short, write-fitted}
 use borrow.Author.Needs.{needs}
 use Rattle.nsonread.proofs.read_nson.Statement.{statement}

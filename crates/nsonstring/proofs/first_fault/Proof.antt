@@ -1,5 +1,6 @@
 use borrow.Author.Needs.{needs}
--- `first_fault` goes character by character. The invariant is `At`: the earliest fault of the whole is the earliest from here on.
+-- `first_fault` goes character by character. The invariant is `At`: the earliest fault of the whole is the earliest
+-- from here on.
 -- Every turn and every way out is one law of `turns`.
 use Prim.Native.Nat.{_-_}
 use native.Mathlib.Omega.{arith}

@@ -1,5 +1,6 @@
 use borrow.Author.Needs.{needs}
--- `is_spelled` goes from backslash to backslash. The invariant is `Before`: if the text from here on is quoted, the whole is.
+-- `is_spelled` goes from backslash to backslash. The invariant is `Before`: if the text from here on is quoted, the
+-- whole is.
 -- Each turn is one law of `Runs`; every way out with no says nothing.
 use Prim.Native.Nat.{_-_, _≤_}
 use native.Mathlib.Omega.{arith}

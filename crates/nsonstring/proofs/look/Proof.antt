@@ -1,4 +1,5 @@
--- `look`: a simple text that is UTF-8 has no fault, and its escapes tell the length; else each by the function that tells it.
+-- `look`: a simple text that is UTF-8 has no fault, and its escapes tell the length; else each by the function that
+-- tells it.
 -- By `seen-simple`; all ASCII is UTF-8. The part from the start on is the whole.
 use Prim.Native.Nat.{ℕ}
 use mathlib.Core.Path.{sym, ap, _∙_}
@@ -7,7 +8,7 @@ use borrow.Author.Needs.{needs}
 use lib.ListN.{length}
 use lib.Seq.{take-length}
 use Rattle.utf8.proofs.Laws.{is-utf8}
-use Rattle.jsontext.specs.Escape.{unescape}
+use Rattle.jsontext.specs.inner.Escape.{unescape}
 use Rattle.nsonstring.proofs.Simple.{simple-ascii, simple-most, seen-none, seen-simple}
 use Rattle.nsonstring.proofs.look.Statement.{statement}
 use Rattle.nsonstring.proofs.look.Tie as tie

@@ -5,10 +5,10 @@ use mathlib.Core.Path.{_≡_}
 use native.Mathlib.Omega.{arith}
 use borrow.Author.Needs.{needs}
 use lib.ListN.{length, getD, drop}
-use Rattle.scan.specs.Blocks.{neighbours}
+use Rattle.scan.specs.inner.Blocks.{neighbours}
 use Rattle.scan.proofs.BlockLaws.{neighbours-again, neighbours-left}
-use Rattle.jsonstring.specs.Loose.{clashOf}
-use Rattle.nsonstring.specs.Simple.{slashOf, highOf}
+use Rattle.jsonstring.specs.inner.Loose.{clashOf}
+use Rattle.nsonstring.specs.inner.Simple.{slashOf, highOf}
 use Rattle.nsonstring.proofs.look_at.Statement.{statement}
 use Rattle.nsonstring.proofs.look_at.Tie as tie
 

@@ -2,8 +2,8 @@
 -- Each way out is one law of `Parts`.
 use mathlib.Core.Path.{sym, ap, _∙_}
 use native.Mathlib.Omega.{arith}
-use Rattle.nsoncounts.specs.Counted.{countsOf}
-use Rattle.nsoncounts.specs.Answers.{amountRead}
+use Rattle.nsoncounts.specs.inner.Counted.{countsOf}
+use Rattle.nsoncounts.specs.inner.Answers.{amountRead}
 use Rattle.nsonwalk.proofs.Parts.{kind-stops, content-stops, tags-stop, body-found}
 use borrow.Author.Needs.{needs}
 use Rattle.nsonwalk.proofs.body.Statement.{statement}

@@ -2,7 +2,7 @@
 -- Each way out is one law of `Parts`.
 use mathlib.Core.Path.{sym, ap, _∙_}
 use native.Mathlib.Omega.{arith}
-use Rattle.nsoncounts.specs.Answers.{skip}
+use Rattle.nsoncounts.specs.inner.Answers.{skip}
 use Rattle.nsonwalk.proofs.Parts.{mark-stops, content-gathered}
 use borrow.Author.Needs.{needs}
 use Rattle.nsonwalk.proofs.content_part.Statement.{statement}

@@ -1,4 +1,5 @@
--- `counted_element_len`: a text of as many bytes as were counted is those bytes; else the length is measured escape by escape.
+-- `counted_element_len`: a text of as many bytes as were counted is those bytes; else the length is measured escape by
+-- escape.
 -- By what the caller knows of such a text.
 use mathlib.Core.Path.{sym, ap, _∙_}
 use mathlib.Core.List.{List}

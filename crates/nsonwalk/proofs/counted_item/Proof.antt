@@ -2,7 +2,7 @@
 -- Each way out is one law of `Sizing`. An element is at most ten bytes longer than its text.
 use mathlib.Core.Path.{sym, ap, _∙_}
 use native.Mathlib.Omega.{arith}
-use Rattle.nsoncounts.specs.Answers.{skip, amountRead}
+use Rattle.nsoncounts.specs.inner.Answers.{skip, amountRead}
 use Rattle.nsonwalk.proofs.Sizing.{quote-stops, text-stops, end-stops, item-gathered}
 use Rattle.nsoncounts.proofs.Spelling.{no-escape}
 use borrow.Author.Needs.{needs}

@@ -1,12 +1,13 @@
--- `counted_items` gathers the length of the items' elements. The invariant is one equation: all items are those that are left behind what was gathered.
+-- `counted_items` gathers the length of the items' elements. The invariant is one equation: all items are those that
+-- are left behind what was gathered.
 -- A turn is one law of `Turns`. An element is at most `elementMost` bytes long, so nothing passes a word.
 use borrow.Author.Needs.{needs}
-use Rattle.nsonwalk.specs.Walk.{elementMost}
+use Rattle.nsonwalk.specs.inner.Walk.{elementMost}
 use Prim.Native.Nat.{_+_, _*_, _≤_}
 use mathlib.Core.Path.{_≡_, refl, sym, ap, _∙_}
 use mathlib.Core.Bool.{false}
 use native.Mathlib.Omega.{arith}
-use Rattle.nsoncounts.specs.Answers.{skip, amountRead}
+use Rattle.nsoncounts.specs.inner.Answers.{skip, amountRead}
 use Rattle.nsonwalk.proofs.Turns.{itemsLeft, items-turn, items-comma, items-item, items-done}
 use Rattle.nsonwalk.proofs.counted_items.Statement.{statement}
 use Rattle.nsonwalk.proofs.counted_items.Tie as tie

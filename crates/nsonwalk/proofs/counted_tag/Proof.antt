@@ -4,8 +4,8 @@ use mathlib.Core.Path.{sym, ap, _∙_}
 use native.Mathlib.Omega.{arith}
 use Rattle.notepack.specs.Strict.{packElements, packTag}
 use Rattle.nson.specs.Read.{itemAt, tagAt}
-use Rattle.nsoncounts.specs.Counted.{itemSizes}
-use Rattle.nsoncounts.specs.Answers.{skip, amountRead}
+use Rattle.nsoncounts.specs.inner.Counted.{itemSizes}
+use Rattle.nsoncounts.specs.inner.Answers.{skip, amountRead}
 use Rattle.nsonwalk.proofs.Sizing.{open-stops, inside-stops, close-stops, tag-gathered}
 use borrow.Author.Needs.{needs}
 use Rattle.nsonwalk.proofs.counted_tag.Statement.{statement}

@@ -4,8 +4,8 @@ use mathlib.Core.Path.{sym, ap, _∙_}
 use native.Mathlib.Omega.{arith}
 use Rattle.notepack.specs.Strict.{packTags}
 use Rattle.nson.specs.Read.{tagAt, tagsAt}
-use Rattle.nsoncounts.specs.Counted.{tagSizes}
-use Rattle.nsoncounts.specs.Answers.{skip, amountRead}
+use Rattle.nsoncounts.specs.inner.Counted.{tagSizes}
+use Rattle.nsoncounts.specs.inner.Answers.{skip, amountRead}
 use Rattle.nsonwalk.proofs.Sizing.{open-stops, inside-stops, close-stops}
 use Rattle.nsonwalk.proofs.Parts.{tags-gathered}
 use borrow.Author.Needs.{needs}

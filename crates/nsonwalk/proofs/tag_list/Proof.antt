@@ -1,12 +1,14 @@
--- `tag_list` gathers the length of the tags' strict form. The invariant is one equation: all tags are those that are left behind what was gathered.
--- A turn is one law of `Turns`. A tag is at most `tagMost` bytes long and has at most 255 counts, so nothing passes a word.
+-- `tag_list` gathers the length of the tags' strict form. The invariant is one equation: all tags are those that are
+-- left behind what was gathered.
+-- A turn is one law of `Turns`. A tag is at most `tagMost` bytes long and has at most 255 counts, so nothing passes a
+-- word.
 use borrow.Author.Needs.{needs}
-use Rattle.nsonwalk.specs.Walk.{tagMost}
+use Rattle.nsonwalk.specs.inner.Walk.{tagMost}
 use Prim.Native.Nat.{_+_, _*_, _≤_}
 use mathlib.Core.Path.{_≡_, refl, sym, ap, _∙_}
 use mathlib.Core.Bool.{false}
 use native.Mathlib.Omega.{arith}
-use Rattle.nsoncounts.specs.Answers.{skip, amountRead}
+use Rattle.nsoncounts.specs.inner.Answers.{skip, amountRead}
 use Rattle.nsonwalk.proofs.Turns.{tagsLeft, tags-turn, tags-comma, tags-tag, tags-done}
 use Rattle.nsonwalk.proofs.tag_list.Statement.{statement}
 use Rattle.nsonwalk.proofs.tag_list.Tie as tie

@@ -2,8 +2,8 @@
 -- Each way out is one law of `Parts`.
 use mathlib.Core.Path.{sym, ap, _∙_}
 use native.Mathlib.Omega.{arith}
-use Rattle.nsoncounts.specs.Counted.{tagSizes}
-use Rattle.nsoncounts.specs.Answers.{skip, amountRead}
+use Rattle.nsoncounts.specs.inner.Counted.{tagSizes}
+use Rattle.nsoncounts.specs.inner.Answers.{skip, amountRead}
 use Rattle.nsonwalk.proofs.Parts.{label-stops, list-stops, brace-stops, part-gathered}
 use borrow.Author.Needs.{needs}
 use Rattle.nsonwalk.proofs.tags_part.Statement.{statement}

@@ -2,8 +2,8 @@
 -- Each way out is one law of `Walking`; the counts are small, and so are the places that follow from them.
 use mathlib.Core.Path.{sym, ap, _∙_}
 use native.Mathlib.Omega.{arith}
-use Rattle.nsoncounts.specs.Answers.{amountRead, sizesRead}
-use Rattle.nsonwalk.specs.Answers.{bodyRead}
+use Rattle.nsoncounts.specs.inner.Answers.{amountRead, sizesRead}
+use Rattle.nsonwalk.specs.inner.Answers.{bodyRead}
 use Rattle.nsonwalk.proofs.Walking.{walk-long, walk-head, walk-counts, walk-body, walk-end, walk-done}
 use borrow.Author.Needs.{needs}
 use Rattle.nsonwalk.proofs.walk_text.Statement.{statement}

@@ -2,7 +2,7 @@
 -- Test by test.
 use borrow.Author.Tests.{le-leb, lt-leb}
 use Rattle.scan.specs.Place.{within}
-use Rattle.nsonwrite.specs.Measure.{measuredFit}
+use Rattle.nsonwrite.specs.inner.Measure.{measuredFit}
 use Rattle.nsonwrite.proofs.is_carried.Statement.{statement}
 use Rattle.nsonwrite.proofs.is_carried.Tie as tie
 

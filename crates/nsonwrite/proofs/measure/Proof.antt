@@ -3,8 +3,8 @@
 -- By what its callees told; every piece is bounded, so the sums fit.
 use native.Mathlib.Omega.{arith}
 use borrow.Author.Needs.{needs}
-use Rattle.notepack.specs.Again.{eventAgain}
-use Rattle.nsonwrite.specs.Measure.{lengthWith}
+use Rattle.notepack.specs.inner.Again.{eventAgain}
+use Rattle.nsonwrite.specs.inner.Measure.{lengthWith}
 use Rattle.nsonwrite.proofs.measure.Statement.{statement}
 use Rattle.nsonwrite.proofs.measure.Tie as tie
 

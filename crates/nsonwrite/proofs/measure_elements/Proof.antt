@@ -12,13 +12,13 @@ use borrow.Author.Needs.{needs}
 use Rattle.buffer.proofs.Laws.{Left, start, part, done, also, same}
 use Rattle.escape.specs.Escape.{nsonByte}
 use Rattle.notepack.specs.Unpack.{textOf}
-use Rattle.notepack.specs.Again.{textsAgain, textsEnd}
+use Rattle.notepack.specs.inner.Again.{textsAgain, textsEnd}
 use Rattle.notepack.proofs.Again.{texts-turn, texts-left}
 use Rattle.jsontags.specs.TagText.{quoted, commaed}
 use Rattle.jsontags.proofs.Texts.{length-quoted}
 use Rattle.jsontags.proofs.Turns.{strings-count, strings-left}
-use Rattle.nson.specs.Carries.{allFit}
-use Rattle.nsonwrite.specs.Measure.{cutWords}
+use Rattle.nson.specs.inner.Decision.{allFit}
+use Rattle.nsonwrite.specs.inner.Measure.{cutWords}
 use Rattle.nsonwrite.proofs.Turns.{text-fit, all-fit-more, all-fit-none, words-more, words-none}
 use Rattle.nsonwrite.proofs.measure_elements.Statement.{statement}
 use Rattle.nsonwrite.proofs.measure_elements.Tie as tie

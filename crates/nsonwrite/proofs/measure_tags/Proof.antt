@@ -12,12 +12,12 @@ use borrow.Author.Needs.{needs}
 use Rattle.scan.proofs.AllLaws.{all-places}
 use Rattle.buffer.proofs.Laws.{Left, start, part, done, also, same}
 use Rattle.escape.specs.Escape.{nsonByte}
-use Rattle.notepack.specs.Again.{tagsAgain}
+use Rattle.notepack.specs.inner.Again.{tagsAgain}
 use Rattle.notepack.proofs.Again.{texts-count, tags-turn, tags-left, count-few}
 use Rattle.jsontags.specs.TagText.{commaed, tagText}
 use Rattle.jsontags.proofs.Turns.{arrays-count, arrays-left}
-use Rattle.nson.specs.Carries.{tagsFit}
-use Rattle.nsonwrite.specs.Measure.{cutCounts}
+use Rattle.nson.specs.inner.Decision.{tagsFit}
+use Rattle.nsonwrite.specs.inner.Measure.{cutCounts}
 use Rattle.nsonwrite.proofs.Turns.{tags-fit-more, tags-fit-none, counts-more, counts-none}
 use Rattle.nsonwrite.proofs.measure_tags.Statement.{statement}
 use Rattle.nsonwrite.proofs.measure_tags.Tie as tie

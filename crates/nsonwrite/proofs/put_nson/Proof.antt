@@ -2,7 +2,7 @@
 -- Three writers in a row are one.
 use borrow.Author.Needs.{needs}
 use Rattle.buffer.proofs.Laws.{then}
-use Rattle.nsonwrite.specs.Measure.{nsonWith}
+use Rattle.nsonwrite.specs.inner.Measure.{nsonWith}
 use Rattle.nsonwrite.proofs.put_nson.Statement.{statement}
 use Rattle.nsonwrite.proofs.put_nson.Tie as tie
 

@@ -2,7 +2,7 @@
 -- Seven writers in a row are one.
 use borrow.Author.Needs.{needs}
 use Rattle.buffer.proofs.Laws.{then}
-use Rattle.notepack.specs.Again.{eventAgain}
+use Rattle.notepack.specs.inner.Again.{eventAgain}
 use Rattle.nsonwrite.proofs.Whole.{body-wrote}
 use Rattle.nsonwrite.proofs.put_nson_body.Statement.{statement}
 use Rattle.nsonwrite.proofs.put_nson_body.Tie as tie

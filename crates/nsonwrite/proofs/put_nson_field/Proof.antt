@@ -3,7 +3,7 @@
 -- Two writers in a row are one.
 use borrow.Author.Needs.{needs}
 use Rattle.buffer.proofs.Laws.{then}
-use Rattle.nsonwrite.specs.Measure.{fieldWith}
+use Rattle.nsonwrite.specs.inner.Measure.{fieldWith}
 use Rattle.nsonwrite.proofs.put_nson_field.Statement.{statement}
 use Rattle.nsonwrite.proofs.put_nson_field.Tie as tie
 

@@ -2,7 +2,7 @@
 -- Nine writers in a row are one.
 use borrow.Author.Needs.{needs}
 use Rattle.buffer.proofs.Laws.{then, kept}
-use Rattle.notepack.specs.Again.{eventAgain}
+use Rattle.notepack.specs.inner.Again.{eventAgain}
 use Rattle.nson.specs.Nson.{headText}
 use Rattle.nsonwrite.proofs.put_nson_head.Statement.{statement}
 use Rattle.nsonwrite.proofs.put_nson_head.Tie as tie

@@ -1,12 +1,12 @@
--- `write_nson` answers as document 01 says: the reader's refusal, 17, 11 with the length needed, or the length written;
--- and leaves the buffer so.
+-- `write_nson` answers as rules 6 and 12.1 say: the reader's refusal, 17, 11 with the length needed, or the length
+-- written; and leaves the buffer so.
 -- By the laws of the entry for each outcome of the walk and of the measure.
 use mathlib.Core.Path.{refl, ap}
 use native.Mathlib.Omega.{arith}
 use borrow.Author.Needs.{needs}
 use Rattle.scan.proofs.AllLaws.{all-places}
-use Rattle.notepack.specs.Again.{eventAgain}
-use Rattle.notepack.specs.Answers.{walk}
+use Rattle.notepack.specs.inner.Again.{eventAgain}
+use Rattle.notepack.specs.inner.Answers.{walk}
 use Rattle.notepack.proofs.Again.{accepted}
 use Rattle.nsonwrite.proofs.Entry.{measured-good, measured-bad, write-refused, write-misfit, write-short, write-fitted}
 use Rattle.nsonwrite.proofs.write_nson.Statement.{statement}

@@ -2,7 +2,7 @@
 -- By the laws of `Choosing` for each way it can end.
 use mathlib.Core.Path.{ap}
 use borrow.Author.Needs.{needs}
-use Rattle.notepack.specs.Answers.{headRead}
+use Rattle.notepack.specs.inner.Answers.{headRead}
 use Rattle.rivals.proofs.Choosing.{refused-first, refused-second, told-rivals, told-strangers}
 use Rattle.rivals.proofs.compare.Statement.{statement}
 use Rattle.rivals.proofs.compare.Tie as tie

@@ -2,7 +2,7 @@
 -- 1 and 0 are at most 1.
 use native.Mathlib.Omega.{arith}
 use borrow.Author.Tests.{lt-ltb, le-ltb}
-use Rattle.scan.specs.Blocks.{controlCount}
+use Rattle.scan.specs.inner.Blocks.{controlCount}
 use Rattle.scan.proofs.control_count.Statement.{statement}
 use Rattle.scan.proofs.control_count.Tie as tie
 

@@ -1,4 +1,5 @@
--- `is_lower` finds the first difference. The invariant is one equation: the answer for both is the answer for what is left of both.
+-- `is_lower` finds the first difference. The invariant is one equation: the answer for both is the answer for what is
+-- left of both.
 -- Each turn and each end is one law of `lowers`.
 use Prim.Native.Nat.{_≤_, _-_}
 use mathlib.Core.Path.{_≡_, refl}

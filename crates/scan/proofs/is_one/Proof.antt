@@ -2,7 +2,7 @@
 -- 1 and 0 are at most 1.
 use native.Mathlib.Omega.{arith}
 use borrow.Author.Tests.{eq-eqb, ne-eqb}
-use Rattle.scan.specs.Blocks.{isOne}
+use Rattle.scan.specs.inner.Blocks.{isOne}
 use Rattle.scan.proofs.is_one.Statement.{statement}
 use Rattle.scan.proofs.is_one.Tie as tie
 

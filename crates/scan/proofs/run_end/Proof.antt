@@ -1,4 +1,5 @@
--- `run_end` finds the end of the run. The invariant is one equation: the run from the start ends where the run from here does.
+-- `run_end` finds the end of the run. The invariant is one equation: the run from the start ends where the run from
+-- here does.
 -- Each turn is one law of `runs`, which takes what the loop knows.
 use Prim.Native.Nat.{_-_}
 use mathlib.Core.Path.{_≡_}

@@ -1,4 +1,5 @@
--- `same_bytes` compares byte by byte. The invariant is one equation: the answer for both is the answer for what is left of both.
+-- `same_bytes` compares byte by byte. The invariant is one equation: the answer for both is the answer for what is left
+-- of both.
 -- Each turn and each end is one law of `sames`.
 use Prim.Native.Nat.{_≤_, _-_}
 use mathlib.Core.Path.{_≡_, refl}

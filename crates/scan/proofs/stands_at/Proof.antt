@@ -1,4 +1,5 @@
--- `stands_at` compares byte by byte where bytes enough are left. The invariant is one equation: w stands at `at` exactly if the rest of w begins the rest of s.
+-- `stands_at` compares byte by byte where bytes enough are left. The invariant is one equation: w stands at `at`
+-- exactly if the rest of w begins the rest of s.
 -- Each turn is one law of `stands`, which takes what the loop knows.
 use Prim.Native.Nat.{_+_, _-_, _≤_}
 use mathlib.Core.Path.{_≡_}

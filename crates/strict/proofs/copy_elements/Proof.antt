@@ -5,7 +5,7 @@ use mathlib.Core.Path.{_≡_, refl, sym, ap, _∙_}
 use borrow.Author.Needs.{needs}
 use Rattle.buffer.proofs.Laws.{Left, start, part, done, also, same}
 use Rattle.notepack.specs.Strict.{packElements}
-use Rattle.notepack.specs.Again.{textsAgain, textsEnd}
+use Rattle.notepack.specs.inner.Again.{textsAgain, textsEnd}
 use Rattle.notepack.proofs.Again.{texts-turn, texts-left}
 use Rattle.strict.proofs.copy_elements.Statement.{statement}
 use Rattle.strict.proofs.copy_elements.Tie as tie

@@ -6,7 +6,7 @@ use Prim.Native.Nat.{_-_}
 use borrow.Author.Needs.{needs}
 use Rattle.buffer.proofs.Laws.{Left, start, part, done, also, same}
 use Rattle.notepack.specs.Strict.{packTags}
-use Rattle.notepack.specs.Again.{tagsAgain}
+use Rattle.notepack.specs.inner.Again.{tagsAgain}
 use Rattle.notepack.proofs.Again.{tags-turn, tags-left}
 use Rattle.strict.proofs.Laws.{tag-more}
 use Rattle.strict.proofs.copy_tags.Statement.{statement}

@@ -5,7 +5,7 @@ use mathlib.Core.Path.{ap}
 use native.Mathlib.Omega.{arith}
 use borrow.Author.Needs.{needs}
 use Rattle.scan.proofs.AllLaws.{all-places}
-use Rattle.notepack.specs.Answers.{walk}
+use Rattle.notepack.specs.inner.Answers.{walk}
 use Rattle.notepack.proofs.Again.{accepted}
 use Rattle.strict.proofs.Laws.{strict-so, strict-not, strict-refused}
 use Rattle.strict.proofs.is_strict.Statement.{statement}

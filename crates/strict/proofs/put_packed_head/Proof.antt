@@ -2,7 +2,7 @@
 -- Six writers in a row are one.
 use borrow.Author.Needs.{needs}
 use Rattle.buffer.proofs.Laws.{then}
-use Rattle.strict.specs.Copy.{packedHead}
+use Rattle.strict.specs.inner.Copy.{packedHead}
 use Rattle.strict.proofs.put_packed_head.Statement.{statement}
 use Rattle.strict.proofs.put_packed_head.Tie as tie
 

@@ -1,11 +1,11 @@
--- `write_strict` answers as document 01 says: the reader's refusal, 11 with the length needed, or the length written;
--- and leaves the buffer so.
+-- `write_strict` answers as rules 3 and 12.1 say: the reader's refusal, 11 with the length needed, or the length
+-- written; and leaves the buffer so.
 -- By the laws of the entry for each outcome of the walk.
 use mathlib.Core.Path.{sym, ap, _∙_}
 use native.Mathlib.Omega.{arith}
 use borrow.Author.Needs.{needs}
 use Rattle.scan.proofs.AllLaws.{all-places}
-use Rattle.notepack.specs.Answers.{walk}
+use Rattle.notepack.specs.inner.Answers.{walk}
 use Rattle.notepack.proofs.Again.{accepted}
 use Rattle.strict.proofs.Laws.{refusal-told, refusal-leaves, write-short, write-fitted}
 use Rattle.strict.proofs.write_strict.Statement.{statement}

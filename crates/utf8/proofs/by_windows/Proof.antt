@@ -6,7 +6,7 @@ use mathlib.Core.List.{[], _∷_, _++_}
 use native.Mathlib.Omega.{arith}
 use borrow.Author.Needs.{needs}
 use lib.ListN.{length}
-use Rattle.utf8.specs.Misfit.{misfits, misfitsFrom}
+use Rattle.utf8.specs.inner.Misfit.{misfits, misfitsFrom}
 use Rattle.utf8.proofs.MisfitLaws.{misfit-found, misfits-all, from-end}
 use Rattle.utf8.proofs.by_windows.Statement.{statement}
 use Rattle.utf8.proofs.by_windows.Tie as tie

@@ -1,10 +1,11 @@
--- `count_misfits` adds up the windows from place to place. The invariant: the sum and what misfits from here on make all from the start.
+-- `count_misfits` adds up the windows from place to place. The invariant: the sum and what misfits from here on make
+-- all from the start.
 -- A window adds 0 or 1, so the sum is at most the places passed and fits a byte.
 use Prim.Native.Nat.{_+_, _-_, _≤_}
 use mathlib.Core.Path.{_≡_}
 use native.Mathlib.Omega.{arith}
 use borrow.Author.Needs.{needs}
-use Rattle.utf8.specs.Misfit.{misfitsFrom}
+use Rattle.utf8.specs.inner.Misfit.{misfitsFrom}
 use Rattle.utf8.proofs.MisfitLaws.{from-step}
 use Rattle.utf8.proofs.count_misfits.Statement.{statement}
 use Rattle.utf8.proofs.count_misfits.Tie as tie

@@ -1,7 +1,7 @@
 -- `four_of` makes the tests of `fourOf`, in its order.
 -- Each return is the definition at the answers of the calls on the way.
 use borrow.Author.Needs.{needs}
-use Rattle.utf8.specs.Width.{fourOf}
+use Rattle.utf8.specs.inner.Width.{fourOf}
 use Rattle.utf8.proofs.four_of.Statement.{statement}
 use Rattle.utf8.proofs.four_of.Tie as tie
 

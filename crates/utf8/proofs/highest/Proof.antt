@@ -5,7 +5,7 @@ use mathlib.Core.Path.{_≡_}
 use mathlib.Core.Logic.{⊎-elim}
 use native.Mathlib.Omega.{arith}
 use lib.ListN.{length, drop}
-use Rattle.utf8.specs.Block.{highest}
+use Rattle.utf8.specs.inner.Block.{highest}
 use Rattle.utf8.proofs.BlockLaws.{top-more, top-same, top-left}
 use Rattle.utf8.proofs.highest.Statement.{statement}
 use Rattle.utf8.proofs.highest.Tie as tie

@@ -2,7 +2,7 @@
 -- Each return is the definition at the tests on the way.
 use mathlib.Core.Path.{refl}
 use native.Mathlib.Omega.{arith}
-use Rattle.utf8.specs.Misfit.{misfit}
+use Rattle.utf8.specs.inner.Misfit.{misfit}
 use borrow.Author.Tests.{eq-eqb, le-leb, le-ltb, lt-leb, lt-ltb, ne-eqb}
 use borrow.Author.Needs.{needs}
 use Rattle.utf8.proofs.misfit.Statement.{statement}

@@ -4,7 +4,7 @@ use Prim.Native.Nat.{_-_}
 use native.Mathlib.Omega.{arith}
 use borrow.Author.Needs.{needs}
 use lib.ListN.{length}
-use Rattle.utf8.specs.Block.{Passed}
+use Rattle.utf8.specs.inner.Block.{Passed}
 use Rattle.utf8.proofs.BlockLaws.{passed-none, walks}
 use Rattle.utf8.proofs.pass_sequences.Statement.{statement}
 use Rattle.utf8.proofs.pass_sequences.Tie as tie

@@ -1,7 +1,7 @@
 -- `second_low` makes the two tests of `secondLow`, in its order.
 -- By `tests`: each return under the test that leads to it.
 use Rattle.scan.proofs.Step.{tests}
-use Rattle.utf8.specs.Width.{secondLow}
+use Rattle.utf8.specs.inner.Width.{secondLow}
 use Rattle.utf8.proofs.second_low.Statement.{statement}
 use Rattle.utf8.proofs.second_low.Tie as tie
 

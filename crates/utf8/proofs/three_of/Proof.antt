@@ -1,7 +1,7 @@
 -- `three_of` makes the tests of `threeOf`, in its order.
 -- Each return is the definition at the answers of the calls on the way.
 use borrow.Author.Needs.{needs}
-use Rattle.utf8.specs.Width.{threeOf}
+use Rattle.utf8.specs.inner.Width.{threeOf}
 use Rattle.utf8.proofs.three_of.Statement.{statement}
 use Rattle.utf8.proofs.three_of.Tie as tie
 

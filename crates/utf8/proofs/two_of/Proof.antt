@@ -1,7 +1,7 @@
 -- `two_of` makes the test of `twoOf`.
 -- Each return is the definition at the test's answer.
 use borrow.Author.Needs.{needs}
-use Rattle.utf8.specs.Width.{twoOf}
+use Rattle.utf8.specs.inner.Width.{twoOf}
 use Rattle.utf8.proofs.two_of.Statement.{statement}
 use Rattle.utf8.proofs.two_of.Tie as tie
 

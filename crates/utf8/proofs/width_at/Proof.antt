@@ -1,11 +1,12 @@
--- `width_at` asks the width of the four bytes at its place; ASCII is told before they are read, and past the end it is 0.
+-- `width_at` asks the width of the four bytes at its place; ASCII is told before they are read, and past the end it is
+-- 0.
 -- The bounds are the laws `width-most` and `width-left`, said of the result.
 use Prim.Native.Nat.{ℕ, _-_, _≤_}
 use mathlib.Core.Path.{_≡_, sym}
 use mathlib.Core.List.{List}
 use borrow.Author.Needs.{needs}
 use lib.ListN.{length}
-use Rattle.utf8.specs.Width.{widthAt}
+use Rattle.utf8.specs.inner.Width.{widthAt}
 use Rattle.utf8.proofs.WidthLaws.{width-here, width-none, width-ascii, width-most, width-left}
 use Rattle.utf8.proofs.width_at.Statement.{statement}
 use Rattle.utf8.proofs.width_at.Tie as tie

@@ -2,7 +2,7 @@
 -- By `tests`: each return under the tests that lead to it.
 use borrow.Author.Needs.{needs}
 use Rattle.scan.proofs.Step.{tests}
-use Rattle.utf8.specs.Width.{widthOf}
+use Rattle.utf8.specs.inner.Width.{widthOf}
 use Rattle.utf8.proofs.width_of.Statement.{statement}
 use Rattle.utf8.proofs.width_of.Tie as tie
 

@@ -1,4 +1,5 @@
--- `varint_len` counts the bytes of the shortest spelling. The invariant: what is counted and what the rest takes are one more than the whole.
+-- `varint_len` counts the bytes of the shortest spelling. The invariant: what is counted and what the rest takes are
+-- one more than the whole.
 -- Each turn is `length-more`; the bound is `length-ten`.
 use Prim.Native.Nat.{_+_, _≤_}
 use mathlib.Core.Path.{_≡_}

@@ -1,5 +1,7 @@
--- `Cursor::decimal` reads the run of digits. The invariant is `Reading`: the digits so far are a span, and what they spell is at most the maximum.
--- Each turn and each return is one law of `Turn`; no digit stands where the loop ended, whether the input ended there or a byte was no digit.
+-- `Cursor::decimal` reads the run of digits. The invariant is `Reading`: the digits so far are a span, and what they
+-- spell is at most the maximum.
+-- Each turn and each return is one law of `Turn`; no digit stands where the loop ended, whether the input ended there
+-- or a byte was no digit.
 use Prim.Native.Nat.{_-_}
 use mathlib.Core.Path.{sym, _∙_}
 use mathlib.Core.Logic.{⊎-elim}

@@ -1,6 +1,6 @@
 -- `bytes_value` reads n bytes in lowercase hex: the string's refusal first, then 12, else their spot.
 -- By the definition's tests, in its order.
-use Rattle.jsonfields.specs.Spots.{hexSpotAt}
+use Rattle.jsonfields.specs.inner.Spots.{hexSpotAt}
 use borrow.Author.Needs.{needs}
 use Rattle.jsonfields.proofs.Cursor.bytes_value.Statement.{statement}
 use Rattle.jsonfields.proofs.Cursor.bytes_value.Tie as tie

@@ -6,7 +6,7 @@ use native.Mathlib.Omega.{arith}
 use borrow.Author.Needs.{needs}
 use Rattle.scan.proofs.Fits.{next-fits}
 use Rattle.json.specs.Field.{tagAt}
-use Rattle.jsonfields.specs.Size.{tagSize}
+use Rattle.jsonfields.specs.inner.Size.{tagSize}
 use Rattle.jsonfields.proofs.Items.{InItems, items-none, items-start, items-refused, items-closed, items-other, items-full, items-room, items-again}
 use Rattle.jsonfields.proofs.Values.{tag-bound}
 use Rattle.jsonfields.proofs.Cursor.each_tag.Statement.{statement}

@@ -3,7 +3,7 @@
 use mathlib.Core.Path.{sym, ap, _∙_}
 use borrow.Author.Needs.{needs}
 use Rattle.json.specs.Field.{fieldOf}
-use Rattle.jsonstring.specs.Answers.{textRead}
+use Rattle.jsonstring.specs.inner.Answers.{textRead}
 use Rattle.jsonstring.proofs.PlainLaws.{told-own}
 use Rattle.jsonfields.proofs.Plain.{text-of, no-text}
 use Rattle.jsonfields.proofs.Cursor.name.Statement.{statement}

@@ -4,7 +4,7 @@ use Rattle.json.specs.Field.{wholeAt}
 use mathlib.Core.Path.{sym, ap, _∙_}
 use native.Mathlib.Omega.{arith}
 use borrow.Author.Needs.{needs}
-use Rattle.jsonvalue.specs.Answers.{skipRead}
+use Rattle.jsonvalue.specs.inner.Answers.{skipRead}
 use Rattle.jsonfields.proofs.Values.{number-place, number-some}
 use Rattle.jsonfields.proofs.Cursor.number_value.Statement.{statement}
 use Rattle.jsonfields.proofs.Cursor.number_value.Tie as tie

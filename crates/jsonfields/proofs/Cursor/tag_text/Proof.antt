@@ -2,8 +2,8 @@
 -- By the reading of a text under a measure; a plain string is its own text.
 use mathlib.Core.Path.{sym, ap, _∙_}
 use borrow.Author.Needs.{needs}
-use Rattle.jsonfields.specs.Size.{elementSize}
-use Rattle.jsonstring.specs.Answers.{textRead}
+use Rattle.jsonfields.specs.inner.Size.{elementSize}
+use Rattle.jsonstring.specs.inner.Answers.{textRead}
 use Rattle.jsonstring.proofs.PlainLaws.{told-own}
 use Rattle.jsonfields.proofs.Plain.{text-of, no-text, same-size}
 use Rattle.jsonfields.proofs.Cursor.tag_text.Statement.{statement}

@@ -1,4 +1,5 @@
--- `tag_texts` measures the texts of a tag. The invariant puts what is counted in front of the texts that are still to be read.
+-- `tag_texts` measures the texts of a tag. The invariant puts what is counted in front of the texts that are still to
+-- be read.
 -- Each turn is one law, the same as for tags.
 use Prim.Native.Nat.{_-_}
 use mathlib.Core.Path.{refl}
@@ -6,7 +7,7 @@ use native.Mathlib.Omega.{arith}
 use borrow.Author.Needs.{needs}
 use Rattle.scan.proofs.Fits.{next-fits}
 use Rattle.json.specs.Field.{textAt}
-use Rattle.jsonfields.specs.Size.{elementSize}
+use Rattle.jsonfields.specs.inner.Size.{elementSize}
 use Rattle.jsonfields.proofs.Items.{InItems, items-none, items-start, items-refused, items-closed, items-other, items-full, items-room, items-again}
 use Rattle.jsonfields.proofs.Strings.{text-bound}
 use Rattle.jsonfields.proofs.Cursor.tag_texts.Statement.{statement}

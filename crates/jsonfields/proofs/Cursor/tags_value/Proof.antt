@@ -1,12 +1,12 @@
 -- `tags_value` reads the tags: their bracket, and what `each_tag` counted and measured.
 -- By the definition; tags take little more in the strict form than here, so the sum fits.
-use Rattle.jsonfields.specs.Spots.{tagsSpotAt}
+use Rattle.jsonfields.specs.inner.Spots.{tagsSpotAt}
 use borrow.Author.Tests.{eq-eqb, ne-eqb}
 use mathlib.Core.Path.{sym, ap, _∙_}
 use native.Mathlib.Omega.{arith}
 use borrow.Author.Needs.{needs}
 use Rattle.scan.proofs.Fits.{next-fits}
-use Rattle.jsonfields.specs.Answers.{sizedRead}
+use Rattle.jsonfields.specs.inner.Answers.{sizedRead}
 use Rattle.jsonfields.proofs.Values.{tags-room}
 use Rattle.jsonfields.proofs.Cursor.tags_value.Statement.{statement}
 use Rattle.jsonfields.proofs.Cursor.tags_value.Tie as tie

@@ -1,6 +1,6 @@
 -- `value` reads the value of a field by its kind.
 -- By the promise of each kind's read, at the field's number.
-use Rattle.jsonfields.specs.Spots.{spotAt}
+use Rattle.jsonfields.specs.inner.Spots.{spotAt}
 use borrow.Author.Needs.{needs}
 use Rattle.jsonfields.proofs.Cursor.value.Statement.{statement}
 use Rattle.jsonfields.proofs.Cursor.value.Tie as tie

@@ -1,7 +1,7 @@
 -- `colon` reads a colon and the value of a field, and tells the fields with it found.
 -- By the definition's tests, in its order.
 use borrow.Author.Tests.{eq-eqb, ne-eqb}
-use Rattle.jsonobject.specs.Spotted.{colonSpotsAt}
+use Rattle.jsonobject.specs.inner.Spotted.{colonSpotsAt}
 use borrow.Author.Needs.{needs}
 use Rattle.scan.proofs.Fits.{next-fits}
 use Rattle.jsonobject.proofs.Cursor.colon.Statement.{statement}

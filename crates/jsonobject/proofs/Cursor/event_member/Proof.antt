@@ -1,6 +1,6 @@
 -- `event_member` reads a name, asks whether its field is new, and then a colon and a value.
 -- By the definition's tests, in its order.
-use Rattle.jsonobject.specs.Spotted.{memberSpotsAt}
+use Rattle.jsonobject.specs.inner.Spotted.{memberSpotsAt}
 use borrow.Author.Tests.{eq-eqb, ne-eqb}
 use borrow.Author.Needs.{needs}
 use Rattle.jsonobject.proofs.Cursor.event_member.Statement.{statement}

@@ -1,4 +1,5 @@
--- `members` reads the members one after the other. The invariant: those from the first on are those from here on, with the fields found so far.
+-- `members` reads the members one after the other. The invariant: those from the first on are those from here on, with
+-- the fields found so far.
 -- Each turn is one law; each member takes a byte or more, so that the input falls.
 use Prim.Native.Nat.{_-_}
 use mathlib.Core.Path.{sym, _∙_}

@@ -1,6 +1,6 @@
 -- `object` reads the opening brace and then the members; an empty object lacks its fields.
 -- By the definition's tests, in its order; behind the brace stands a place of the input.
-use Rattle.jsonobject.specs.Spotted.{insideSpotsAt, objectSpotsAt}
+use Rattle.jsonobject.specs.inner.Spotted.{insideSpotsAt, objectSpotsAt}
 use borrow.Author.Tests.{eq-eqb, ne-eqb}
 use borrow.Author.Needs.{needs}
 use Rattle.scan.proofs.Fits.{next-fits}

@@ -1,7 +1,7 @@
 -- `all_found` tells whether none of the seven is missing.
 -- Each return names the tests on the way.
 use borrow.Author.Tests.{eq-eqb, ne-eqb}
-use Rattle.jsonobject.specs.Spotted.{eachFound, allFound}
+use Rattle.jsonobject.specs.inner.Spotted.{eachFound, allFound}
 use Rattle.jsonobject.proofs.Fields.all_found.Statement.{statement}
 use Rattle.jsonobject.proofs.Fields.all_found.Tie as tie
 

@@ -2,7 +2,7 @@
 -- No sum on the way is above the whole.
 use mathlib.Core.Path.{refl}
 use native.Mathlib.Omega.{arith}
-use Rattle.jsonobject.specs.Spotted.{measured}
+use Rattle.jsonobject.specs.inner.Spotted.{measured}
 use Rattle.jsonobject.proofs.Fields.strict_len.Statement.{statement}
 use Rattle.jsonobject.proofs.Fields.strict_len.Tie as tie
 

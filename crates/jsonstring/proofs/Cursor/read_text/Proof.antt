@@ -3,8 +3,8 @@
 use mathlib.Core.Path.{sym, ap, _∙_}
 use native.Mathlib.Omega.{arith}
 use borrow.Author.Needs.{needs}
-use Rattle.jsonstring.specs.Answers.{stringRead}
-use Rattle.jsonstring.specs.Plain.{plain, other, refused}
+use Rattle.jsonstring.specs.inner.Answers.{stringRead}
+use Rattle.jsonstring.specs.inner.Plain.{plain, other, refused}
 use Rattle.jsonstring.proofs.PlainLaws.{plain-own, short-is, short-not, short-inside, short-string}
 use Rattle.jsonstring.proofs.Cursor.read_text.Statement.{statement}
 use Rattle.jsonstring.proofs.Cursor.read_text.Tie as tie

@@ -1,4 +1,5 @@
--- `Cursor::slow_string` reads a string. The invariant of both loops: the string read from its start is the string read from here.
+-- `Cursor::slow_string` reads a string. The invariant of both loops: the string read from its start is the string read
+-- from here.
 -- A block of plain bytes is passed by `text-plain`; each turn and each end of the inner loop is one law of `texts`.
 use Prim.Native.Nat.{_+_, _-_, _≤_}
 use native.Mathlib.Omega.{arith}

@@ -1,4 +1,5 @@
--- `Cursor::string` reads a string. Where the end is found at once and UTF-8 stands before it, `string-loose` says that this is the string.
+-- `Cursor::string` reads a string. Where the end is found at once and UTF-8 stands before it, `string-loose` says that
+-- this is the string.
 -- In any other case `slow_string` has the same contract.
 use mathlib.Core.Path.{refl}
 use native.Mathlib.Omega.{arith}

@@ -1,5 +1,7 @@
--- A value, the walk of an array or an object, and its items call one another. The measure is 4 times the depth that is left, and so much more that each call falls.
--- Each return names what happened on the way; the turns of the walk are the laws of `walks`, and an item takes a byte or more, so that the input falls.
+-- A value, the walk of an array or an object, and its items call one another. The measure is 4 times the depth that is
+-- left, and so much more that each call falls.
+-- Each return names what happened on the way; the turns of the walk are the laws of `walks`, and an item takes a byte
+-- or more, so that the input falls.
 use Rattle.jsontext.proofs.ValueComplete.{value-open}
 use borrow.Author.Needs.{needs}
 use borrow.Author.Tests.{eq-eqb, ne-eqb}

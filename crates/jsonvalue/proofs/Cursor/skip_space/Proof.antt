@@ -1,4 +1,5 @@
--- `Cursor::skip_space` runs over white space. The invariant is one equation: the run from the start ends where the run from here ends.
+-- `Cursor::skip_space` runs over white space. The invariant is one equation: the run from the start ends where the run
+-- from here ends.
 -- Each turn is one law of `runs`.
 use Prim.Native.Nat.{_-_}
 use mathlib.Core.Path.{_≡_, refl}

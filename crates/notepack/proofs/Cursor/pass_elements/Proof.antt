@@ -9,8 +9,8 @@ use Rattle.scan.specs.Choice.{andThen}
 use Rattle.scan.proofs.AllLaws.{all-places}
 use Rattle.notepack.specs.declared.Tally.{Tally}
 use Rattle.notepack.specs.Unpack.{elementsAt}
-use Rattle.notepack.specs.Tally.{passElements}
-use Rattle.notepack.specs.Answers.{partRead}
+use Rattle.notepack.specs.inner.Tally.{passElements}
+use Rattle.notepack.specs.inner.Answers.{partRead}
 use Rattle.notepack.proofs.Passing.{elements-again, elements-refused, elements-done, element-room}
 use Rattle.notepack.proofs.Cursor.pass_elements.Statement.{statement}
 use Rattle.notepack.proofs.Cursor.pass_elements.Tie as tie

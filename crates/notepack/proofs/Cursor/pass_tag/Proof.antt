@@ -6,7 +6,7 @@ use native.Mathlib.Omega.{arith}
 use borrow.Author.Needs.{needs}
 use Rattle.scan.proofs.AllLaws.{all-places}
 use Rattle.notepack.specs.declared.Tally.{Tally}
-use Rattle.notepack.specs.Answers.{numberRead}
+use Rattle.notepack.specs.inner.Answers.{numberRead}
 use Rattle.notepack.proofs.Passing.{count-room, tag-pass, tag-refused}
 use Rattle.notepack.proofs.Cursor.pass_tag.Statement.{statement}
 use Rattle.notepack.proofs.Cursor.pass_tag.Tie as tie

@@ -8,8 +8,8 @@ use borrow.Author.Needs.{needs}
 use Rattle.scan.specs.Choice.{andThen}
 use Rattle.scan.proofs.AllLaws.{all-places}
 use Rattle.notepack.specs.Unpack.{tagsAt}
-use Rattle.notepack.specs.Tally.{passTags}
-use Rattle.notepack.specs.Answers.{pass}
+use Rattle.notepack.specs.inner.Tally.{passTags}
+use Rattle.notepack.specs.inner.Answers.{pass}
 use Rattle.notepack.proofs.Passing.{tags-again, tags-refused, tags-done, tag-room}
 use Rattle.notepack.proofs.Cursor.pass_tags.Statement.{statement}
 use Rattle.notepack.proofs.Cursor.pass_tags.Tie as tie

@@ -2,7 +2,7 @@
 -- By `Decimals`: such a part is exactly the decimal spelling of its number.
 use mathlib.Core.Path.{sym, ap, _∙_}
 use native.Mathlib.Omega.{arith}
-use Rattle.decimal.specs.Decimal.{decimalRead}
+use Rattle.decimal.specs.inner.Run.{decimalRead}
 use Rattle.nsoncounts.proofs.Decimals.{number-yes, number-no, over-yes, over-no, none-no}
 use borrow.Author.Needs.{needs}
 use Rattle.nsoncounts.proofs.Cursor.counted_number.Statement.{statement}

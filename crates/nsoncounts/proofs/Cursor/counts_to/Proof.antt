@@ -2,7 +2,7 @@
 -- Each way out is one law of `Counting`; each count has its own bound.
 use mathlib.Core.Path.{sym, ap, _∙_}
 use native.Mathlib.Omega.{arith}
-use Rattle.nsoncounts.specs.Answers.{skip, amountRead}
+use Rattle.nsoncounts.specs.inner.Answers.{skip, amountRead}
 use Rattle.nsoncounts.proofs.Counting.{kind-stops, content-stops, number-stops, tags-stop, size-stops, counts-found}
 use Rattle.nsoncounts.proofs.Placing.{kind-on, descriptor-on}
 use borrow.Author.Needs.{needs}

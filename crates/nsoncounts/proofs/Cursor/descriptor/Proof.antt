@@ -1,5 +1,6 @@
 -- `Cursor::descriptor`: room up to the end that the size says, and then hex digits.
--- The code's two tests are the definition's one, with no sum that could pass a word. Within a field of hex digits the digits are there.
+-- The code's two tests are the definition's one, with no sum that could pass a word. Within a field of hex digits the
+-- digits are there.
 use Rattle.nsoncounts.proofs.Laws.{room, no-room, no-width}
 use Rattle.nsoncounts.proofs.Fields.{field-hex}
 use Rattle.nson.specs.Read.{descriptorAt}

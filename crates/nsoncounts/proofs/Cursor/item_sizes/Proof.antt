@@ -1,12 +1,13 @@
--- `Cursor::item_sizes` passes over n counts. The invariant is one equation: the place behind all is the place behind those that are left; and no place is below 320.
+-- `Cursor::item_sizes` passes over n counts. The invariant is one equation: the place behind all is the place behind
+-- those that are left; and no place is below 320.
 -- A turn is one law of `Counting`.
 use borrow.Author.Needs.{needs}
 use Prim.Native.Nat.{_≤_}
 use mathlib.Core.Path.{_≡_, refl, sym, ap, _∙_}
 use Rattle.scan.specs.Choice.{many}
 use Rattle.nson.specs.Read.{wordCountAt}
-use Rattle.nsoncounts.specs.Counted.{nextOf}
-use Rattle.nsoncounts.specs.Answers.{skip}
+use Rattle.nsoncounts.specs.inner.Counted.{nextOf}
+use Rattle.nsoncounts.specs.inner.Answers.{skip}
 use Rattle.nsoncounts.proofs.Counting.{many-none, many-more, many-stop, word-next}
 use Rattle.nsoncounts.proofs.Placing.{descriptor-on}
 use Rattle.nsoncounts.proofs.Cursor.item_sizes.Statement.{statement}

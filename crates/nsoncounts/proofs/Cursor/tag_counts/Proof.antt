@@ -2,7 +2,7 @@
 -- By the definition; only the place behind them is kept.
 use mathlib.Core.Path.{sym, ap, _∙_}
 use Rattle.nson.specs.Read.{tagCountsAt}
-use Rattle.nsoncounts.specs.Answers.{amountRead}
+use Rattle.nsoncounts.specs.inner.Answers.{amountRead}
 use Rattle.nsoncounts.proofs.Placing.{item-on}
 use borrow.Author.Needs.{needs}
 use Rattle.nsoncounts.proofs.Cursor.tag_counts.Statement.{statement}

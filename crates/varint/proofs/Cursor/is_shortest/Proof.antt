@@ -1,9 +1,11 @@
--- `Cursor::is_shortest` reads the varint and compares its width with that of the shortest spelling, as `shortestAt` does.
+-- `Cursor::is_shortest` reads the varint and compares its width with that of the shortest spelling, as `shortestAt`
+-- does.
 -- By what each call promises; the sum fits, since a varint that is read starts within the input.
 use mathlib.Core.Path.{sym, ap, _∙_}
 use native.Mathlib.Omega.{arith}
 use borrow.Author.Needs.{needs}
-use Rattle.varint.specs.Varint.{varintRead, shortestAt}
+use Rattle.varint.specs.inner.Shortest.{shortestAt}
+use Rattle.varint.specs.inner.Answers.{varintRead}
 use Rattle.varint.proofs.VarintLaws.{consumes-some}
 use Rattle.varint.proofs.Cursor.is_shortest.Statement.{statement}
 use Rattle.varint.proofs.Cursor.is_shortest.Tie as tie

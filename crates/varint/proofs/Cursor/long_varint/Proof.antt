@@ -1,4 +1,5 @@
--- `Cursor::long_varint` reads the varint. The invariant is one equation: the answer at the start is what was gathered, put in front of what the rest spells.
+-- `Cursor::long_varint` reads the varint. The invariant is one equation: the answer at the start is what was gathered,
+-- put in front of what the rest spells.
 -- Each turn is one law of `turns`; `Held` keeps every sum and product in 64 bits.
 use native.Mathlib.Omega.{arith}
 use borrow.Author.Needs.{needs}

@@ -1,0 +1,3 @@
+pub mod Half
+pub mod Run
+pub mod Short

@@ -1,0 +1,70 @@
+-- What each entry may refuse: its own numbers, none of them 0, each at a place that does not pass the input's end. So C
+-- tells a value from a refusal by the first number alone. `proofs/Refusals` shows it. Assumes nothing.
+use Prim.{Unit}
+use Prim.Native.Nat.{ℕ, _≤_, _<_}
+use mathlib.Core.Path.{_≡_}
+use mathlib.Core.Bool.{true, false}
+use mathlib.Core.List.{List, _∷_}
+use lib.ListN.{length}
+use Rattle.scan.specs.Choice.{Answer, shown, refused, andThen}
+use Rattle.buffer.specs.Entry.{writes, leaves}
+use Rattle.event.specs.Event.{Event}
+use Rattle.event.specs.inner.Tells.{among, Tells}
+use Rattle.notepack.specs.Unpack.{unpack}
+use Rattle.notepack.specs.inner.Numbers.{packedNumbers, viewNumbers}
+use Rattle.notepack.specs.Strict.{pack}
+use Rattle.notepack.specs.Views.{numbersOf, textsIn, elementOf}
+use Rattle.strict.specs.Strict.{strict}
+use Rattle.canonical.specs.Canonical.{canonical}
+use Rattle.nson.specs.inner.Numbers.{nsonNumbers}
+use Rattle.nson.specs.Entries.{nsonReads, nsonWrites}
+use Rattle.json.specs.inner.Numbers.{jsonNumbers}
+use Rattle.json.specs.Entries.{jsonReads}
+use Rattle.bothreaders.specs.Both.{both, bothFirst, bothSecond}
+use Rattle.rivals.specs.Rivals.{rivals}
+use Rattle.rivals.specs.inner.Telling.{RivalsTell}
+use Rattle.kezubimoryu.specs.Entries.{ok, yesNo}
+
+-- an entry that only asks: a value, or one of the numbers at a place of the input
+abbrev pub Asks : List ℕ → List ℕ → Answer ℕ → Type 0
+Asks numbers s = Tells numbers (length s) (λ (v : ℕ). Unit {0})
+
+-- an entry that writes into d: besides, 11 with a length that d does not have
+pub data Fills (numbers s d : List ℕ) : Answer ℕ → Type 0 where
+  written : {n : ℕ} → Fills numbers s d (shown n)
+  refusal : {n p : ℕ} → among numbers n ≡ true → p ≤ length s → Fills numbers s d (refused n p)
+  too-short : {n : ℕ} → length d < n → Fills numbers s d (refused 11 n)
+
+-- both readers, which write into two buffers: 11 with a length that one of them does not have
+pub data FillsBoth (numbers s d₁ d₂ : List ℕ) : Answer ℕ → Type 0 where
+  written : {n : ℕ} → FillsBoth numbers s d₁ d₂ (shown n)
+  refusal : {n p : ℕ} → among numbers n ≡ true → p ≤ length s → FillsBoth numbers s d₁ d₂ (refused n p)
+  first-short : {n : ℕ} → length d₁ < n → FillsBoth numbers s d₁ d₂ (refused 11 n)
+  second-short : {n : ℕ} → length d₂ < n → FillsBoth numbers s d₁ d₂ (refused 11 n)
+
+-- what the NSON writer adds to the reader's numbers: 17, and 0 is a place of every input
+abbrev pub writerNumbers : List ℕ
+writerNumbers = 17 ∷ packedNumbers
+
+pub record Refusals : Type 0 where
+  pub notepack-read : (s : List ℕ) → Asks packedNumbers s (ok (numbersOf s))
+  pub notepack-is-strict : (s : List ℕ) → Asks packedNumbers s (yesNo (strict s))
+  pub notepack-write : (s d : List ℕ) → Fills packedNumbers s d (writes pack (unpack s) d)
+  pub notepack-tag-len : (i : ℕ) (s : List ℕ) → Asks viewNumbers s (textsIn i s)
+  pub notepack-element : (i j : ℕ) (s : List ℕ) → Asks viewNumbers s (ok (elementOf i j s))
+  pub canonical-write : (s d : List ℕ) → Fills packedNumbers s d (writes canonical (unpack s) d)
+  pub nson-write : (s d : List ℕ) → Fills writerNumbers s d (nsonWrites s d)
+  pub nson-read : (s d : List ℕ) → Fills nsonNumbers s d (nsonReads s d)
+  pub json-read : (s d : List ℕ) → Fills jsonNumbers s d (jsonReads s d)
+  pub read-both : (s d₁ d₂ : List ℕ) → FillsBoth jsonNumbers s d₁ d₂ (andThen (both s d₁ d₂) (λ c. shown (c .which)))
+  -- of two inputs: whose refusal it is stands in `RivalsTell`
+  pub which-is-kept : (s t : List ℕ) → RivalsTell s t (rivals s t)
+  -- after a refusal a lent buffer is as it was (rule 12.1.5): of an entry that writes the text of an event, and of both
+  -- readers over one text
+  pub write-keeps : (text : Event → List ℕ) (a : Answer Event) (d : List ℕ) (n p : ℕ) → writes text a d ≡ refused n p → leaves text a d ≡ d
+  pub both-keeps : (s d₁ d₂ : List ℕ) (n p : ℕ) → both s d₁ d₂ ≡ refused n p → (bothFirst s d₁ d₂ ≡ d₁) × (bothSecond s d₁ d₂ ≡ d₂)
+  -- no number is 0
+  pub packed-not-0 : among writerNumbers 0 ≡ false
+  pub view-not-0 : among viewNumbers 0 ≡ false
+  pub nson-not-0 : among nsonNumbers 0 ≡ false
+  pub json-not-0 : among jsonNumbers 0 ≡ false

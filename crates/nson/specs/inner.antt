@@ -1,0 +1,4 @@
+pub mod Places
+pub mod Decision
+pub mod Needs
+pub mod Numbers

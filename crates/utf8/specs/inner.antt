@@ -1,0 +1,4 @@
+pub mod Block
+pub mod Misfit
+pub mod Width
+pub mod Scalar
