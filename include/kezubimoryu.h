@@ -97,6 +97,20 @@ kez_answer kez_notepack_element(const uint8_t *packed, size_t packed_len,
                                 uint64_t tag, uint64_t element,
                                 uint64_t *at, uint64_t *len, uint64_t *is_bytes);
 
+/* Lists the elements of all tags, in their order, in one pass: from element number first on, counted over all tags from
+ * 0, as many as there are and as fit whole into out. Each takes KEZ_ELEMENT_BYTES in out, four little-endian numbers of
+ * four bytes: its tag's number, the place of its payload in packed, the payload's length, and 1 for raw bytes (whose
+ * text is their lowercase hex) or 0 for text. Bytes behind the last of them are unchanged, and there is no refusal 11.
+ * Success: value is how many were listed; fewer than fit means that there are no more, so a first past the last lists
+ * none. The time is linear in packed_len. Rules 4.12 to 4.15. */
+#define KEZ_ELEMENT_BYTES 16
+
+/* A buffer of this length has room for the elements of any record. */
+#define KEZ_ELEMENTS_MOST (KEZ_ELEMENT_BYTES * KEZ_MOST)
+
+kez_answer kez_notepack_elements(const uint8_t *packed, size_t packed_len, uint64_t first,
+                                 uint8_t *out, size_t out_len);
+
 /* Which of two packed events is to be kept? Two events are rivals, versions of one record, if both have a key and the
  * keys are equal. The key of kinds 0, 3 and 10000 to 19999 is author and kind; that of kinds 30000 to 39999 is author,
  * kind and label (the second text of the first tag whose first text is "d"). Other events have no key. Of two rivals
