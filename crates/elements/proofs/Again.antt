@@ -58,6 +58,16 @@ rows-two m k a b =
     rw (drop-two k a b, take-two m (drop k a) (drop (k - length a) b), drop-length k a)
     (rows-append (take m (drop k a)) (take (m - (length a - k)) (drop (k - length a) b)))
 
+-- the room that is left: a are left out of n, and b of the others are told
+pub room-left : (m k n : ℕ) {a b : ℕ} → a ≡ min k n → b ≡ min m (n - a) → m - b ≡ m - (n - k)
+room-left m k n {a} {b} e f =
+    dite (decLe k n)
+    (λ h. let q : a ≡ k = omega (arith, e, h) in let g : b ≡ min m (n - k) = f ∙ rw q in fewer (n - k) g)
+    (λ h. let q : a ≡ n = omega (arith, e, h) in let z : b ≡ 0 = omega (arith, f, q) in omega (arith, z, h))
+  where
+    fewer : (w : ℕ) → b ≡ min m w → m - b ≡ m - w
+    fewer w g = omega (arith, g)
+
 module _ (s : List ℕ) where
   -- ---- the elements of one tag
 
@@ -143,6 +153,25 @@ module _ (s : List ℕ) where
   unfolding allAgain
   all-left zero i at h = refl
   all-left (suc left) i at h = absurd (omega arith)
+
+  -- a turn of the loop over tags: k are still to be left out, and there is room for m
+  pub list-turn : (m k left i at : ℕ) {n first end k′ m′ : ℕ} → 0 < left → n ≡ countAgain s at .value → first ≡ countAgain s at .next → end ≡ textsEnd n s first
+      → k′ ≡ k - n → m′ ≡ m - (n - k)
+      → rows (take m (drop k (allAgain left i s at)))
+      ≡ rows (take m (drop k (tagAgain n i s first))) ++ rows (take m′ (drop k′ (allAgain (left - 1) (i + 1) s end)))
+  list-turn m k left i at {n} {first} {end} h e f g p q =
+      rw (all-turn left i at h e f g, p, q)
+      (rows-two m k (tagAgain n i s first) (allAgain (left - 1) (i + 1) s end) ∙ rw (again-count i n first))
+
+  -- nothing is listed of nothing
+  pub list-left : (m k left i at : ℕ) → left ≤ 0 → rows (take m (drop k (allAgain left i s at))) ≡ []
+  list-left m k left i at h = rw (all-left left i at h) (none m k)
+    where
+      none : (m k : ℕ) → rows (take m (drop k [])) ≡ []
+      none zero zero = refl
+      none zero (suc k) = refl
+      none (suc m) zero = refl
+      none (suc m) (suc k) = refl
 
   -- ---- what was read
 
