@@ -88,7 +88,16 @@ fn lower_of(a: u64, b: u64) -> u64
 }
 
 // Of count elements of a tag from a place on: all but the first `skip`, as many as there is room for.
-fn list_tag(out: &mut [u8], at: usize, s: &[u8], from: usize, count: u64, tag: u64, skip: u64, room: u64) -> Listed
+fn list_tag(
+    out: &mut [u8],
+    at: usize,
+    s: &[u8],
+    from: usize,
+    count: u64,
+    tag: u64,
+    skip: u64,
+    room: u64,
+) -> Listed
     ensures { λ r. ⌜ Wrote (now (out .entry)) at (rows (take room (drop skip (tagAgain count tag (now (s .entry)) from)))) (now (out .exit)) (r .out) ⌝ }
     ensures { λ r. ⌜ r .next ≡ textsEnd count (now (s .entry)) from ⌝ }
     ensures { λ r. ⌜ r .skip ≡ skip - count ⌝ }

@@ -20,10 +20,13 @@ returns c =
     let n = c .before .before .before .before .before .before .before .lower-of .result in
     let m = c .before .before .before .before .before .before .lower-of2 .result in
     let rest = a .count - n - m in
-    let all : n + (m + rest) ≡ a .count = omega (arith, x, y) in
-    (rw (some-again s (a .tag) (a .room) (a .skip) (a .count) (a .from) x y, ← first) (put .0)
-    , (c .texts-end2 .ensures ∙ rw (put .1, first, ends-two s m rest (textsEnd n s (a .from)), ends-two s n (m + rest) (a .from), all)
-    , (omega (arith, x), room-left (a .room) (a .skip) (a .count) x y)))
+    let all : n + (m + rest) ≡ a .count = omega (arith, x, y) in (
+      rw (some-again s (a .tag) (a .room) (a .skip) (a .count) (a .from) x y, ← first) (put .0),
+      (
+        c .texts-end2 .ensures ∙ rw (put .1, first, ends-two s m rest (textsEnd n s (a .from)), ends-two s n (m + rest) (a .from), all),
+        (omega (arith, x), room-left (a .room) (a .skip) (a .count) x y),
+      ),
+    )
 
 pub list-tag-spec : {M : Type 1} → statement M
 list-tag-spec =
