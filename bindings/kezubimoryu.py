@@ -48,12 +48,16 @@ KEZ_ELEMENT_BYTES: int = 16
 #: So many have room for the elements of any record.
 KEZ_ELEMENTS_MOST: int = KEZ_ELEMENT_BYTES * KEZ_MOST
 
-#: What is taken as input.
+#: What is taken as input; so is anything else that shows contiguous bytes.
 Bytes = Union[bytes, bytearray, memoryview]
 
 
 class Numbers(NamedTuple):
-    """Five numbers of a packed event. The content is packed[content_at:content_at + content_len]."""
+    """Five numbers of a packed event. The content is packed[content_at:content_at + content_len].
+
+    >>> kez_notepack_read(bytes(132)).content_at
+    131
+    """
 
     created_at: int
     kind: int
@@ -64,7 +68,11 @@ class Numbers(NamedTuple):
 
 class Payload(NamedTuple):
     """Where the text of an element stands: payload = packed[at:at + len]. The text is payload.decode(), or
-    payload.hex() where is_bytes."""
+    payload.hex() where is_bytes.
+
+    >>> kez_notepack_element(bytes(131) + bytes.fromhex("01 02 0264 03ab"), 0, 0)
+    Payload(at=134, len=1, is_bytes=False)
+    """
 
     at: int
     len: int
@@ -72,7 +80,11 @@ class Payload(NamedTuple):
 
 
 class Element(NamedTuple):
-    """The number of an element's tag, and its payload as in Payload."""
+    """The number of an element's tag, and its payload as in Payload.
+
+    >>> list(kez_notepack_elements(bytes(131) + bytes.fromhex("01 01 0264")))
+    [Element(tag=0, at=134, len=1, is_bytes=False)]
+    """
 
     tag: int
     at: int
@@ -81,7 +93,12 @@ class Element(NamedTuple):
 
 
 class Both(NamedTuple):
-    """The answer of kez_read_both: its value, and the strict form by each of the two readers."""
+    """The answer of kez_read_both: its value, and the strict form by each of the two readers.
+
+    >>> event = bytes(128) + bytes.fromhex("8094ebdc03 01 02 6869 00")
+    >>> kez_read_both(kez_nson_write(event)).value
+    2
+    """
 
     value: int
     nson: Optional[bytes]

@@ -1,6 +1,6 @@
 //! Kezubimoryu from Rust: the C entries of kezubimoryu.h, and a safe function for each. Put this file beside yours as
-//! `mod kezubimoryu;` and link libkezubimoryu.a (`-l static=kezubimoryu -L PREFIX/lib`). Editions 2021 and 2024 take it,
-//! by Rust 1.82 or later.
+//! `mod kezubimoryu;` and link libkezubimoryu.a (`-l static=kezubimoryu -L PREFIX/lib`). It is for editions 2021 and
+//! 2024, and needs Rust 1.82 or later.
 //!
 //! The safe functions have the names of the entries without `kez_`. They take slices, and a refusal is an `Err`:
 //!
@@ -168,8 +168,8 @@ pub enum Kept {
     Second,
 }
 
-/// What both readers make of a text: does kez_nson_read accept it too, and the length of the strict form. That is at the
-/// start of json_out, and if kez_nson_read accepts the text, of nson_out.
+/// What both readers make of a text: does kez_nson_read accept it too, and how long is the strict form? The strict form
+/// stands at the start of json_out; and of nson_out, if kez_nson_read accepts the text.
 #[derive(Clone, Copy, Debug, PartialEq, Eq)]
 pub struct Both {
     pub is_nson: bool,
@@ -185,8 +185,9 @@ fn told(answer: kez_answer) -> Result<u64, Refused> {
 
 type Writer = unsafe extern "C" fn(*const u8, usize, *mut u8, usize) -> kez_answer;
 
-// Every call below is safe for the same reasons. A slice's pointer comes with its true length, and may be any if that is
-// 0. A slice that is written is borrowed by nobody else, so it overlaps nothing. The library keeps no pointer.
+// Every call below is safe for the same reasons. A slice's pointer comes with its true length, and with length 0 any
+// pointer will do. A slice that is written is borrowed by nobody else, so it overlaps nothing. The library keeps no
+// pointer.
 
 fn write(entry: Writer, from: &[u8], out: &mut [u8]) -> Result<usize, Refused> {
     let answer = unsafe { entry(from.as_ptr(), from.len(), out.as_mut_ptr(), out.len()) };

@@ -241,7 +241,7 @@ for name in kez.__all__:
         wanted = list(inspect.signature(thing).parameters) + ["return"]
         check("%s has hints" % name, list(typing.get_type_hints(thing)), wanted)
     elif inspect.isclass(thing):
-        check("%s has a description" % name, bool(thing.__dict__.get("__doc__")), True)
+        check("%s has an example" % name, ">>> " in thing.__dict__["__doc__"], True)
         check("%s has hints" % name, bool(typing.get_type_hints(thing)), True)
     else:
         check("%s has a hint" % name, name in typing.get_type_hints(kez) or name == "Bytes", True)
@@ -270,8 +270,9 @@ def imported(folder, names=(), **environment):
     left as it is."""
     clean = {k: v for k, v in os.environ.items() if k not in ("KEZ_LIBRARY", "KEZUBIMORYU_LIBRARY", "PYTHONPATH")}
     loader = "" if "LD_LIBRARY_PATH" in environment else ONLY % (tuple(names), library)
-    said = subprocess.run([sys.executable, "-c", loader + SAYS], cwd=folder, env=dict(clean, PYTHONPATH=folder, **environment),
-                          stdout=subprocess.PIPE, stderr=subprocess.STDOUT)
+    clean.update(environment, PYTHONPATH=folder)
+    said = subprocess.run([sys.executable, "-c", loader + SAYS], cwd=folder, env=clean, stdout=subprocess.PIPE,
+                          stderr=subprocess.STDOUT)
     return said.stdout.decode().strip().split("\n")[-1]
 
 
@@ -281,8 +282,8 @@ with tempfile.TemporaryDirectory() as alone, tempfile.TemporaryDirectory() as be
     shutil.copy(library, os.path.join(beside, "libkezubimoryu.so"))
     check("by the variable", imported(alone, KEZUBIMORYU_LIBRARY=library), "0")
     check("by its older name", imported(alone, KEZ_LIBRARY=library), "0")
-    said = imported(beside, KEZUBIMORYU_LIBRARY="/no/such/file.so")
-    check("by a variable that is wrong", said.startswith("ImportError: KEZUBIMORYU_LIBRARY is '/no/such/file.so'"), True)
+    said = imported(beside, KEZUBIMORYU_LIBRARY="/no/such.so")
+    check("by a variable that is wrong", said.startswith("ImportError: KEZUBIMORYU_LIBRARY is '/no/such.so'"), True)
     check("by libkezubimoryu.so.0", imported(alone, ["libkezubimoryu.so.0"]), "0")
     check("by libkezubimoryu.so", imported(alone, ["libkezubimoryu.so"]), "0")
     check("beside the file", imported(beside), "0")

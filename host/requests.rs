@@ -76,12 +76,13 @@ fn thinned(lines: Vec<String>, most: usize) -> Vec<String> {
 
 /// Every kind of request.
 const ALL: [&str; 13] = [
-    "read", "strict", "pack", "content", "element", "elements", "lister", "canonical", "nson_write", "nson_read", "json_read", "rivals",
-    "read_both",
+    "read", "strict", "pack", "content", "element", "elements", "lister", "canonical", "nson_write", "nson_read",
+    "json_read", "rivals", "read_both",
 ];
 
 /// Kinds whose input is a packed event.
-const PACKED: [&str; 9] = ["read", "strict", "pack", "content", "element", "elements", "lister", "canonical", "nson_write"];
+const PACKED: [&str; 9] =
+    ["read", "strict", "pack", "content", "element", "elements", "lister", "canonical", "nson_write"];
 
 struct Requests {
     dice: Dice,

@@ -325,7 +325,8 @@ static void lists(const bytes *b, uint64_t first, size_t len, uint64_t count)
     memset(list, 0xa5, len + BEHIND);
     kez_answer a = kez_notepack_elements(b->at, b->len, first, len ? list : NULL, len);
     CHECK(is(a, 0, count), "first %d in %zu bytes: %d, %d", (int)first, len, (int)a.refusal, (int)a.value);
-    CHECK(!count || !memcmp(list, wanted_list + KEZ_ELEMENT_BYTES * first, written), "first %d in %zu bytes", (int)first, len);
+    const uint8_t *wanted = count ? wanted_list + KEZ_ELEMENT_BYTES * first : list;
+    CHECK(!memcmp(list, wanted, written), "first %d in %zu bytes: other elements", (int)first, len);
     size_t same = written;
     while (same < len + BEHIND && list[same] == 0xa5)
         same++;
@@ -342,7 +343,9 @@ static double milliseconds(void)
 /* The vector's five elements: every first, and every length of out up to that of six. */
 static void listed_elements(void)
 {
-    static const uint64_t all[5][4] = {{0, 143, 1, 0}, {0, 145, 32, 1}, {0, 178, 23, 0}, {1, 203, 1, 0}, {1, 205, 32, 1}};
+    static const uint64_t all[5][4] = {
+        {0, 143, 1, 0}, {0, 145, 32, 1}, {0, 178, 23, 0}, {1, 203, 1, 0}, {1, 205, 32, 1},
+    };
     for (int i = 0; i < 5; i++)
         put_listed(wanted_list + KEZ_ELEMENT_BYTES * i, all[i][0], all[i][1], all[i][2], all[i][3]);
     for (uint64_t first = 0; first < 8; first++)

@@ -15,9 +15,11 @@
 
 enum { READ, STRICT, PACK, TAG_LEN, ELEMENT, ELEMENTS, CANONICAL, NSON_WRITE, NSON_READ, JSON_READ, READ_BOTH, RIVALS };
 
-const char *const entry_names[ENTRIES] = {"kez_notepack_read", "kez_notepack_is_strict", "kez_notepack_write", "kez_notepack_tag_len",
-                                          "kez_notepack_element", "kez_notepack_elements", "kez_canonical_write", "kez_nson_write",
-                                          "kez_nson_read", "kez_json_read", "kez_read_both", "kez_rivals"};
+const char *const entry_names[ENTRIES] = {
+    "kez_notepack_read", "kez_notepack_is_strict", "kez_notepack_write", "kez_notepack_tag_len", "kez_notepack_element",
+    "kez_notepack_elements", "kez_canonical_write", "kez_nson_write", "kez_nson_read", "kez_json_read", "kez_read_both",
+    "kez_rivals",
+};
 
 void (*answered)(int entry, uint64_t refusal, uint64_t value);
 

@@ -94,8 +94,8 @@ typedef kez_answer lists(const uint8_t *in, size_t in_len, uint64_t first, uint8
 lists __real_kez_notepack_elements, __wrap_kez_notepack_elements;
 kez_answer __wrap_kez_notepack_elements(const uint8_t *in, size_t in_len, uint64_t first, uint8_t *out, size_t out_len)
 {
-    size_t lent = PLANTED == 13 && out_len >= KEZ_ELEMENT_BYTES && shows(in, in_len) ? out_len - KEZ_ELEMENT_BYTES : out_len;
-    kez_answer a = __real_kez_notepack_elements(in, in_len, first, out, lent);
+    int less = PLANTED == 13 && out_len >= KEZ_ELEMENT_BYTES && shows(in, in_len);
+    kez_answer a = __real_kez_notepack_elements(in, in_len, first, out, less ? out_len - KEZ_ELEMENT_BYTES : out_len);
     size_t written = a.refusal ? 0 : KEZ_ELEMENT_BYTES * a.value;
     if (PLANTED == 11 && written && shows(in, in_len))
         out[written - KEZ_ELEMENT_BYTES] ^= 1;
