@@ -74,7 +74,7 @@ uint64_t kez_version(void);
 #define KEZ_SIG_AT 64
 #define KEZ_SIG_LEN 64
 
-/* What every entry answers. Rules 12.1.2 to 12.1.8.
+/* What every entry but kez_version answers. Rules 12.1.2 to 12.1.8.
  * Success: refusal is 0, and value is what the entry's comment says.
  * Refusal: refusal is a number from 1 to 19, and value is the place in the input where the fault was found, or the
  * input's length if the fault is at its end. Rule 10.N says when refusal N is given, and its place. Refusals 1, 17 and
