@@ -17,8 +17,8 @@
  *
  * This header is C99, and C++ too.
  *
- * An entry that writes an event or a text tells the length that it needs if it is lent nothing. A host that would lend
- * no more than that asks first; the buffers of the lengths below need no such question:
+ * An entry that writes an event or a text, lent nothing, answers refusal 11 and the length that it needs, unless it
+ * refuses the input. So a host that would lend no more than that asks first (the lengths below need no question):
  *
  *     kez_answer a = kez_nson_write(packed, packed_len, NULL, 0);
  *     if (a.refusal != 11)
