@@ -564,8 +564,11 @@ static int do_strict(void)
     if (a.refusal)
         return refused(&first, a, PACKED);
     put(a.value ? "strict\n" : "not strict\n");
-    if (!a.value)
+    if (!a.value) {
+        /* the answer first, where both go to one place */
+        written(!fflush(stdout));
         tell_difference();
+    }
     return ACCEPTED;
 }
 
