@@ -110,7 +110,7 @@ SENTENCES: Tuple[str, ...] = (
     "Nothing is refused.",
     "The input is longer than 65,536 bytes.",
     "The packed event is cut short, or a length in it goes beyond its end.",
-    "A varint does not fit 64 bits.",
+    "A varint's tenth byte is neither 00 nor 01.",
     "The input ends inside a varint.",
     "A text is not well-formed UTF-8.",
     "The kind is above 65,535.",
@@ -453,7 +453,7 @@ def kez_read_both(text: Bytes) -> Both:
     >>> kez_read_both(kez_nson_write(event) + b" ") == Both(1, None, event)
     True
 
-    Rules 9.1 to 9.7, 12.3.1 to 12.3.3."""
+    Rules 9.1 to 9.7, 12.3.1 to 12.3.3, 12.3.6."""
     lent, written = _lend(text), ctypes.c_uint64()
     room = _needed("kez_read_both", *lent, None, 0, None, 0, written)
     nson, json = ctypes.create_string_buffer(room), ctypes.create_string_buffer(room)

@@ -83,7 +83,7 @@ unsafe extern "C" {
     pub fn kez_nson_read(text: *const u8, text_len: usize, out: *mut u8, out_len: usize) -> kez_answer;
     /// Rules 7.1 to 7.27, 12.1.9, 12.2.9, 12.2.10, 12.3.1 to 12.3.6.
     pub fn kez_json_read(text: *const u8, text_len: usize, out: *mut u8, out_len: usize) -> kez_answer;
-    /// Rules 9.1 to 9.7, 12.3.1 to 12.3.3. The header calls `first` nson_out and `second` json_out.
+    /// Rules 9.1 to 9.7, 12.3.1 to 12.3.3, 12.3.6. The header calls `first` nson_out and `second` json_out.
     pub fn kez_read_both(
         text: *const u8,
         text_len: usize,
@@ -101,7 +101,7 @@ pub fn kez_refusal_text(number: u64) -> &'static str {
         0 => "Nothing is refused.",
         1 => "The input is longer than 65,536 bytes.",
         2 => "The packed event is cut short, or a length in it goes beyond its end.",
-        3 => "A varint does not fit 64 bits.",
+        3 => "A varint's tenth byte is neither 00 nor 01.",
         4 => "The input ends inside a varint.",
         5 => "A text is not well-formed UTF-8.",
         6 => "The kind is above 65,535.",

@@ -65,7 +65,7 @@ static void event(bytes *b, uint64_t created_at, uint64_t kind)
     put_varint(b, 0);
 }
 
-/* The vector of the draft's section 9.1: its varints, each with what it counts */
+/* The vector of the notepack draft's section 9.1 (rule 12.5): its varints, each with what it counts */
 
 static const struct {
     size_t at, len, payload;
@@ -545,7 +545,7 @@ static void canonical(void)
 }
 
 
-/* zero id, pubkey and sig, created_at 1,000,000,000, kind 1, content a"b: packed, and as NSON with this nson field */
+/* The event of the NSON examples of rule 12.4: packed, and as NSON with this nson field. */
 static void a_b(bytes *packed, bytes *text, const char *nson)
 {
     start(packed);
@@ -563,7 +563,7 @@ static void a_b(bytes *packed, bytes *text, const char *nson)
     PUT(text, "\",\"kind\":1,\"content\":\"a\\\"b\",\"tags\":[]}");
 }
 
-/* The event of the NSON draft. */
+/* The event of the NSON draft. Rule 12.5. */
 static void draft_event(bytes *packed, bytes *text)
 {
     static const char digits[] = "0123456789abcdef",

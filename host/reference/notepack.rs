@@ -165,7 +165,7 @@ impl<'a> Text<'a> {
         Text { payload, at: 0, raw: false }
     }
 
-    /// Is the text, as text, not empty, of even length and all of 0-9 a-f?
+    /// Does the text go raw in the strict form? If it has an even number of lowercase hex digits, at least two, alone.
     #[inline]
     pub fn goes_raw(&self) -> bool {
         let p = self.payload;

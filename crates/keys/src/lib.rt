@@ -87,7 +87,7 @@ fn second_text(kind: u64, s: &[u8], at: usize, n: u64) -> KeyRead
     KeyRead::Keyless
 }
 
-// The key by the label among count tags from a place on: the second text of the first tag whose first text is `d`.
+// The key by the label among count tags from a place on: the text behind `d`, in the first tag with `d` in front.
 fn find_label(kind: u64, s: &[u8], at: usize, count: u64) -> KeyRead
     ensures { λ r. ⌜ r ≡ labelAt kind count (now (s .entry)) at ⌝ }
 {

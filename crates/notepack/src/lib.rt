@@ -460,7 +460,7 @@ pub fn read_packed(s: &[u8]) -> HeadRead
     }
 }
 
-// The content, as a part of the caller's own bytes; empty where the reader refuses.
+// The content, a part of the lent slice; empty where the reader refuses.
 pub fn content<'a>(s: &'a [u8]) -> &'a [u8]
     ensures { λ r. ⌜ now r ≡ view (now (s .entry)) (contentOf (now (s .entry))) ⌝ }
 {
@@ -569,7 +569,7 @@ pub fn find_element(s: &[u8], i: u64, j: u64) -> ElementRead
     }
 }
 
-// The payload of element j of tag i, as a part of the caller's own bytes; empty where there is none.
+// The payload of element j of tag i, a part of the lent slice; empty where there is none.
 pub fn element<'a>(s: &'a [u8], i: u64, j: u64) -> &'a [u8]
     ensures { λ r. ⌜ now r ≡ view (now (s .entry)) (elementOf i j (now (s .entry))) ⌝ }
 {

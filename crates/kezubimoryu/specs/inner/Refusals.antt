@@ -61,8 +61,8 @@ pub record Refusals : Type 0 where
   pub read-both : (s d₁ d₂ : List ℕ) → FillsBoth jsonNumbers s d₁ d₂ (andThen (both s d₁ d₂) (λ c. shown (c .which)))
   -- of two inputs: whose refusal it is stands in `RivalsTell`
   pub which-is-kept : (s t : List ℕ) → RivalsTell s t (rivals s t)
-  -- "every lent buffer then holds its old bytes": of an entry that writes the text of an event, and of both readers
-  -- over one text
+  -- after a refusal a lent buffer is as it was (rule 12.1.5): of an entry that writes the text of an event, and of both
+  -- readers over one text
   pub write-keeps : (text : Event → List ℕ) (a : Answer Event) (d : List ℕ) (n p : ℕ) → writes text a d ≡ refused n p → leaves text a d ≡ d
   pub elements-keep : (i : ℕ) (s d : List ℕ) (n p : ℕ) → elementsTold i s d ≡ refused n p → elementsLeft i s d ≡ d
   pub both-keeps : (s d₁ d₂ : List ℕ) (n p : ℕ) → both s d₁ d₂ ≡ refused n p → (bothFirst s d₁ d₂ ≡ d₁) × (bothSecond s d₁ d₂ ≡ d₂)
