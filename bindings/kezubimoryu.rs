@@ -18,7 +18,7 @@
 use std::fmt;
 
 /// The version of the library, as in the header.
-pub const KEZ_VERSION: &str = "0.4.3";
+pub const KEZ_VERSION: &str = "0.5.0";
 /// No accepted input is longer; nor is an event in strict form, nor NSON (rule 1.9). A strict form is never longer than
 /// what it was read from, so a buffer as long as the packed bytes or the text is always enough (rules 3.7 and 12.3.6).
 pub const KEZ_MOST: usize = 65536;
