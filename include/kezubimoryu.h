@@ -113,7 +113,7 @@ kez_answer kez_notepack_elements(const uint8_t *packed, size_t packed_len, uint6
 
 /* Which of two packed events is to be kept? Two events are rivals, versions of one record, if both have a key and the
  * keys are equal. The key of kinds 0, 3 and 10000 to 19999 is author and kind; that of kinds 30000 to 39999 is author,
- * kind and label (the second text of the first tag whose first text is "d"). Other events have no key. Of two rivals
+ * kind and label (the text behind "d", in the first tag with "d" in front). Other events have no key. Of two rivals
  * the later is kept; at equal times the one with the lower id; if the ids are equal too, the first.
  * Refusals: those of kez_notepack_read. Any refusal of the first input comes before those of the second. The place is
  * one in the input that is refused, and the answer does not say which that is; kez_notepack_read of the first tells.
@@ -167,7 +167,7 @@ kez_answer kez_json_read(const uint8_t *text, size_t text_len,
  * for each buffer is always enough.
  * Cost: each reader goes through the text twice, once to decide before anything is written and once to write. A call
  * takes up to twice as long as the two readers together.
- * Rules 9.1 to 9.7, 12.3.1 to 12.3.3; of the text parts 6 and 7; of what is written 3.1 to 3.3. */
+ * Rules 9.1 to 9.7, 12.3.1 to 12.3.3, 12.3.6; of the text parts 6 and 7; of what is written 3.1 to 3.3. */
 kez_answer kez_read_both(const uint8_t *text, size_t text_len,
                          uint8_t *nson_out, size_t nson_out_len,
                          uint8_t *json_out, size_t json_out_len,
@@ -180,7 +180,7 @@ static inline const char *kez_refusal_text(uint64_t number)
     case 0: return "Nothing is refused.";
     case 1: return "The input is longer than 65,536 bytes."; /* rule 10.1 */
     case 2: return "The packed event is cut short, or a length in it goes beyond its end."; /* rule 10.2 */
-    case 3: return "A varint does not fit 64 bits."; /* rule 10.3 */
+    case 3: return "A varint's tenth byte is neither 00 nor 01."; /* rule 10.3 */
     case 4: return "The input ends inside a varint."; /* rule 10.4 */
     case 5: return "A text is not well-formed UTF-8."; /* rule 10.5 */
     case 6: return "The kind is above 65,535."; /* rule 10.6 */

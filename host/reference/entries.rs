@@ -87,6 +87,18 @@ pub unsafe extern "C" fn kez_notepack_element(
     }))
 }
 
+#[no_mangle]
+pub unsafe extern "C" fn kez_notepack_elements(
+    packed: *const u8,
+    packed_len: usize,
+    first: u64,
+    out: *mut u8,
+    out_len: usize,
+) -> KezAnswer {
+    let (packed, out) = unsafe { (lent(packed, packed_len), lent_mut(out, out_len)) };
+    told(notepack::elements(packed, first, out))
+}
+
 /// An entry that reads one lent buffer and writes another.
 macro_rules! writing {
     ($name:ident, $function:path) => {

@@ -1,4 +1,4 @@
-//! NSON: the writer and the reader, which follows the counts in the nson field.
+//! NSON: the writer, and the reader, which goes by the counts.
 
 use crate::answer::*;
 use crate::bytes::*;

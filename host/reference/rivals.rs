@@ -26,7 +26,7 @@ fn key<'a>(p: &Packed<'a>) -> Option<Option<Text<'a>>> {
     }
 }
 
-/// The second text of the first tag whose first text is `d`.
+/// The text behind `d`, in the first tag with `d` in front.
 fn d_text<'a>(p: &Packed<'a>) -> Option<Text<'a>> {
     let mut items = p.items();
     while let Some(item) = items.next() {

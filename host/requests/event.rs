@@ -22,7 +22,7 @@ pub fn carried() -> Event {
     Event { created_at: 1_000_000_000, kind: 1, content: b"a\"b".to_vec(), ..small() }
 }
 
-/// Section 9.1's vector.
+/// The vector of the notepack draft's section 9.1.
 pub fn vector() -> Event {
     Event {
         fixed: [[0; 32], [0x11; 32], [0x22; 32], [0x22; 32]].concat(),

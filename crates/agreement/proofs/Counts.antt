@@ -1,4 +1,4 @@
--- The NSON reader accepts no string whose nson field holds a count that lies.
+-- In a text that the NSON reader accepts every count is true (rules 12.3.8 and 12.3.9).
 -- An accepted string is the writer's own text, so its tree is the event's; the field says one size and one set of
 -- counts, the event's.
 use Prim.Native.Nat.{ℕ, _+_, _*_}

@@ -32,7 +32,7 @@ use Rattle.nson.proofs.Example.{example-read, example-refused}
 use Rattle.agreement.specs.Counted.{StringOf, string-of, TrueCounts}
 use Rattle.agreement.proofs.Agree.{both-accept}
 
--- zero id, pubkey and sig, time 1,000,000,000, kind 1, no tags and content a"b
+-- the event of the NSON examples of rule 12.4
 abbrev event : Event
 event =
     record {

@@ -1,4 +1,4 @@
--- Demand 3's sentences on room: the same length written and the same bytes, and the same length needed.
+-- Demand 3 on room: both readers write one length and one form, and both need one length (rules 12.3.3 and 12.3.5).
 -- Both readings show one event, so both entries have one text to write.
 use Prim.Native.Nat.{ℕ, _<_, _≤_}
 use mathlib.Core.Path.{_≡_, refl, sym, _∙_}
@@ -31,7 +31,7 @@ given-room s d₁ d₂ n r h =
       bytes-event = bytes;
     }
 
--- the event, where the NSON reader lacks nothing but room
+-- the event of a text that the NSON reader refuses for its room alone
 needed : {s : List ℕ} {n : ℕ} → OnlyRoom s n → (e : Event) × (readNson s ≡ shown e) × (length (pack e) ≡ n)
 needed {s} {n} (had d r) = let f = wrote pack (readNson s) d n r in (f .value, f .reads, f .long)
 needed {s} {n} (OnlyRoom.lacked d r) = let f = lacked pack d n refl (nson-tells s) r in (f .value, f .reads, f .long)

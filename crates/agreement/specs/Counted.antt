@@ -1,11 +1,9 @@
 -- The true counts of a JSON text (rules 12.3.7 to 12.3.9): read off RFC 8259's tree alone, with no reader in it.
 -- Assumes nothing.
 use Prim.Native.Nat.{ℕ, _+_, _≤_}
-use mathlib.Core.Path.{_≡_}
 use mathlib.Core.List.{List, _∷_}
 use lib.ListN.{length}
 use Rattle.scan.specs.Ascii.{ascii}
-use Rattle.event.specs.Event.{Text}
 use Rattle.jsontext.specs.Grammar as json
 use Rattle.json.specs.Meaning.{IsHex, IsArray, Once}
 use Rattle.nson.specs.Nson.{Counts, descriptors}

@@ -1,4 +1,4 @@
--- An escaped text, read back by JSON's rules, is the text.
+-- An escaped text, with JSON's escapes undone, is the text.
 -- By the escape of each byte, which is the byte itself or a letter that RFC 8259 has for it.
 use Prim.Native.Nat.{ℕ}
 use mathlib.Core.Path.{_≡_}
@@ -32,7 +32,7 @@ spelling b =
     pick-by (Spelling b) (eqb b 0x22) (letter-of b 0x22 0x22 json.quotation-mark)
     (λ q. pick-by (Spelling b) (eqb b 0x5C) (letter-of b 0x5C 0x5C json.reverse-solidus) (λ m. itself (eqb-false b 0x5C m))))))))
 
--- an escaped text, read back by JSON's rules, is the text
+-- an escaped text, with JSON's escapes undone, is the text
 pub canonical-unescaped : (t : List ℕ) → unescape (escaped canonicalByte t) ≡ t
 canonical-unescaped t =
     unescape-back canonicalByte (escaped canonicalByte) spelling (escaped-none canonicalByte) (escaped-more canonicalByte) t

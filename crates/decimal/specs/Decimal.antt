@@ -1,13 +1,10 @@
 -- Decimal numbers: the spelling without leading zeros, and a run of digits as it is read. Assumes nothing.
 use Prim.Native.Nat.{ℕ, zero, suc, _+_, _*_, _-_, _/_, _%_, _≤_}
-use mathlib.Core.Bool.{Bool, true, false}
+use mathlib.Core.Bool.{Bool}
 use mathlib.Core.List.{List, [], _∷_, _++_}
-use lib.ListN.{take, drop}
-use lib.Dec.{ltb, leb, eqb}
+use lib.Dec.{ltb}
 use Rattle.scan.specs.Choice.{pick}
-use Rattle.scan.specs.Place.{within, runAt}
-use Rattle.decimal.specs.declared.DecimalRead.{DecimalRead}
-use Rattle.decimal.specs.declared.DecimalRead.the-variants.{Number, Over, NoDigit}
+use Rattle.scan.specs.Place.{within}
 
 -- 0-9
 pub data DecimalDigit : ℕ → Type 0 where

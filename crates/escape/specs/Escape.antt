@@ -1,11 +1,8 @@
 -- The escapings of texts: in the canonical text and in NSON (rules 5 and 6). Assumes nothing.
-use Prim.Native.Nat.{ℕ, _+_, _≤_}
-use mathlib.Core.Bool.{Bool, true, false}
+use Prim.Native.Nat.{ℕ, _≤_}
 use mathlib.Core.List.{List, [], _∷_, _++_}
-use lib.Dec.{ltb, eqb}
+use lib.Dec.{eqb}
 use Rattle.scan.specs.Choice.{pick}
-use Rattle.escape.specs.declared.Escaping.{Escaping}
-use Rattle.escape.specs.declared.Escaping.the-variants.{Canonical, Nson}
 
 -- a backslash and a letter
 abbrev pub backslashed : ℕ → List ℕ

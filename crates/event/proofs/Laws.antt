@@ -9,7 +9,7 @@ use Rattle.scan.specs.Choice.{Answer, shown, refused}
 use Rattle.event.specs.Event.{Text, Tag, Event, ValidTag, Valid}
 use Rattle.event.specs.Answers.{twoNumbers}
 
--- two events are equal when all seven are equal
+-- events whose seven fields are equal are equal
 pub all-seven : {d e : Event} → d .id ≡ e .id → d .pubkey ≡ e .pubkey → d .sig ≡ e .sig → d .createdAt ≡ e .createdAt → d .kind ≡ e .kind
     → d .tags ≡ e .tags → d .content ≡ e .content → d ≡ e
 all-seven p q r s t u v = λ i. record { id = p i; pubkey = q i; sig = r i; createdAt = s i; kind = t i; tags = u i; content = v i }

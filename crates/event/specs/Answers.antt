@@ -2,9 +2,6 @@
 -- nothing.
 use Prim.Native.Nat.{ℕ}
 use Rattle.scan.specs.Choice.{Answer, shown, refused}
-use Rattle.event.specs.declared.Refusal.{Refusal}
-use Rattle.event.specs.declared.Writing.{Writing}
-use Rattle.event.specs.declared.Writing.the-variants as writing-by
 
 -- The answer of a C entry, refusal and value: 0 and what the entry shows, or the number of refusal and its place.
 abbrev pub twoNumbers : Answer ℕ → ℕ × ℕ

@@ -36,11 +36,12 @@ pub const EMPTY_TAG: u8 = 9;
 pub const AFTER_THE_END: u8 = 10;
 // lent buffer shorter than needed; the place is the length needed
 pub const TOO_LITTLE_ROOM: u8 = 11;
-// NSON: a fixed piece, hex or time up to the descriptors' end. JSON: id, pubkey, sig not lowercase hex of their length
+// NSON: a piece in front of the descriptors' end, or a descriptor, is wrong. JSON: an id, pubkey or sig that is not the
+// right number of lowercase hex digits (rule 10.12)
 pub const BAD_PIECE: u8 = 12;
 // NSON: counts disagree with the text
 pub const COUNT_DISAGREES: u8 = 13;
-// text not allowed: JSON syntax, type, escape, raw control byte
+// JSON or a string that is wrong: its syntax, a value's type, an escape, a bare byte below 20 (rule 10.14)
 pub const TEXT_NOT_ALLOWED: u8 = 14;
 
 pub const FIELD_MISSING: u8 = 15;

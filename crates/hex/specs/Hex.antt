@@ -1,5 +1,5 @@
 -- Lowercase hex: a digit and its value, a text of digits and its bytes. Assumes nothing.
-use Prim.Native.Nat.{ℕ, _+_, _*_, _-_, _/_, _%_, _≤_}
+use Prim.Native.Nat.{ℕ, _+_, _*_, _-_, _/_, _%_}
 use mathlib.Core.Bool.{Bool, true, false}
 use mathlib.Core.List.{List, [], _∷_}
 use lib.ListN.{length}
@@ -31,6 +31,6 @@ unfoldable pub allDigits : List ℕ → Bool
 allDigits [] = true
 allDigits (b ∷ t) = pick (ltb (valueOf b) 16) (allDigits t) false
 
--- whether a text goes as bytes in the strict form: non-empty, of even length and all of 0-9 a-f
+-- whether a text goes as bytes in the strict form: lowercase hex digits alone, an even number of them, at least two
 unfoldable pub goesAsBytes : List ℕ → Bool
 goesAsBytes t = pick (eqb (length t) 0) false (pick (eqb (length t % 2) 0) (allDigits t) false)

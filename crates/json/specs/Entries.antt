@@ -2,8 +2,7 @@
 -- with its number and place. Demand 3 and the contracts of the code cite these names and no others. Assumes nothing.
 use Prim.Native.Nat.{ℕ}
 use mathlib.Core.List.{List}
-use lib.ListN.{length}
-use Rattle.scan.specs.Choice.{Answer, shown, andThen}
+use Rattle.scan.specs.Choice.{Answer}
 use Rattle.buffer.specs.Entry.{writes, leaves}
 use Rattle.notepack.specs.Strict.{pack}
 use Rattle.json.specs.Object.{readJson}

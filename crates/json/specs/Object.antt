@@ -1,16 +1,15 @@
 -- The plain JSON reader: the object's members one after the other, the seven fields remembered, then what the whole
 -- says. Assumes nothing.
 use Prim.Native.Nat.{ℕ, zero, suc, _+_}
-use mathlib.Core.Bool.{Bool, true, false}
 use mathlib.Core.List.{List, [], _∷_}
-use lib.ListN.{length, getD, set}
+use lib.ListN.{length, set}
 use lib.Dec.{leb, eqb}
 use Rattle.scan.specs.Choice.{pick, Answer, shown, refused, Read, read, andThen}
 use Rattle.scan.specs.Place.{byteAt}
-use Rattle.event.specs.Event.{Text, Tag, Event}
+use Rattle.event.specs.Event.{Event}
 use Rattle.jsontext.specs.Token.{spaceAt}
-use Rattle.json.specs.Field.{Value, missing, bytes, number, tags, text, textAt, fieldOf, fieldAt, Fields, field}
-use Rattle.json.specs.inner.Closing.{bytesIn, numberIn, tagsIn, textIn, isMissing, closeAt}
+use Rattle.json.specs.Field.{missing, textAt, fieldOf, fieldAt, Fields, field}
+use Rattle.json.specs.inner.Closing.{isMissing, closeAt}
 
 abbrev pub noFields : Fields
 noFields = missing ∷ missing ∷ missing ∷ missing ∷ missing ∷ missing ∷ missing ∷ []

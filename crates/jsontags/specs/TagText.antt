@@ -2,8 +2,6 @@
 -- Assumes nothing.
 use Prim.Native.Nat.{ℕ}
 use mathlib.Core.List.{List, [], _∷_, _++_, map}
-use lib.Dec.{ltb}
-use Rattle.scan.specs.Choice.{pick}
 use Rattle.escape.specs.Escape.{escaped}
 use Rattle.event.specs.Event.{Text, Tag}
 

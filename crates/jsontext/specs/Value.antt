@@ -1,6 +1,6 @@
 -- A value as it is read over at a place, with the depth that is left (rules 7 and 11). Assumes nothing.
 use Prim.Native.Nat.{ℕ, zero, suc, _+_}
-use mathlib.Core.List.{List, [], _∷_}
+use mathlib.Core.List.{List}
 use lib.ListN.{length}
 use lib.Dec.{eqb}
 use Rattle.scan.specs.Ascii.{ascii}

@@ -9,7 +9,7 @@ use Rattle.scan.specs.Place.{within}
 use Rattle.scan.specs.Compare.{sameBytes}
 use Rattle.event.specs.Event.{Text, Tag, Event}
 
--- kinds 0, 3 and 10000-19999 are replaceable
+-- whether a kind is replaceable: 0, 3, or 10000 to 19999
 unfoldable pub isReplaceable : ℕ → Bool
 isReplaceable k = pick (eqb k 0) true (pick (eqb k 3) true (within 10_000 19_999 k))
 
@@ -32,7 +32,7 @@ secondText [] = none
 secondText (t ∷ []) = none
 secondText (t ∷ u ∷ ts) = label u
 
--- the second text of the first tag whose first text is `d`
+-- the text behind `d`, in the first tag with `d` in front; none where there is no such tag, or nothing behind `d`
 abbrev pub labelOf : List Tag → Label
 labelOf [] = none
 labelOf (t ∷ ts) = pick (isDTag t) (secondText t) (labelOf ts)

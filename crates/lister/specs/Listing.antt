@@ -7,7 +7,7 @@ use Rattle.scan.specs.Choice.{Answer, shown, refused}
 use Rattle.decimal.specs.Decimal.{decimal}
 use Rattle.notepack.specs.declared.Head.{Head}
 
--- the content and tags lines give the length and the count
+-- behind `content` stands the content's length, behind `tags` how many there are
 unfoldable pub numbersText : Head → List ℕ
 numbersText h =
     ascii "created_at " ++ decimal (h .«created_at») ++ ascii "\nkind " ++ decimal (h .kind) ++ ascii "\ncontent " ++ decimal (h .content .len) ++ ascii "\ntags " ++ decimal (h .«tag_count») ++ ascii "\n"

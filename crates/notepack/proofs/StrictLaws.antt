@@ -80,7 +80,7 @@ pack-lays e v h =
     (uleb-spells (length (e .tags)) (omega (arith, v .few)))
     (tags-lay (v .each) (tail-short (uleb (length (e .tags))) _ n))
 
--- Writing an event gives the one strict form, which reads as the same event.
+-- The strict form of a valid event, if it is no longer than an input may be, is read as that event.
 pub reads-back : (e : Event) → Valid e → length (pack e) ≤ 65_536 → unpack (pack e) ≡ shown e
 reads-back e v h = complete (pack e) e (pack-lays e v h) v h
 

@@ -8,7 +8,7 @@ use Rattle.varint.specs.Uleb.{Spells}
 use Rattle.hex.specs.Hex.{hexes}
 use Rattle.event.specs.Event.{Text, Tag, Event}
 
--- an element is the varint 2 × length + b, then that many bytes
+-- an element: its word, 2 × length + b, as a varint, and behind it the payload
 pub data Element : Text → List ℕ → Type 0 where
   -- b = 0: the bytes are the text
   as-text : {t w : List ℕ} → Spells (2 * length t) w → Element t (w ++ t)
@@ -20,7 +20,7 @@ pub data Elements : Tag → List ℕ → Type 0 where
   none : Elements [] []
   more : {t : Text} {ts : Tag} {l m : List ℕ} → Element t l → Elements ts m → Elements (t ∷ ts) (l ++ m)
 
--- a tag is its number of elements, then the elements
+-- a tag: how many elements it has, and behind that these
 pub data TagLays : Tag → List ℕ → Type 0 where
   tag : {ts : Tag} {w l : List ℕ} → Spells (length ts) w → Elements ts l → TagLays ts (w ++ l)
 
@@ -29,7 +29,7 @@ pub data Tags : List Tag → List ℕ → Type 0 where
   none : Tags [] []
   more : {t : Tag} {ts : List Tag} {l m : List ℕ} → TagLays t l → Tags ts m → Tags (t ∷ ts) (l ++ m)
 
--- id, pubkey, sig, then created_at, kind and content length, the content, the number of tags, the tags
+-- the whole event, in the order of rule 2.1
 pub data Lays (e : Event) : List ℕ → Type 0 where
   lays : {time kind size count tags : List ℕ}
       → Spells (e .createdAt) time → Spells (e .kind) kind → Spells (length (e .content)) size → Spells (length (e .tags)) count → Tags (e .tags) tags

@@ -4,7 +4,7 @@ use Prim.Native.Nat.{ℕ}
 use mathlib.Core.Path.{_≡_}
 use mathlib.Core.List.{List}
 use lib.ListN.{length, take, drop}
-use Rattle.scan.specs.Choice.{Answer, shown, andThen}
+use Rattle.scan.specs.Choice.{shown, andThen}
 use Rattle.event.specs.Event.{Tag, Event}
 use Rattle.notepack.specs.declared.Part.{Part}
 use Rattle.notepack.specs.declared.Head.{Head}

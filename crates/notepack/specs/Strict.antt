@@ -1,5 +1,5 @@
--- The strict form (rules 3): shortest varints everywhere, and an element goes as bytes exactly when
--- its text is non-empty, of even length and all of 0-9 a-f. Assumes nothing.
+-- The strict form (rules 3): every varint as short as it can be, and each element raw or as text by `goesAsBytes`
+-- (rule 3.3). Assumes nothing.
 use Prim.Native.Nat.{ℕ, _+_, _*_}
 use mathlib.Core.List.{List, [], _∷_, _++_}
 use lib.ListN.{length}

@@ -3,12 +3,10 @@
 use Prim.Native.Nat.{ℕ, zero, suc}
 use mathlib.Core.List.{List, [], _∷_}
 use lib.ListN.{length}
-use lib.Dec.{ltb}
-use Rattle.scan.specs.Choice.{pick, Answer, shown, refused, Read, andThen}
+use Rattle.scan.specs.Choice.{Answer, shown, refused, andThen}
 use Rattle.notepack.specs.declared.Part.{Part}
 use Rattle.notepack.specs.declared.Head.{Head}
-use Rattle.notepack.specs.Unpack.{bytesOf, elementAt, elementsAt, tagCountAt, tagsAt, Packed, packedAt}
-use Rattle.notepack.specs.inner.Numbers.{packedNumbers}
+use Rattle.notepack.specs.Unpack.{bytesOf, packedAt}
 
 -- the numbers of the event
 unfoldable pub numbersOf : List ℕ → Answer Head
@@ -40,5 +38,3 @@ view s (refused n p) = []
 -- the content
 unfoldable pub contentOf : List ℕ → Answer Part
 contentOf s = andThen (packedAt s) λ p. shown (p .head .content)
-
--- ---- the same by walking from place to place

@@ -8,7 +8,7 @@ ghost use Rattle.scan.specs.Choice.{andThen, shown};
 ghost use Rattle.hex.specs.Hex.{hexes};
 ghost use Rattle.notepack.specs.Strict.{packElement};
 ghost use Rattle.notepack.specs.Unpack.{textOf, payloadAt, textAt, numberAt, contentAt, elementAt, elementsAt, tagCountAt, tagAt, tagsAt, numbersAt, headAt};
-ghost use Rattle.notepack.specs.inner.Again.{elementPartAt, partAgain, countAgain};
+ghost use Rattle.notepack.specs.inner.Again.{elementPartAt, partAgain, countAgain, textsEnd};
 ghost use Rattle.notepack.specs.inner.Tally.{headLen, isHollow, more, passElements, passTag, passTags};
 ghost use Rattle.notepack.specs.Views.{numbersOf, textsIn, elementOf, view, contentOf};
 ghost use Rattle.notepack.specs.inner.Places.{tagStart, elementPlace};
@@ -460,7 +460,7 @@ pub fn read_packed(s: &[u8]) -> HeadRead
     }
 }
 
-// The content, as a part of the caller's own bytes; empty where the reader refuses.
+// The content, a part of the lent slice; empty where the reader refuses.
 pub fn content<'a>(s: &'a [u8]) -> &'a [u8]
     ensures { λ r. ⌜ now r ≡ view (now (s .entry)) (contentOf (now (s .entry))) ⌝ }
 {
@@ -569,7 +569,7 @@ pub fn find_element(s: &[u8], i: u64, j: u64) -> ElementRead
     }
 }
 
-// The payload of element j of tag i, as a part of the caller's own bytes; empty where there is none.
+// The payload of element j of tag i, a part of the lent slice; empty where there is none.
 pub fn element<'a>(s: &'a [u8], i: u64, j: u64) -> &'a [u8]
     ensures { λ r. ⌜ now r ≡ view (now (s .entry)) (elementOf i j (now (s .entry))) ⌝ }
 {
@@ -630,4 +630,18 @@ pub fn count_again(s: &[u8], at: usize) -> CountAgain
         },
         NumberRead::Refused(_) => CountAgain { count: 0, next: at },
     }
+}
+
+// The place behind n texts, from part to part.
+pub fn texts_end(s: &[u8], at: usize, n: u64) -> usize
+    ensures { λ r. ⌜ r ≡ textsEnd n (now (s .entry)) at ⌝ }
+{
+    let mut i = at;
+    let mut left = n;
+    while 0 < left {
+        let p = part_again(s, i);
+        i = p.next;
+        left -= 1;
+    }
+    i
 }

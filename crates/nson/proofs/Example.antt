@@ -21,7 +21,7 @@ use Rattle.nson.specs.Nson.{escapedSize, counts, nsonField, headText, bo
 use Rattle.nson.specs.Read as reading
 use Rattle.nson.proofs.Sound.{Accepted, accepted}
 
--- zero id, pubkey and sig, time 1,000,000,000, kind 1, no tags and content a"b
+-- the event of the NSON examples of rule 12.4
 abbrev event : Event
 event =
     record {

@@ -1,18 +1,13 @@
 -- Which events NSON can carry (rule 6.14): the statement. Its decision is `inner/Decision`. Assumes nothing.
 use Prim.Native.Nat.{ℕ, _+_, _*_, _≤_}
-use mathlib.Core.Bool.{Bool, true, false}
 use mathlib.Core.List.{List, [], _∷_}
 use lib.ListN.{length}
-use lib.Dec.{leb}
-use Rattle.scan.specs.Choice.{pick}
-use Rattle.scan.specs.Place.{within}
 use Rattle.scan.specs.Bytes.{All}
 use Rattle.escape.specs.Escape.{Carried}
-use Rattle.escape.specs.inner.Controls.{nsonText}
 use Rattle.event.specs.Event.{Text, Tag, Event}
 use Rattle.nson.specs.Nson.{escapedSize, nson}
 
--- the sum over tags of 1 + 2 × items
+-- the bytes of the descriptors of the tags: 1 for each tag, 2 for each item
 unfoldable pub tagBytes : List Tag → ℕ
 tagBytes [] = 0
 tagBytes (t ∷ l) = 1 + 2 * length t + tagBytes l

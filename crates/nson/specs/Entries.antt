@@ -3,7 +3,6 @@
 -- Assumes nothing.
 use Prim.Native.Nat.{ℕ}
 use mathlib.Core.List.{List}
-use lib.ListN.{length}
 use Rattle.scan.specs.Choice.{pick, Answer, shown, refused, andThen}
 use Rattle.buffer.specs.Entry.{writes, leaves}
 use Rattle.event.specs.Event.{Event}

@@ -1,12 +1,12 @@
 -- The text of NSON (rules 6). An event has one spelling and no other. Assumes nothing.
-use Prim.Native.Nat.{ℕ, _+_, _*_, _/_, _%_}
+use Prim.Native.Nat.{ℕ, _*_, _/_, _%_}
 use mathlib.Core.List.{List, [], _∷_, _++_, map}
 use lib.ListN.{length}
 use Rattle.scan.specs.Ascii.{ascii}
 use Rattle.hex.specs.Hex.{hexes}
 use Rattle.decimal.specs.Decimal.{decimal}
 use Rattle.escape.specs.Escape.{nsonByte, escaped}
-use Rattle.event.specs.Event.{Text, Tag, Event}
+use Rattle.event.specs.Event.{Text, Event}
 use Rattle.jsontags.specs.TagText.{tagsText}
 
 -- ---- the fixed pieces

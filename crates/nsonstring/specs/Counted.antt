@@ -11,8 +11,8 @@ use Rattle.utf8.specs.inner.Width.{widthOf}
 unfoldable pub isLetter : ℕ → Bool
 isLetter b = pick (eqb b 0x6E) true (pick (eqb b 0x22) true (eqb b 0x5C))
 
--- 0 where there is no fault; a bare quote is 13, a raw byte below 20 or a bad or cut escape 14, ill-formed or cut UTF-8
--- 5.
+-- The number of the earliest fault, 0 where there is none (rule 6.25): 13 is a quote without a backslash, 14 a byte
+-- below 20 or a backslash without its letter, 5 UTF-8 that is ill-formed or cut.
 -- `skip` bytes of the escape or sequence at hand are still to pass.
 unfoldable pub faultFrom : (skip : ℕ) → List ℕ → ℕ
 faultFrom zero [] = 0

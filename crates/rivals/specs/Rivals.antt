@@ -10,7 +10,7 @@ use Rattle.keys.specs.Key.{keyOf, sameKey}
 use Rattle.rivals.specs.declared.Kept.{Kept}
 use Rattle.rivals.specs.declared.Kept.the-variants.{First, Second, NotRivals}
 
--- by time and id: the later created_at, then the lower id as bytes, then the first
+-- by time and id: the later record; of two of one time the one with the lower id; of two with one id too the first
 unfoldable pub keepsBy : (time₁ time₂ : ℕ) → (id₁ id₂ : List ℕ) → Kept
 keepsBy t u a b = pick (ltb u t) First (pick (ltb t u) Second (pick (lower b a) Second First))
 
@@ -27,7 +27,7 @@ pub data Chosen : Type 0 where
   first-refused : (number place : ℕ) → Chosen
   second-refused : (number place : ℕ) → Chosen
 
--- the first input's refusals come before the second's
+-- where both inputs are refused, the refusal is the first one's
 abbrev pub chooses : Answer Event → Answer Event → Chosen
 chooses (refused n p) b = first-refused n p
 chooses (shown d) (refused n p) = second-refused n p

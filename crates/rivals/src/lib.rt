@@ -73,7 +73,7 @@ pub fn compare(s: &[u8], t: &[u8]) -> RivalsRead
     }
 }
 
-// That one of the two lent inputs which is to be kept; empty where there is none.
+// The record that is kept, of the two; empty where none is.
 pub fn choose<'a>(s: &'a [u8], t: &'a [u8]) -> &'a [u8]
     ensures { λ r. ⌜ now r ≡ keptBytes (now (s .entry)) (now (t .entry)) (rivals (now (s .entry)) (now (t .entry))) ⌝ }
 {

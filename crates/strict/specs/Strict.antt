@@ -8,6 +8,6 @@ use Rattle.scan.specs.Compare.{sameBytes}
 use Rattle.notepack.specs.Strict.{pack}
 use Rattle.notepack.specs.Unpack.{unpack}
 
--- yes or no; bytes that the reader refuses get its refusal
+-- the answer, yes or no; where the reader refuses, what it refuses with
 unfoldable pub strict : List ℕ → Answer Bool
 strict s = andThen (unpack s) λ e. shown (sameBytes s (pack e))

@@ -1,5 +1,5 @@
 -- The encoding of a scalar value: the table of RFC 3629, section 3, row by row. Assumes nothing.
-use Prim.Native.Nat.{ℕ, _+_, _-_, _*_, _/_, _%_, _≤_, _<_}
+use Prim.Native.Nat.{ℕ, _+_, _/_, _%_, _≤_, _<_}
 use mathlib.Core.List.{List, [], _∷_}
 use lib.Dec.{ltb}
 use Rattle.scan.specs.Choice.{pick}

@@ -1,15 +1,10 @@
 -- A varint as it is read at a place: its value and the place behind it, or refusal 2, 3 or 4 at the varint (rules 2).
 -- Assumes nothing.
 use Prim.Native.Nat.{ℕ, zero, suc, _+_, _*_, _-_}
-use mathlib.Core.Bool.{Bool, true, false}
 use mathlib.Core.List.{List, [], _∷_}
 use lib.ListN.{length, drop}
-use lib.Dec.{ltb, leb, eqb}
-use Rattle.scan.specs.Choice.{pick, Answer, shown, refused, Read, read}
-use Rattle.event.specs.inner.Told.{told}
-use Rattle.varint.specs.declared.VarintRead.{VarintRead}
-use Rattle.varint.specs.declared.VarintRead.the-variants.{Value, Refused}
-use Rattle.varint.specs.Uleb.{uleb}
+use lib.Dec.{ltb, leb}
+use Rattle.scan.specs.Choice.{pick, Answer, refused, Read, read}
 
 -- what the bytes of a list spell from its start: a number in so many bytes, more than 64 bits hold, or no last byte
 pub data Spelled : Type 0 where

@@ -1,5 +1,5 @@
--- Whether NSON can carry a text, decided by a count; a law of `proofs/` shows that it is `All Carried`. Assumes
--- nothing.
+-- Whether NSON can carry a text, decided by a count; `QuotedLaws.nson-text` shows that `nsonText` is `All Carried`.
+-- Assumes nothing.
 use Prim.Native.Nat.{ℕ, _+_}
 use mathlib.Core.Bool.{Bool}
 use mathlib.Core.List.{List, [], _∷_}

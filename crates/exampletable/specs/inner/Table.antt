@@ -47,8 +47,7 @@ pub record CheckedExamples : Type 0 where
   pub example-9 : packElement (ascii "AB") ≡ 0x04 ∷ 0x41 ∷ 0x42 ∷ []
   pub example-10 : packElement (ascii "abc") ≡ 0x06 ∷ 0x61 ∷ 0x62 ∷ 0x63 ∷ []
   pub example-11 : packElement [] ≡ 0x00 ∷ []
-  -- NSON with zero id, pubkey and sig, created_at 1,000,000,000, kind 1, no tags and content a"b: the nson field, the
-  -- length, and that it is read
+  -- the event of rule 12.4 as NSON: the nson field, the length, and that it is read
   pub example-12 : (nsonField (counts event) ≡ hexes (0x08 ∷ 0x01 ∷ 0x00 ∷ 0x04 ∷ 0x00 ∷ [])) × (length (nson event) ≡ 366) × (readNson (nson event) ≡ shown event)
   -- the same text with another count of the content's bytes, in the place of 4
   pub example-13 : readNson (with 3) ≡ refused 13 353

@@ -1,6 +1,8 @@
 -- What a field says at the closing brace: where it is missing, or of another kind, there is nothing to give but 15.
--- `proofs/Closing` shows that an event is read there exactly where the seven fields hold its parts (`close-told`).
--- Assumes nothing.
+-- Laws: an event that `closeAt` reads is one whose parts the seven fields hold, and all else is 15 at the brace
+-- (`Closing.close-told`); an event's own fields give the event (`Closing.close-event`); the whole reader shows an event
+-- exactly if the text, of at most 65,536 bytes, has a tree that is that event (`Whole.exactly`). Of `isMissing`: what
+-- one of the seven fields says is not missing (`Says.says-some`), which is one direction only. Assumes nothing.
 use Prim.Native.Nat.{ℕ, _+_}
 use mathlib.Core.Bool.{Bool, true, false}
 use mathlib.Core.List.{List, []}

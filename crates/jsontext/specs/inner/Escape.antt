@@ -1,4 +1,7 @@
--- Escapes at a place, and the text that a spelled string stands for. Assumes nothing.
+-- Escapes at a place, and the text that a spelled string stands for: decisions. Laws tie them to the grammar: what
+-- `escapeAt` finds at a backslash is a character of the grammar (`EscapeLaws.escape-at`), and each of the grammar's
+-- escapes is found (`escape-letter`, `escape-unicode`, `escape-pair`); of what the grammar spells `unescape` gives the
+-- text (`Meaning.unescape-chars`). Assumes nothing.
 use Prim.Native.Nat.{ℕ, zero, suc, _+_, _*_, _-_}
 use mathlib.Core.List.{List, [], _∷_, _++_}
 use lib.Dec.{ltb, eqb}

@@ -1,4 +1,4 @@
--- `choose` hands back that one of the two lent inputs which is kept, or nothing.
+-- `choose` hands back the record that is kept, or nothing.
 -- By what `compare` told, case by case.
 use borrow.Author.Needs.{needs}
 use Rattle.rivals.proofs.choose.Statement.{statement}

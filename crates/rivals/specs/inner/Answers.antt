@@ -13,7 +13,7 @@ rivalsRead (rivals-by.Told k) = chosen k
 rivalsRead (rivals-by.FirstRefused r) = first-refused (r .number) (r .place)
 rivalsRead (rivals-by.SecondRefused r) = second-refused (r .number) (r .place)
 
--- that one of the two lent inputs which is kept, and nothing where there is none
+-- the bytes of the record that is kept, and nothing where none is
 abbrev pub keptBytes : List ℕ → List ℕ → Chosen → List ℕ
 keptBytes s t (chosen First) = s
 keptBytes s t (chosen Second) = t

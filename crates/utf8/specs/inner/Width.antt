@@ -1,5 +1,7 @@
--- The decision: how many bytes one sequence takes, and whether a text is made of sequences. `proofs/Laws` shows that it
--- is `Utf8`. Assumes nothing.
+-- The decision: how many bytes one sequence takes, and whether a text is made of sequences. `Laws.is-utf8` shows that
+-- `isUtf8` is `Utf8`. Of one sequence: `WidthLaws.width-accepts` (a character of `Utf8` has its length as width),
+-- `width-consumes` (a width other than 0 is that of a character that stands there), both stated by `scan/inner/Span`,
+-- which an auditor of them reads too; and `width-here` (`widthAt` is `widthOf` of four bytes). Assumes nothing.
 use Prim.Native.Nat.{ℕ, zero, suc, _+_, _-_}
 use mathlib.Core.Bool.{Bool, true, false}
 use mathlib.Core.List.{List, [], _∷_}
