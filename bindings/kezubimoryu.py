@@ -36,7 +36,7 @@ __all__ = [
     "Bytes", "Numbers", "Payload", "Element", "Both", "Refused", "kez_refusal_text",
     "kez_notepack_read", "kez_notepack_is_strict", "kez_notepack_write", "kez_notepack_tag_len",
     "kez_notepack_element", "kez_notepack_elements", "kez_canonical_write", "kez_nson_write",
-    "kez_nson_read", "kez_json_read", "kez_read_both", "kez_rivals",
+    "kez_nson_read", "kez_json_read", "kez_read_both", "kez_rivals", "kez_version",
 ]
 
 #: No accepted input is longer; nor is an event in strict form, nor NSON. Rule 1.9.
@@ -228,7 +228,8 @@ def _declared(library: ctypes.CDLL) -> Dict[str, Any]:
     return entries
 
 
-_entries = _declared(_open())
+_library = _open()
+_entries = _declared(_library)
 
 
 def _ask(name: str, *words: Any) -> _Answer:
@@ -470,3 +471,18 @@ def kez_rivals(first: Bytes, second: Bytes) -> int:
 
     Rules 8.1 to 8.11."""
     return _call("kez_rivals", *_lend(first), *_lend(second))
+
+
+def kez_version() -> int:
+    """The version of the library that is loaded: 10,000 for a major one, 100 for a minor one, 1 for a patch.
+
+    >>> major, minor, patch = map(int, __version__.split("."))
+    >>> kez_version() == major * 10000 + minor * 100 + patch
+    True
+
+    Rule 12.1.12."""
+    entry = getattr(_library, "kez_version", None)
+    if entry is None:
+        raise NotImplementedError("this library has no kez_version: it is older than 0.5")
+    entry.restype, entry.argtypes = ctypes.c_uint64, ()
+    return entry()

@@ -73,6 +73,8 @@ unsafe extern "C" {
         out: *mut u8,
         out_len: usize,
     ) -> kez_answer;
+    /// Rule 12.1.12.
+    pub fn kez_version() -> u64;
     /// Rules 8.1 to 8.11.
     pub fn kez_rivals(first: *const u8, first_len: usize, second: *const u8, second_len: usize) -> kez_answer;
     /// Rules 5.1 to 5.9, 12.2.8.
@@ -298,6 +300,11 @@ impl Iterator for Elements<'_> {
 }
 
 impl std::iter::FusedIterator for Elements<'_> {}
+
+/// The version of the library that is linked: 10,000 for a major one, 100 for a minor one, 1 for a patch.
+pub fn version() -> u64 {
+    unsafe { kez_version() }
+}
 
 /// Which of two packed events is to be kept? A refusal does not say whose it is.
 pub fn rivals(first: &[u8], second: &[u8]) -> Result<Kept, Refused> {

@@ -102,6 +102,8 @@ fn all_elements(record: &[u8]) -> Result<(), Refused> {
         }
     }
     assert_eq!((elements.len(), &elements), (5, &wanted));
+    let number: u64 = KEZ_VERSION.split('.').fold(0, |n, part| n * 100 + part.parse::<u64>().unwrap());
+    assert_eq!(version(), number);
     assert_eq!(notepack_elements(&[]).err(), Some(Refused { number: 2, place: 0 }));
     assert_eq!(notepack_elements(&[0; 132])?.next(), None);
     for (tags, texts) in [(1, 1), (16, 64), (32, 64), (5, 255), (253, 255)] {

@@ -134,19 +134,21 @@ kez_answer kez_notepack_element(const uint8_t *packed, size_t packed_len,
                                 uint64_t tag, uint64_t element,
                                 uint64_t *at, uint64_t *len, uint64_t *is_bytes);
 
+/* What kez_notepack_elements writes for one element. */
+#define KEZ_ELEMENT_BYTES 16
+
+/* A buffer of this length has room for the elements of any record. Rule 4.15. */
+#define KEZ_ELEMENTS_MOST (KEZ_ELEMENT_BYTES * KEZ_MOST)
+
 /* Lists the elements of all tags, in their order, in one pass: from element number first on, counted over all tags from
  * 0, as many as there are and as fit whole into out. Each takes KEZ_ELEMENT_BYTES in out, four little-endian numbers of
  * four bytes: its tag's number, the place of its payload in packed, the payload's length, and 1 for raw bytes (whose
- * text is their lowercase hex) or 0 for text. Bytes behind the last of them are unchanged.
+ * text is their lowercase hex) or 0 for text. Bytes behind the last of them are unchanged. To list them in blocks, lend
+ * at least KEZ_ELEMENT_BYTES and go on with first + value until value is less than fits. There is no size query here.
  * Refusals: those of kez_notepack_read; never 11.
  * value: how many were listed; fewer than fit means that there are no more, so a first past the last lists none
  * Cost: linear in packed_len.
- * Rules 4.12 to 4.15; of the input 2.1 to 2.17. */
-#define KEZ_ELEMENT_BYTES 16
-
-/* A buffer of this length has room for the elements of any record. */
-#define KEZ_ELEMENTS_MOST (KEZ_ELEMENT_BYTES * KEZ_MOST)
-
+ * Rules 2.10 to 2.12, 4.3, 4.8, 4.12 to 4.15; of the input 2.1 to 2.17. */
 kez_answer kez_notepack_elements(const uint8_t *packed, size_t packed_len, uint64_t first,
                                  uint8_t *out, size_t out_len);
 

@@ -231,7 +231,9 @@ static const char *advice(uint64_t refusal, int input)
         return input == NSON ? "A line end behind an NSON text is too much already: cut it off with head -c -1."
                              : "One record at a time: cut the input there.";
     case 12: return input == NSON ? "NSON has its fields in one fixed order. Other JSON is read by from-json." : NULL;
-    case 13: return "The sender's nson field is wrong. from-json reads the text without that field.";
+    case 13:
+        return "The counts and the text disagree: the text is cut or changed, or its nson field is wrong. "
+               "from-json takes no notice of the counts.";
     case 14:
         return input == NSON ? "A string of NSON has no escapes but \\n, \\\\ and \\\", no raw control byte, "
                                "and no escape that its count cuts."

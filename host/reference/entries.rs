@@ -10,6 +10,12 @@ pub struct KezAnswer {
     value: u64,
 }
 
+/// 0.5.0: 10,000 for a major version, 100 for a minor one, 1 for a patch.
+#[no_mangle]
+pub extern "C" fn kez_version() -> u64 {
+    500
+}
+
 fn told(answer: Answer<u64>) -> KezAnswer {
     match answer {
         Ok(value) => KezAnswer { refusal: 0, value },
