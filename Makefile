@@ -1,42 +1,44 @@
-# Needs the Rattle toolchain (rt on the PATH) and gcc.
+# Needs the Rattle toolchain (rt on the PATH) and gcc; LIB=FILE takes an archive that is there in rt's stead.
 PREFIX ?= /usr/local
-.PHONY: demo test compare bench bench-install fuzz fuzz-install install pictures clean
+SEED ?= 1
+install uninstall: export PREFIX := $(PREFIX)
+compare fuzz: export SEED := $(SEED)
+.PHONY: help demo test compare fuzz fuzz-install bench bench-install install uninstall pictures clean
 
-# one record, walked through all forms
-demo:
+help: ## these lines
+	@awk -F ':.*## ' '/^[a-z-]+:.*## / { printf "make %-14s %s\n", $$1, $$2 }' Makefile
+
+demo: ## one record, taken through all forms
 	@host/demo
 
-# exactly what the gate runs
-test:
+test: ## the gate: all proofs from nothing, then all tests; KEZ_WHOLE=1 has the slow edits too, and skips nothing
 	@.ci/run
 
-# the library's answers against an independent implementation: make compare [ORACLE=program] [COUNT=n] [SEED=n]
-compare:
-	@host/compare $(COUNT)
+compare: ## the library beside another implementation [ORACLE=program] [COUNT=100000] [SEED=1]
+	@bash -c '. host/build.sh; number COUNT "$${COUNT:-1}" 1 && number SEED "$$SEED"'
+	@echo "seed $$SEED"
+	@host/compare "$$COUNT"
 
-# every entry under guard pages, sanitizers and libFuzzer: make fuzz [SECONDS=n]; the plain harness where clang has no
-# libFuzzer
-fuzz:
-	@host/fuzz/guided $(SECONDS)
+fuzz: ## every entry under guard pages, sanitizers and libFuzzer [SECONDS=600] [SEED=1]
+	@host/fuzz/guided "$(SECONDS)"
 
-fuzz-install:
+fuzz-install: ## clang with libFuzzer, from Debian's packages
 	@host/fuzz/install
 
-# nanoseconds for a call, beside plain Rust, a memcpy and the JSON parsers that are installed: make bench
-# [ORACLE=program]
-bench:
+bench: ## nanoseconds for a call, beside plain Rust, memcpy and JSON parsers that are installed [ORACLE=program]
 	@host/bench
 
-bench-install:
+bench-install: ## these JSON parsers, from Debian's packages
 	@host/bench-install
 
-# the library, its header, the tool, its man page and the pkg-config file: make install PREFIX=/usr/local [DESTDIR=]
-install:
-	@host/install "$(PREFIX)"
+install: ## libraries, header, the tool, man pages, files for pkg-config and CMake [PREFIX=/usr/local] [DESTDIR=folder]
+	@host/install "$$PREFIX"
 
-# the pictures in docs/, drawn anew
-pictures:
+uninstall: ## removes what install put below PREFIX, and nothing else [PREFIX=/usr/local] [DESTDIR=folder]
+	@host/install --remove "$$PREFIX"
+
+pictures: ## the pictures in docs/, drawn anew
 	@host/pictures
 
-clean:
+clean: ## removes target/, where all is built
 	rm -rf target

@@ -1,24 +1,112 @@
-"""Kezubimoryu from Python: the C entries of kezubimoryu.h under their own names, by ctypes, in this one file.
+r"""Kezubimoryu from Python: the C entries of kezubimoryu.h under their own names, by ctypes, in this one file.
 
-Each takes bytes. A refusal is raised as Refused, with its number and place; the exception's text is a sentence.
+Input is bytes, or what shows itself as such: a bytearray, a memoryview, a mmap. It is copied unless it is bytes, so
+that nobody changes it during the call. Anything else, a str or a number too, is a TypeError. Numbers of tags and
+elements go from 0 to 2^64 - 1; others are an OverflowError, and a bool or a float is a TypeError.
+
+A refusal is raised as Refused, with its number and place; the exception's text is a sentence:
+
+>>> import kezubimoryu as kez
+>>> event = bytes(128) + bytes.fromhex("8094ebdc03 01 02 6869 01 02 0264 03ab")
+>>> kez.kez_canonical_write(event)[-33:]
+b'",1000000000,1,[["d","ab"]],"hi"]'
+>>> kez.kez_canonical_write(event[:-1])
+Traceback (most recent call last):
+    ...
+kezubimoryu.Refused: refused 2 at 141: The packed event is cut short, or a length in it goes beyond its end.
+
 Each description ends with the rules of docs/RULES.md that bind the entry, and kezubimoryu.h says more. Parts 1, 10, 11
 and 12.1 of the rules bind all entries; rule 10.N is refusal N.
-The shared library is $KEZ_LIBRARY, or libkezubimoryu.so beside this file, or wherever the system finds it.
+
+The shared library is the file that the environment variable KEZUBIMORYU_LIBRARY names (KEZ_LIBRARY, its older name,
+does the same). If neither is set, it is libkezubimoryu.so.0 or libkezubimoryu.so where the system's loader finds it,
+or beside this file. Without one the import fails, with an ImportError that says what to do.
 """
 import ctypes
+import ctypes.util
+import operator
 import os
-from collections import namedtuple
+import struct
+from typing import Any, Dict, Iterator, List, NamedTuple, Optional, Tuple, Union
 
-__version__ = "0.4.3"
+__version__ = "0.5.0"
 
-KEZ_MOST = 65536
-KEZ_CANONICAL_MOST = 3 * KEZ_MOST
+__all__ = [
+    "KEZ_MOST", "KEZ_CANONICAL_MOST", "KEZ_ELEMENT_BYTES", "KEZ_ELEMENTS_MOST", "SENTENCES",
+    "Bytes", "Numbers", "Payload", "Element", "Both", "Refused", "kez_refusal_text",
+    "kez_notepack_read", "kez_notepack_is_strict", "kez_notepack_write", "kez_notepack_tag_len",
+    "kez_notepack_element", "kez_notepack_elements", "kez_canonical_write", "kez_nson_write",
+    "kez_nson_read", "kez_json_read", "kez_read_both", "kez_rivals", "kez_version",
+]
 
-Numbers = namedtuple("Numbers", "created_at kind content_at content_len tag_count")
-Element = namedtuple("Element", "at len is_bytes")
-Both = namedtuple("Both", "value nson json")
+#: No accepted input is longer; nor is an event in strict form, nor NSON. Rule 1.9.
+KEZ_MOST: int = 65536
+#: No canonical text is longer. Rule 5.8.
+KEZ_CANONICAL_MOST: int = 3 * KEZ_MOST
+#: So many bytes are needed for each element that kez_notepack_elements of the header lists.
+KEZ_ELEMENT_BYTES: int = 16
+#: So many have room for the elements of any record.
+KEZ_ELEMENTS_MOST: int = KEZ_ELEMENT_BYTES * KEZ_MOST
 
-SENTENCES = (
+#: What is taken as input; so is anything else that shows contiguous bytes.
+Bytes = Union[bytes, bytearray, memoryview]
+
+
+class Numbers(NamedTuple):
+    """Five numbers of a packed event. The content is packed[content_at:content_at + content_len].
+
+    >>> kez_notepack_read(bytes(132)).content_at
+    131
+    """
+
+    created_at: int
+    kind: int
+    content_at: int
+    content_len: int
+    tag_count: int
+
+
+class Payload(NamedTuple):
+    """Where the text of an element stands: payload = packed[at:at + len]. The text is payload.decode(), or
+    payload.hex() where is_bytes.
+
+    >>> kez_notepack_element(bytes(131) + bytes.fromhex("01 02 0264 03ab"), 0, 0)
+    Payload(at=134, len=1, is_bytes=False)
+    """
+
+    at: int
+    len: int
+    is_bytes: bool
+
+
+class Element(NamedTuple):
+    """The number of an element's tag, and its payload as in Payload.
+
+    >>> list(kez_notepack_elements(bytes(131) + bytes.fromhex("01 01 0264")))
+    [Element(tag=0, at=134, len=1, is_bytes=False)]
+    """
+
+    tag: int
+    at: int
+    len: int
+    is_bytes: bool
+
+
+class Both(NamedTuple):
+    """The answer of kez_read_both: its value, and the strict form by each of the two readers.
+
+    >>> event = bytes(128) + bytes.fromhex("8094ebdc03 01 02 6869 00")
+    >>> kez_read_both(kez_nson_write(event)).value
+    2
+    """
+
+    value: int
+    nson: Optional[bytes]
+    json: bytes
+
+
+#: A sentence for each refusal, by its number.
+SENTENCES: Tuple[str, ...] = (
     "Nothing is refused.",
     "The input is longer than 65,536 bytes.",
     "The packed event is cut short, or a length in it goes beyond its end.",
@@ -43,128 +131,358 @@ SENTENCES = (
 
 
 class Refused(Exception):
-    def __init__(self, number, place):
-        super().__init__("refused %d at %d: %s" % (number, place, kez_refusal_text(number)))
+    """A refusal: its number, the place in the input where the fault was found, and as text a sentence.
+
+    It may be pickled, so it comes whole out of a process pool.
+
+    >>> try:
+    ...     kez_notepack_read(b"")
+    ... except Refused as refused:
+    ...     print(refused.number, refused.place)
+    2 0
+    """
+
+    number: int
+    place: int
+
+    def __init__(self, number: int, place: int) -> None:
+        super().__init__(number, place)  # what pickle makes it from again
         self.number = number
         self.place = place
+
+    def __str__(self) -> str:
+        return "refused %d at %d: %s" % (self.number, self.place, kez_refusal_text(self.number))
+
+
+# The library
 
 
 class _Answer(ctypes.Structure):
     _fields_ = [("refusal", ctypes.c_uint64), ("value", ctypes.c_uint64)]
 
 
-def _open():
-    beside = os.path.join(os.path.dirname(os.path.abspath(__file__)), "libkezubimoryu.so")
-    name = os.environ.get("KEZ_LIBRARY") or (beside if os.path.exists(beside) else "libkezubimoryu.so")
-    return ctypes.CDLL(name)
+_bytes = (ctypes.c_char_p, ctypes.c_size_t)
+_room = (ctypes.POINTER(ctypes.c_char), ctypes.c_size_t)
+_index = (ctypes.c_uint64,)
+_number = (ctypes.POINTER(ctypes.c_uint64),)
+
+#: What each entry takes.
+_types: Dict[str, Tuple[Any, ...]] = {
+    "kez_notepack_read": _bytes + _number * 5,
+    "kez_notepack_is_strict": _bytes,
+    "kez_notepack_write": _bytes + _room,
+    "kez_notepack_tag_len": _bytes + _index,
+    "kez_notepack_element": _bytes + _index * 2 + _number * 3,
+    "kez_notepack_elements": _bytes + _index + _room,
+    "kez_rivals": _bytes + _bytes,
+    "kez_canonical_write": _bytes + _room,
+    "kez_nson_write": _bytes + _room,
+    "kez_nson_read": _bytes + _room,
+    "kez_json_read": _bytes + _room,
+    "kez_read_both": _bytes + _room + _room + _number,
+}
+
+_variables = ("KEZUBIMORYU_LIBRARY", "KEZ_LIBRARY")
+_names = ("libkezubimoryu.so.0", "libkezubimoryu.so")
+
+
+def _places() -> Iterator[str]:
+    """Where the library may be: by the loader, beside this file, and by what else ctypes knows of the system."""
+    yield from _names
+    for name in _names:
+        beside = os.path.join(os.path.dirname(os.path.abspath(__file__)), name)
+        if os.path.exists(beside):
+            yield beside
+    found = ctypes.util.find_library("kezubimoryu")
+    if found:
+        yield found
+
+
+def _open() -> ctypes.CDLL:
+    for variable in _variables:
+        name = os.environ.get(variable)
+        if name:
+            try:
+                return ctypes.CDLL(name)
+            except OSError as error:
+                raise ImportError("%s is %r, which can't be loaded: %s" % (variable, name, error)) from None
+    tried: List[str] = []
+    for name in _places():
+        try:
+            return ctypes.CDLL(name)
+        except OSError as error:
+            tried.append(str(error))
+    raise ImportError(
+        "The Kezubimoryu library was not found. Set the environment variable KEZUBIMORYU_LIBRARY to the path of "
+        "libkezubimoryu.so; or install the library and let the loader know (ldconfig, or LD_LIBRARY_PATH); or put "
+        "libkezubimoryu.so into %s. Tried: %s" % (os.path.dirname(os.path.abspath(__file__)), "; ".join(tried)))
+
+
+def _declared(library: ctypes.CDLL) -> Dict[str, Any]:
+    """The library's entries by their names, those that it has."""
+    entries = {name: getattr(library, name, None) for name in _types}
+    for name, entry in entries.items():
+        if entry is not None:
+            entry.restype = _Answer
+            entry.argtypes = _types[name]
+    return entries
 
 
 _library = _open()
-_bytes = (ctypes.c_char_p, ctypes.c_size_t)
-_room = (ctypes.POINTER(ctypes.c_char), ctypes.c_size_t)
-_number = ctypes.POINTER(ctypes.c_uint64)
+_entries = _declared(_library)
 
 
-def _call(name, types, *words):
-    """The answer's value; a refusal is raised."""
-    entry = getattr(_library, name, None)
+def _ask(name: str, *words: Any) -> _Answer:
+    entry = _entries[name]
     if entry is None:
         raise NotImplementedError("this library has no " + name)
-    entry.restype = _Answer
-    entry.argtypes = types
-    answer = entry(*words)
+    return entry(*words)
+
+
+def _call(name: str, *words: Any) -> int:
+    """The answer's value; a refusal is raised."""
+    answer = _ask(name, *words)
     if answer.refusal:
         raise Refused(answer.refusal, answer.value)
     return answer.value
 
 
-def _lend(data):
-    data = bytes(data)
+def _lend(data: Bytes) -> Tuple[bytes, int]:
+    """The bytes and their length. Only bytes themselves are lent as they are: nobody can change them, and their length
+    is what they say."""
+    if type(data) is not bytes:
+        view = memoryview(data)
+        if view.ndim != 1 or not view.contiguous or view.format.lstrip("@=<>!") not in ("B", "b", "c"):
+            raise TypeError("contiguous bytes are wanted, not %s of format %r" % (type(data).__name__, view.format))
+        data = view.tobytes()
     return data, len(data)
 
 
-def _most(data):
-    """Room for an event in strict form, which is never longer than what it was read from."""
-    return min(len(data), KEZ_MOST)
+def _checked(number: int) -> int:
+    """An index as the library takes it."""
+    if isinstance(number, bool):
+        raise TypeError("a number of a tag or element is wanted, not a bool")
+    number = operator.index(number)
+    if not 0 <= number < 1 << 64:
+        raise OverflowError("%d is not in the range from 0 to 2^64 - 1" % number)
+    return number
 
 
-def _write(name, data, room):
+def _needed(name: str, *words: Any) -> int:
+    """The length that is needed, asked for by lending nothing: it is told with refusal 11."""
+    answer = _ask(name, *words)
+    if answer.refusal != 11:
+        raise Refused(answer.refusal, answer.value)
+    return answer.value
+
+
+def _write(name: str, data: Bytes) -> bytes:
+    lent = _lend(data)
+    room = _needed(name, *lent, None, 0)
     out = ctypes.create_string_buffer(room)
-    length = _call(name, _bytes + _room, *_lend(data), out, room)
+    length = _call(name, *lent, out, room)
     return out.raw[:length]
 
 
-def kez_refusal_text(number):
-    """A sentence for a refusal: rule 10.N says when refusal N is given."""
+def _numbers(count: int) -> List[ctypes.c_uint64]:
+    return [ctypes.c_uint64() for _ in range(count)]
+
+
+# The entries
+
+
+def kez_refusal_text(number: int) -> str:
+    """A sentence for a refusal: rule 10.N says when refusal N is given.
+
+    >>> kez_refusal_text(9)
+    'A tag is empty.'
+    """
     return SENTENCES[number] if 0 <= number < len(SENTENCES) else "There is no refusal with this number."
 
 
-def kez_notepack_read(packed):
+def kez_notepack_read(packed: Bytes) -> Numbers:
     """Five numbers of a packed event: created_at, kind, the content's place and length, the number of tags.
+
+    >>> event = bytes(128) + bytes.fromhex("8094ebdc03 01 02 6869 00")
+    >>> numbers = kez_notepack_read(event)
+    >>> numbers
+    Numbers(created_at=1000000000, kind=1, content_at=135, content_len=2, tag_count=0)
+    >>> event[numbers.content_at:numbers.content_at + numbers.content_len].decode()
+    'hi'
+
     Rules 2.1 to 2.18, 4.1, 4.8, 4.9, 12.2.1 to 12.2.3."""
-    numbers = (ctypes.c_uint64 * 5)()
-    at = [ctypes.cast(ctypes.byref(numbers, 8 * i), _number) for i in range(5)]
-    _call("kez_notepack_read", _bytes + (_number,) * 5, *_lend(packed), *at)
-    return Numbers(*numbers)
+    numbers = _numbers(5)
+    _call("kez_notepack_read", *_lend(packed), *numbers)
+    return Numbers(*(n.value for n in numbers))
 
 
-def kez_notepack_is_strict(packed):
-    """Are these bytes in strict form? Rules 3.1 to 3.5, 12.2.7."""
-    return bool(_call("kez_notepack_is_strict", _bytes, *_lend(packed)))
+def kez_notepack_is_strict(packed: Bytes) -> bool:
+    """Are these bytes in strict form?
+
+    >>> kez_notepack_is_strict(bytes(132))
+    True
+    >>> kez_notepack_is_strict(bytes(128) + bytes.fromhex("8000 00 00 00"))
+    False
+
+    Rules 3.1 to 3.5, 12.2.7."""
+    return bool(_call("kez_notepack_is_strict", *_lend(packed)))
 
 
-def kez_notepack_write(packed):
-    """The strict form of a packed event. Rules 3.1 to 3.3, 3.6, 3.7, 12.2.4 to 12.2.6."""
-    return _write("kez_notepack_write", packed, _most(packed))
+def kez_notepack_write(packed: Bytes) -> bytes:
+    """The strict form of a packed event.
+
+    >>> kez_notepack_write(bytes(128) + bytes.fromhex("8000 00 00 00")) == bytes(132)
+    True
+
+    Rules 3.1 to 3.3, 3.6, 3.7, 12.2.4 to 12.2.6."""
+    return _write("kez_notepack_write", packed)
 
 
-def kez_notepack_tag_len(packed, tag):
-    """The number of texts in this tag. Rules 4.4 to 4.6, 4.9, 12.2.3."""
-    return _call("kez_notepack_tag_len", _bytes + (ctypes.c_uint64,), *_lend(packed), tag)
+def kez_notepack_tag_len(packed: Bytes, tag: int) -> int:
+    """The number of texts in this tag.
+
+    >>> event = bytes(131) + bytes.fromhex("01 02 0264 03ab")
+    >>> kez_notepack_tag_len(event, 0)
+    2
+
+    Rules 4.4 to 4.6, 4.9, 12.2.3."""
+    return _call("kez_notepack_tag_len", *_lend(packed), _checked(tag))
 
 
-def kez_notepack_element(packed, tag, element):
-    """The place and length of this element's payload, and is_bytes: 0, the payload is the text; 1, the text is the
-    payload in lowercase hex. Rules 2.10 to 2.12, 4.2, 4.3, 4.5, 4.6, 4.8, 4.9, 12.2.3."""
-    numbers = (ctypes.c_uint64 * 3)()
-    at = [ctypes.cast(ctypes.byref(numbers, 8 * i), _number) for i in range(3)]
-    _call("kez_notepack_element", _bytes + (ctypes.c_uint64,) * 2 + (_number,) * 3, *_lend(packed), tag, element, *at)
-    return Element(*numbers)
+def kez_notepack_element(packed: Bytes, tag: int, element: int) -> Payload:
+    """The place and length of this element's payload, and is_bytes: False, the payload is the text; True, the text is
+    the payload in lowercase hex.
+
+    >>> event = bytes(131) + bytes.fromhex("01 02 0264 03ab")
+    >>> kez_notepack_element(event, 0, 1)
+    Payload(at=136, len=1, is_bytes=True)
+    >>> event[136:137].hex()
+    'ab'
+
+    Rules 2.10 to 2.12, 4.2, 4.3, 4.5, 4.6, 4.8, 4.9, 12.2.3."""
+    numbers = _numbers(3)
+    _call("kez_notepack_element", *_lend(packed), _checked(tag), _checked(element), *numbers)
+    at, length, is_bytes = (n.value for n in numbers)
+    return Payload(at, length, bool(is_bytes))
 
 
-def kez_canonical_write(packed):
-    """The canonical text of NIP-01, at most three times as long as packed. Rules 5.1 to 5.9, 12.2.8."""
-    return _write("kez_canonical_write", packed, 3 * _most(packed))
+def kez_notepack_elements(packed: Bytes) -> Iterator[Element]:
+    """All elements of all tags in their order. A refusal is raised by the call itself, not later by the iterator.
+
+    >>> event = bytes(131) + bytes.fromhex("02 02 0264 03ab 01 0470 71")
+    >>> for tag, at, length, is_bytes in kez_notepack_elements(event):
+    ...     payload = event[at:at + length]
+    ...     print(tag, payload.hex() if is_bytes else payload.decode())
+    0 d
+    0 ab
+    1 pq
+
+    Rules 4.12 to 4.15."""
+    data, length = _lend(packed)
+    # an element takes a byte of the record or more, so a short record needs one block
+    block = ctypes.create_string_buffer(KEZ_ELEMENT_BYTES * max(1, min(length, 1024)))
+    return _blocks(data, block, _listed(data, 0, block))
 
 
-def kez_nson_write(packed):
-    """A packed event as NSON, at most KEZ_MOST bytes. Rules 6.1 to 6.16, 12.3.10 to 12.3.12."""
-    return _write("kez_nson_write", packed, KEZ_MOST)
+def _listed(data: bytes, first: int, block: Any) -> int:
+    """How many elements from number first on are now in the block."""
+    return _call("kez_notepack_elements", data, len(data), first, block, len(block))
 
 
-def kez_nson_read(text):
+def _blocks(data: bytes, block: Any, listed: int) -> Iterator[Element]:
+    """The elements of this block, and of those after it."""
+    first = 0
+    while True:
+        for tag, at, length, is_bytes in struct.iter_unpack("<4I", block.raw[:KEZ_ELEMENT_BYTES * listed]):
+            yield Element(tag, at, length, bool(is_bytes))
+        if KEZ_ELEMENT_BYTES * listed < len(block):
+            return
+        first += listed
+        listed = _listed(data, first, block)
+
+
+def kez_canonical_write(packed: Bytes) -> bytes:
+    """The canonical text of NIP-01, at most three times as long as packed. Its SHA-256 is the event's id.
+
+    >>> kez_canonical_write(bytes(132))[-16:]
+    b'0000",0,0,[],""]'
+
+    Rules 5.1 to 5.9, 12.2.8."""
+    return _write("kez_canonical_write", packed)
+
+
+def kez_nson_write(packed: Bytes) -> bytes:
+    """A packed event as NSON, at most KEZ_MOST bytes.
+
+    >>> event = bytes(128) + bytes.fromhex("8094ebdc03 01 02 6869 00")
+    >>> kez_nson_write(event)[-54:]
+    b'"nson":"0801000200","kind":1,"content":"hi","tags":[]}'
+
+    Rules 6.1 to 6.16, 12.3.10 to 12.3.12."""
+    return _write("kez_nson_write", packed)
+
+
+def kez_nson_read(text: Bytes) -> bytes:
     """NSON as a packed event in strict form.
+
+    >>> event = bytes(128) + bytes.fromhex("8094ebdc03 01 02 6869 00")
+    >>> kez_nson_read(kez_nson_write(event)) == event
+    True
+
     Rules 6.1 to 6.12, 6.17 to 6.30, 12.3.1 to 12.3.3, 12.3.5 to 12.3.9."""
-    return _write("kez_nson_read", text, _most(text))
+    return _write("kez_nson_read", text)
 
 
-def kez_json_read(text):
+def kez_json_read(text: Bytes) -> bytes:
     """An event in plain JSON as a packed event in strict form.
+
+    >>> text = '{"id":"%064d","pubkey":"%064d","sig":"%0128d","created_at":0,"kind":0,"tags":[],"content":""}'
+    >>> kez_json_read((text % (0, 0, 0)).encode()) == bytes(132)
+    True
+
     Rules 7.1 to 7.27, 12.1.9, 12.2.9, 12.2.10, 12.3.1 to 12.3.6."""
-    return _write("kez_json_read", text, _most(text))
+    return _write("kez_json_read", text)
 
 
-def kez_read_both(text):
+def kez_read_both(text: Bytes) -> Both:
     """Reads one text as kez_json_read and as kez_nson_read do. Value 2: both accept it, as the same event; 1:
     kez_json_read alone, and nson is None. What kez_json_read refuses is raised as its refusal.
+
+    >>> event = bytes(128) + bytes.fromhex("8094ebdc03 01 02 6869 00")
+    >>> kez_read_both(kez_nson_write(event)) == Both(2, event, event)
+    True
+    >>> kez_read_both(kez_nson_write(event) + b" ") == Both(1, None, event)
+    True
+
     Rules 9.1 to 9.7, 12.3.1 to 12.3.3, 12.3.6."""
-    room, length = _most(text), ctypes.c_uint64()
+    lent, written = _lend(text), ctypes.c_uint64()
+    room = _needed("kez_read_both", *lent, None, 0, None, 0, written)
     nson, json = ctypes.create_string_buffer(room), ctypes.create_string_buffer(room)
-    value = _call("kez_read_both", _bytes + _room + _room + (_number,), *_lend(text), nson, room, json, room,
-                  ctypes.byref(length))
-    return Both(value, nson.raw[:length.value] if value == 2 else None, json.raw[:length.value])
+    value = _call("kez_read_both", *lent, nson, room, json, room, written)
+    return Both(value, nson.raw[:written.value] if value == 2 else None, json.raw[:written.value])
 
 
-def kez_rivals(first, second):
-    """Which of two packed events is kept: 0 not rivals, 1 the first, 2 the second. Rules 8.1 to 8.11."""
-    return _call("kez_rivals", _bytes + _bytes, *_lend(first), *_lend(second))
+def kez_rivals(first: Bytes, second: Bytes) -> int:
+    """Which of two packed events is kept: 0 not rivals, 1 the first, 2 the second.
+
+    >>> early, late = bytes(132), bytes(128) + bytes([1, 0, 0, 0])
+    >>> kez_rivals(early, late)
+    2
+
+    Rules 8.1 to 8.11."""
+    return _call("kez_rivals", *_lend(first), *_lend(second))
+
+
+def kez_version() -> int:
+    """The version of the library that is loaded: 10,000 for a major one, 100 for a minor one, 1 for a patch.
+
+    >>> major, minor, patch = map(int, __version__.split("."))
+    >>> kez_version() == major * 10000 + minor * 100 + patch
+    True
+
+    Rule 12.1.12."""
+    entry = getattr(_library, "kez_version", None)
+    if entry is None:
+        raise NotImplementedError("this library has no kez_version: it is older than 0.5")
+    entry.restype, entry.argtypes = ctypes.c_uint64, ()
+    return entry()

@@ -1,15 +1,33 @@
-//! Kezubimoryu from Rust: the C entries of kezubimoryu.h. Put this file beside yours as `mod kezubimoryu;` and link
-//! libkezubimoryu.a (`-l static=kezubimoryu -L PREFIX/lib`). The header says what each entry promises. The rules named
-//! here are those of docs/RULES.md; parts 1, 10, 11 and 12.1 of it bind all entries.
+//! Kezubimoryu from Rust: the C entries of kezubimoryu.h, and a safe function for each. Put this file beside yours as
+//! `mod kezubimoryu;` and link libkezubimoryu.a (`-l static=kezubimoryu -L PREFIX/lib`). It is for editions 2021 and
+//! 2024, and needs Rust 1.82 or later.
+//!
+//! The safe functions have the names of the entries without `kez_`. They take slices, and a refusal is an `Err`:
+//!
+//! ```ignore
+//! let numbers = kezubimoryu::notepack_read(&packed)?;
+//! let content = &packed[numbers.content_at..][..numbers.content_len];
+//! let mut out = vec![0; packed.len()];
+//! let length = kezubimoryu::notepack_write(&packed, &mut out)?;
+//! ```
+//!
+//! The header says what each entry promises. The rules named here are those of docs/RULES.md; parts 1, 10, 11 and 12.1
+//! of it bind all entries.
 #![allow(dead_code)]
 
+use std::fmt;
+
 /// The version of the library, as in the header.
-pub const KEZ_VERSION: &str = "0.4.3";
+pub const KEZ_VERSION: &str = "0.5.0";
 /// No accepted input is longer; nor is an event in strict form, nor NSON (rule 1.9). A strict form is never longer than
 /// what it was read from, so a buffer as long as the packed bytes or the text is always enough (rules 3.7 and 12.3.6).
 pub const KEZ_MOST: usize = 65536;
 /// No canonical text is longer: three bytes for each byte that was packed (rule 5.8).
 pub const KEZ_CANONICAL_MOST: usize = 3 * KEZ_MOST;
+/// So many bytes are needed for each element that kez_notepack_elements lists.
+pub const KEZ_ELEMENT_BYTES: usize = 16;
+/// A buffer of this length has room for the elements of any record.
+pub const KEZ_ELEMENTS_MOST: usize = KEZ_ELEMENT_BYTES * KEZ_MOST;
 
 /// Refusal 0 and a value, or a refusal from 1 to 19 and its place (rules 12.1.2 to 12.1.4). Rule 10.N is refusal N.
 #[repr(C)]
@@ -20,7 +38,7 @@ pub struct kez_answer {
     pub value: u64,
 }
 
-extern "C" {
+unsafe extern "C" {
     /// Rules 2.1 to 2.18, 4.1, 4.8, 4.9, 12.2.1 to 12.2.3.
     pub fn kez_notepack_read(
         packed: *const u8,
@@ -47,6 +65,16 @@ extern "C" {
         len: *mut u64,
         is_bytes: *mut u64,
     ) -> kez_answer;
+    /// Rules 4.12 to 4.15.
+    pub fn kez_notepack_elements(
+        packed: *const u8,
+        packed_len: usize,
+        first: u64,
+        out: *mut u8,
+        out_len: usize,
+    ) -> kez_answer;
+    /// Rule 12.1.12.
+    pub fn kez_version() -> u64;
     /// Rules 8.1 to 8.11.
     pub fn kez_rivals(first: *const u8, first_len: usize, second: *const u8, second_len: usize) -> kez_answer;
     /// Rules 5.1 to 5.9, 12.2.8.
@@ -97,4 +125,230 @@ pub fn kez_refusal_text(number: u64) -> &'static str {
         19 => "There is no such tag or element.",
         _ => "There is no refusal with this number.",
     }
+}
+
+/// A refusal from 1 to 19: its number, and the place in the input where the fault was found; with 11 the length needed.
+#[derive(Clone, Copy, Debug, PartialEq, Eq)]
+pub struct Refused {
+    pub number: u64,
+    pub place: u64,
+}
+
+impl fmt::Display for Refused {
+    fn fmt(&self, f: &mut fmt::Formatter) -> fmt::Result {
+        write!(f, "refused {} at {}: {}", self.number, self.place, kez_refusal_text(self.number))
+    }
+}
+
+impl std::error::Error for Refused {}
+
+/// Five numbers of a packed event. The content is `packed[content_at..][..content_len]`.
+#[derive(Clone, Copy, Debug, Default, PartialEq, Eq)]
+pub struct Numbers {
+    pub created_at: u64,
+    pub kind: u64,
+    pub content_at: usize,
+    pub content_len: usize,
+    pub tag_count: u64,
+}
+
+/// An element: the number of its tag, and its payload, `packed[at..][..len]`. That is the text, or where is_bytes the
+/// bytes whose lowercase hex is the text.
+#[derive(Clone, Copy, Debug, PartialEq, Eq)]
+pub struct Element {
+    pub tag: u64,
+    pub at: usize,
+    pub len: usize,
+    pub is_bytes: bool,
+}
+
+/// Which of two packed events is kept.
+#[derive(Clone, Copy, Debug, PartialEq, Eq)]
+pub enum Kept {
+    NotRivals,
+    First,
+    Second,
+}
+
+/// What both readers make of a text: does kez_nson_read accept it too, and how long is the strict form? The strict form
+/// stands at the start of json_out; and of nson_out, if kez_nson_read accepts the text.
+#[derive(Clone, Copy, Debug, PartialEq, Eq)]
+pub struct Both {
+    pub is_nson: bool,
+    pub written: usize,
+}
+
+fn told(answer: kez_answer) -> Result<u64, Refused> {
+    match answer.refusal {
+        0 => Ok(answer.value),
+        number => Err(Refused { number, place: answer.value }),
+    }
+}
+
+type Writer = unsafe extern "C" fn(*const u8, usize, *mut u8, usize) -> kez_answer;
+
+// Every call below is safe for the same reasons. A slice's pointer comes with its true length, and with length 0 any
+// pointer will do. A slice that is written is borrowed by nobody else, so it overlaps nothing. The library keeps no
+// pointer.
+
+fn write(entry: Writer, from: &[u8], out: &mut [u8]) -> Result<usize, Refused> {
+    let answer = unsafe { entry(from.as_ptr(), from.len(), out.as_mut_ptr(), out.len()) };
+    told(answer).map(|length| length as usize)
+}
+
+/// Five numbers of a packed event.
+pub fn notepack_read(packed: &[u8]) -> Result<Numbers, Refused> {
+    let (mut created_at, mut kind, mut content_at, mut content_len, mut tag_count) = (0, 0, 0, 0, 0);
+    told(unsafe {
+        kez_notepack_read(
+            packed.as_ptr(),
+            packed.len(),
+            &mut created_at,
+            &mut kind,
+            &mut content_at,
+            &mut content_len,
+            &mut tag_count,
+        )
+    })?;
+    Ok(Numbers { created_at, kind, content_at: content_at as usize, content_len: content_len as usize, tag_count })
+}
+
+/// Are these bytes in strict form?
+pub fn notepack_is_strict(packed: &[u8]) -> Result<bool, Refused> {
+    told(unsafe { kez_notepack_is_strict(packed.as_ptr(), packed.len()) }).map(|value| value == 1)
+}
+
+/// Writes the strict form of a packed event; its length. An `out` as long as `packed` is always enough.
+pub fn notepack_write(packed: &[u8], out: &mut [u8]) -> Result<usize, Refused> {
+    write(kez_notepack_write, packed, out)
+}
+
+/// How many texts this tag has: 1 to 255.
+pub fn notepack_tag_len(packed: &[u8], tag: u64) -> Result<u64, Refused> {
+    told(unsafe { kez_notepack_tag_len(packed.as_ptr(), packed.len(), tag) })
+}
+
+/// One element of a tag.
+pub fn notepack_element(packed: &[u8], tag: u64, element: u64) -> Result<Element, Refused> {
+    let (mut at, mut len, mut is_bytes) = (0, 0, 0);
+    told(unsafe {
+        kez_notepack_element(packed.as_ptr(), packed.len(), tag, element, &mut at, &mut len, &mut is_bytes)
+    })?;
+    Ok(Element { tag, at: at as usize, len: len as usize, is_bytes: is_bytes == 1 })
+}
+
+/// All elements of all tags in their order. They are fetched block by block into one buffer, and a refusal is told here
+/// and not later: `for element in notepack_elements(&packed)? { .. }`
+pub fn notepack_elements(packed: &[u8]) -> Result<Elements<'_>, Refused> {
+    // an element takes a byte of the record or more, so a short record needs one block
+    let block = vec![0; KEZ_ELEMENT_BYTES * packed.len().clamp(1, 1024)];
+    let mut elements = Elements { packed, block, first: 0, listed: 0, told: 0 };
+    elements.fetch()?;
+    Ok(elements)
+}
+
+/// See [notepack_elements].
+#[derive(Clone, Debug)]
+pub struct Elements<'a> {
+    packed: &'a [u8],
+    block: Vec<u8>,
+    /// the number of the block's first element, how many are in it, and how many of those were told
+    first: u64,
+    listed: usize,
+    told: usize,
+}
+
+impl Elements<'_> {
+    /// The elements from number `first` on, into the block.
+    fn fetch(&mut self) -> Result<(), Refused> {
+        let (packed, block) = (self.packed, &mut self.block);
+        let answer = unsafe {
+            kez_notepack_elements(packed.as_ptr(), packed.len(), self.first, block.as_mut_ptr(), block.len())
+        };
+        self.listed = told(answer)? as usize;
+        self.told = 0;
+        Ok(())
+    }
+
+    /// Is the block full? If not, there are no more elements.
+    fn is_full(&self) -> bool {
+        self.listed * KEZ_ELEMENT_BYTES == self.block.len()
+    }
+}
+
+impl Iterator for Elements<'_> {
+    type Item = Element;
+
+    fn next(&mut self) -> Option<Element> {
+        if self.told == self.listed && self.is_full() {
+            self.first += self.listed as u64;
+            self.fetch().expect("bytes that were accepted before");
+        }
+        if self.told == self.listed {
+            return None;
+        }
+        let at = self.told * KEZ_ELEMENT_BYTES;
+        let number = |i: usize| u32::from_le_bytes(self.block[at + 4 * i..][..4].try_into().unwrap());
+        self.told += 1;
+        Some(Element {
+            tag: number(0).into(),
+            at: number(1) as usize,
+            len: number(2) as usize,
+            is_bytes: number(3) == 1,
+        })
+    }
+}
+
+impl std::iter::FusedIterator for Elements<'_> {}
+
+/// The version of the library that is linked: 10,000 for a major one, 100 for a minor one, 1 for a patch.
+pub fn version() -> u64 {
+    unsafe { kez_version() }
+}
+
+/// Which of two packed events is to be kept? A refusal does not say whose it is.
+pub fn rivals(first: &[u8], second: &[u8]) -> Result<Kept, Refused> {
+    let answer = unsafe { kez_rivals(first.as_ptr(), first.len(), second.as_ptr(), second.len()) };
+    told(answer).map(|value| match value {
+        0 => Kept::NotRivals,
+        1 => Kept::First,
+        _ => Kept::Second,
+    })
+}
+
+/// Writes the canonical text of NIP-01; its length. An `out` three times as long as `packed` is always enough.
+pub fn canonical_write(packed: &[u8], out: &mut [u8]) -> Result<usize, Refused> {
+    write(kez_canonical_write, packed, out)
+}
+
+/// Writes a packed event as NSON; its length. An `out` of KEZ_MOST bytes is always enough.
+pub fn nson_write(packed: &[u8], out: &mut [u8]) -> Result<usize, Refused> {
+    write(kez_nson_write, packed, out)
+}
+
+/// Reads NSON, and writes the event in strict form; its length. An `out` as long as `text` is always enough.
+pub fn nson_read(text: &[u8], out: &mut [u8]) -> Result<usize, Refused> {
+    write(kez_nson_read, text, out)
+}
+
+/// Reads plain JSON, and writes the event in strict form; its length. An `out` as long as `text` is always enough.
+pub fn json_read(text: &[u8], out: &mut [u8]) -> Result<usize, Refused> {
+    write(kez_json_read, text, out)
+}
+
+/// Reads one text as json_read and as nson_read do. Buffers as long as `text` are always enough.
+pub fn read_both(text: &[u8], nson_out: &mut [u8], json_out: &mut [u8]) -> Result<Both, Refused> {
+    let mut written = 0;
+    let answer = unsafe {
+        kez_read_both(
+            text.as_ptr(),
+            text.len(),
+            nson_out.as_mut_ptr(),
+            nson_out.len(),
+            json_out.as_mut_ptr(),
+            json_out.len(),
+            &mut written,
+        )
+    };
+    told(answer).map(|value| Both { is_nson: value == 2, written: written as usize })
 }

@@ -1,7 +1,22 @@
-"""The NSON draft's event through the Python binding. The last line is 'N passed, M failed'."""
+"""The NSON draft's event through the Python binding; then what the binding takes as input, its exceptions, its buffers,
+its descriptions, and how it finds the library. The last line is 'N passed, M failed'."""
+import array
+import concurrent.futures
+import copy
+import ctypes
+import doctest
 import hashlib
+import inspect
 import json
+import mmap
+import multiprocessing
+import os
+import pickle
+import shutil
+import subprocess
 import sys
+import tempfile
+import typing
 
 import kezubimoryu as kez
 
@@ -22,6 +37,14 @@ def refusal(call, *words):
         return call(*words)
     except kez.Refused as r:
         return r.number, r.place
+
+
+def raised(call, *words):
+    """The name of the exception, or what the call returned."""
+    try:
+        return call(*words)
+    except Exception as error:
+        return type(error).__name__
 
 
 def varint(n):
@@ -99,5 +122,176 @@ check("cut", refusal(kez.kez_read_both, text[:-1]), (14, len(text) - 1))
 check("a blank", refusal(kez.kez_read_both, b'{"kind":1}'), (15, 9))
 check("empty", refusal(kez.kez_read_both, b""), (14, 0))
 check("too long for both", refusal(kez.kez_read_both, bytes(65537)), (1, 0))
+
+# Input: bytes, and what shows itself as bytes. All entries take it by the same way.
+inputs = [name for name in dir(kez) if name.startswith("kez_") and name not in ("kez_refusal_text", "kez_version")]
+check("there are twelve entries", len(inputs), 12)
+indices = {"kez_notepack_tag_len": (0,), "kez_notepack_element": (0, 0)}
+
+
+class Lying(bytes):
+    """Bytes that say they are more."""
+
+    def __len__(self):
+        return 1 << 20
+
+
+def ask(name, data):
+    """The entry's answer; an iterator's is all that it has, and two inputs are the same one."""
+    words = (data,) if name == "kez_rivals" else indices.get(name, ())
+    got = getattr(kez, name)(data, *words)
+    return list(got) if name == "kez_notepack_elements" else got
+
+
+def mapped(data):
+    """The same bytes as a map of memory that may be written."""
+    memory = mmap.mmap(-1, len(data))
+    memory.write(data)
+    return memory
+
+
+wide = bytes(b for byte in form for b in (byte, 0))
+for name in inputs:
+    data = text if name in ("kez_nson_read", "kez_json_read", "kez_read_both") else form
+    wanted = ask(name, data)
+    for same in (bytearray(data), memoryview(data), mapped(data), array.array("B", data), Lying(data),
+                 (ctypes.c_char * len(data))(*data), memoryview(b"x" + data + b"x")[1:-1]):
+        check("%s of a %s" % (name, type(same).__name__), ask(name, same), wanted)
+    for wrong in (132, 0, -1, True, 1.5, None, "text", "", [0] * 132, (0,) * 132, iter(data), object(),
+                  array.array("I", [0] * 33), memoryview(wide)[::2], memoryview(bytes(132)).cast("B", (12, 11)),
+                  memoryview(bytes(132)).cast("?")):
+        check("%s of %.20r" % (name, wrong), raised(ask, name, wrong), "TypeError")
+check("kez_rivals of a number as second", raised(kez.kez_rivals, form, 132), "TypeError")
+
+# Indices: 0 to 2^64 - 1, and nothing wraps
+for number, wanted in ((0, 3), (1, 4), (2, (19, 0)), (1 << 32, (19, 0)), ((1 << 64) - 1, (19, 0))):
+    check("tag %d" % number, refusal(kez.kez_notepack_tag_len, form, number), wanted)
+    check("element of tag %d" % number, type(refusal(kez.kez_notepack_element, form, number, 0)),
+          tuple if number > 1 else kez.Payload)
+    check("element %d" % number, type(refusal(kez.kez_notepack_element, form, 1, number)),
+          tuple if number > 3 else kez.Payload)
+for wrong, wanted in ((-1, "OverflowError"), (-(1 << 64), "OverflowError"), (1 << 64, "OverflowError"),
+                      ((1 << 64) + 1, "OverflowError"), (True, "TypeError"), (False, "TypeError"), (0.0, "TypeError"),
+                      ("0", "TypeError"), (None, "TypeError"), (b"0", "TypeError")):
+    check("tag %r" % (wrong,), raised(kez.kez_notepack_tag_len, form, wrong), wanted)
+    check("element of tag %r" % (wrong,), raised(kez.kez_notepack_element, form, wrong, 0), wanted)
+    check("element %r" % (wrong,), raised(kez.kez_notepack_element, form, 0, wrong), wanted)
+
+
+# Refusals, out of a pickle and out of another process
+def told(call, *words):
+    """Everything of a refusal that a host may look at."""
+    try:
+        return call(*words)
+    except kez.Refused as r:
+        return type(r), r.number, r.place, str(r), r.args
+
+
+here = told(kez.kez_notepack_read, form[:-1])
+check("a refusal's text", here[3], "refused 2 at %d: %s" % (form.index(b"wss:") - 1, kez.kez_refusal_text(2)))
+one = kez.Refused(2, 7)
+for protocol in range(pickle.HIGHEST_PROTOCOL + 1):
+    again = raised(pickle.loads, pickle.dumps(one, protocol))
+    check("by pickle, protocol %d" % protocol, (type(again), vars(again) if again != "TypeError" else None, str(again)),
+          (kez.Refused, {"number": 2, "place": 7}, str(one)))
+check("copied", raised(lambda: str(copy.copy(one))), str(one))
+with concurrent.futures.ProcessPoolExecutor(1, multiprocessing.get_context("fork")) as pool:
+    check("out of a process pool", raised(told, pool.submit(kez.kez_notepack_read, form[:-1]).result), here)
+
+# Output buffers are as long as what is written, and no longer
+made = []
+make = ctypes.create_string_buffer
+ctypes.create_string_buffer = lambda *words: made.append(words[0]) or make(*words)
+for name, data, rooms in (("kez_notepack_write", form, [len(form)]), ("kez_canonical_write", form, [len(canonical)]),
+                          ("kez_nson_write", form, [len(text)]), ("kez_nson_read", text, [len(form)]),
+                          ("kez_json_read", text, [len(form)]), ("kez_read_both", text, [len(form)] * 2),
+                          ("kez_nson_write", bytes(132), []), ("kez_canonical_write", b"", [])):
+    made.clear()
+    raised(getattr(kez, name), data)
+    check("room of %s" % name, made, rooms)
+ctypes.create_string_buffer = make
+
+# All elements, as kez_notepack_element has them
+elements = [kez.Element(i, *kez.kez_notepack_element(form, i, j)) for i, tag in enumerate(event["tags"])
+            for j in range(len(tag))]
+check("elements", list(kez.kez_notepack_elements(form)), elements)
+check("no elements", list(kez.kez_notepack_elements(bytes(132))), [])
+check("a refusal by the call", refusal(kez.kez_notepack_elements, form[:-1]), (2, form.index(b"wss:") - 1))
+for tags, texts in ((1, 255), (4, 255), (1000, 1), (253, 255)):
+    # so many empty texts: blocks that end just with the record, and many of them
+    record = bytes(131) + varint(tags) + tags * (varint(texts) + bytes(texts))
+    before = len(varint(tags)) + 131
+    wanted = [(i, before + i * (len(varint(texts)) + texts) + len(varint(texts)) + j + 1, 0, False)
+              for i in range(tags) for j in range(texts)]
+    check("elements of %d tags" % tags, list(kez.kez_notepack_elements(record)), wanted)
+exact = bytes(131) + varint(16) + 16 * (varint(64) + bytes(64))
+check("elements of a full block", len(list(kez.kez_notepack_elements(exact))), 1024)
+changing = bytearray(exact)
+iterator = kez.kez_notepack_elements(changing)
+changing[:] = b""
+check("elements of bytes that change meanwhile", len(list(iterator)), 1024)
+
+# Descriptions: every public name has one with an example that holds, and hints
+outcome = doctest.testmod(kez)
+check("examples", (outcome.failed, outcome.attempted > 30), (0, True))
+for name in kez.__all__:
+    thing = getattr(kez, name)
+    if inspect.isfunction(thing):
+        check("%s has an example" % name, ">>> " in (inspect.getdoc(thing) or ""), True)
+        wanted = list(inspect.signature(thing).parameters) + ["return"]
+        check("%s has hints" % name, list(typing.get_type_hints(thing)), wanted)
+    elif inspect.isclass(thing):
+        check("%s has an example" % name, ">>> " in thing.__dict__["__doc__"], True)
+        check("%s has hints" % name, bool(typing.get_type_hints(thing)), True)
+    else:
+        check("%s has a hint" % name, name in typing.get_type_hints(kez) or name == "Bytes", True)
+public = [name for name, thing in vars(kez).items() if not name.startswith("_") and not inspect.ismodule(thing)
+          and getattr(thing, "__module__", "kezubimoryu") == "kezubimoryu"]
+check("all public names are told", sorted(set(public) - set(kez.__all__)), [])
+
+# How the library is found, in processes of their own
+library = os.path.abspath(os.environ["KEZUBIMORYU_LIBRARY"])
+# only these names are found by the loader
+ONLY = """
+import ctypes, ctypes.util
+real = ctypes.CDLL
+def only(name, *words):
+    if "/" not in name and name not in %r:
+        raise OSError(name + ": not found by this test's loader")
+    return real(%r if "/" not in name else name, *words)
+ctypes.CDLL = only
+ctypes.util.find_library = lambda name: None
+"""
+SAYS = "import kezubimoryu as k; print(k.kez_notepack_read(bytes(132)).tag_count)"
+
+
+def imported(folder, names=(), **environment):
+    """What a process says that imports the binding from this folder: its last line. With LD_LIBRARY_PATH the loader is
+    left as it is."""
+    clean = {k: v for k, v in os.environ.items() if k not in ("KEZ_LIBRARY", "KEZUBIMORYU_LIBRARY", "PYTHONPATH")}
+    loader = "" if "LD_LIBRARY_PATH" in environment else ONLY % (tuple(names), library)
+    clean.update(environment, PYTHONPATH=folder)
+    said = subprocess.run([sys.executable, "-c", loader + SAYS], cwd=folder, env=clean, stdout=subprocess.PIPE,
+                          stderr=subprocess.STDOUT)
+    return said.stdout.decode().strip().split("\n")[-1]
+
+
+with tempfile.TemporaryDirectory() as alone, tempfile.TemporaryDirectory() as beside:
+    for folder in (alone, beside):
+        shutil.copy(kez.__file__, folder)
+    shutil.copy(library, os.path.join(beside, "libkezubimoryu.so"))
+    check("by the variable", imported(alone, KEZUBIMORYU_LIBRARY=library), "0")
+    check("by its older name", imported(alone, KEZ_LIBRARY=library), "0")
+    said = imported(beside, KEZUBIMORYU_LIBRARY="/no/such.so")
+    check("by a variable that is wrong", said.startswith("ImportError: KEZUBIMORYU_LIBRARY is '/no/such.so'"), True)
+    check("by libkezubimoryu.so.0", imported(alone, ["libkezubimoryu.so.0"]), "0")
+    check("by libkezubimoryu.so", imported(alone, ["libkezubimoryu.so"]), "0")
+    check("beside the file", imported(beside), "0")
+    os.mkdir(os.path.join(alone, "lib"))
+    shutil.copy(library, os.path.join(alone, "lib", "libkezubimoryu.so.0"))
+    check("by LD_LIBRARY_PATH", imported(alone, LD_LIBRARY_PATH=os.path.join(alone, "lib")), "0")
+    said = imported(alone)
+    for word in ("ImportError: ", "KEZUBIMORYU_LIBRARY", "ldconfig", "LD_LIBRARY_PATH", os.path.realpath(alone)):
+        check("nowhere: %s" % word, word in said, True)
 print("%d passed, %d failed" % (passed, failed))
 sys.exit(failed != 0)

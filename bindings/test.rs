@@ -1,5 +1,5 @@
-//! The Rust declarations, linked and called: the sentences of all refusals are printed, to be compared with the
-//! header's.
+//! The Rust declarations and the safe functions, linked and called: the sentences of all refusals are printed, to be
+//! compared with the header's.
 #[path = "kezubimoryu.rs"]
 mod kezubimoryu;
 use kezubimoryu::*;
@@ -37,8 +37,89 @@ fn main() {
     assert_eq!(both(text.len() - 1), (kez_answer { refusal: 14, value: text.len() as u64 - 1 }, 7));
     assert_eq!(both(text.len()), (kez_answer { refusal: 0, value: 2 }, read.value));
     assert!(read.refusal == 0 && first == alone && second == alone);
-    println!("{KEZ_VERSION} {KEZ_MOST} {KEZ_CANONICAL_MOST}");
+    safe_functions(&record, &text).expect("nothing here is refused");
+    all_elements(&record).expect("nothing here is refused");
+    println!("{KEZ_VERSION} {KEZ_MOST} {KEZ_CANONICAL_MOST} {KEZ_ELEMENT_BYTES} {KEZ_ELEMENTS_MOST}");
     for number in 0..22 {
         println!("{}", kez_refusal_text(number));
     }
+}
+
+/// What an entry writes, with just enough room; one byte less is refused with the length needed.
+fn written(f: fn(&[u8], &mut [u8]) -> Result<usize, Refused>, from: &[u8]) -> Result<Vec<u8>, Refused> {
+    let Err(Refused { number: 11, place }) = f(from, &mut []) else { panic!("no length is told") };
+    let mut out = vec![0; place as usize];
+    assert_eq!(f(from, &mut out[1..]), Err(Refused { number: 11, place }));
+    assert_eq!(f(from, &mut out)?, out.len());
+    Ok(out)
+}
+
+/// Each safe function on the two samples, and refusals; these also as an error of any kind.
+fn safe_functions(record: &[u8], text: &[u8]) -> Result<(), Box<dyn std::error::Error + Send + Sync>> {
+    let numbers = Numbers { created_at: 1720000000, kind: 0, content_at: 135, content_len: 5, tag_count: 2 };
+    assert_eq!(notepack_read(record)?, numbers);
+    assert_eq!(&record[numbers.content_at..][..numbers.content_len], b"hello");
+    assert!(notepack_is_strict(record)?);
+    assert!(!notepack_is_strict(&[&[0; 128][..], &[0x80, 0, 0, 0, 0]].concat())?);
+    assert_eq!(written(notepack_write, record)?, record);
+    assert_eq!(notepack_tag_len(record, 0)?, 3);
+    assert_eq!(notepack_tag_len(record, u64::MAX), Err(Refused { number: 19, place: 0 }));
+    assert_eq!(notepack_element(record, 0, 1)?, Element { tag: 0, at: 145, len: 32, is_bytes: true });
+    assert_eq!(notepack_element(record, 1, 2), Err(Refused { number: 19, place: 0 }));
+    let mut later = record.to_vec();
+    later[129] += 1;
+    assert_eq!(rivals(record, record)?, Kept::First);
+    assert_eq!(rivals(record, &later)?, Kept::Second);
+    let form = written(json_read, text)?;
+    assert_eq!(rivals(record, &form)?, Kept::NotRivals);
+    assert!(written(canonical_write, record)?.ends_with(b"]],\"hello\"]"));
+    assert_eq!(written(nson_write, &form)?, text);
+    assert_eq!(written(nson_read, text)?, form);
+    let (mut first, mut second) = (vec![0; text.len()], vec![0; text.len()]);
+    let both = read_both(text, &mut first, &mut second)?;
+    assert_eq!(both, Both { is_nson: true, written: form.len() });
+    assert_eq!((&first[..both.written], &second[..both.written]), (&form[..], &form[..]));
+    let both = read_both(&[text, b" "].concat(), &mut [], &mut second)?;
+    assert_eq!(both, Both { is_nson: false, written: form.len() });
+    // refusals, of nothing too
+    let refused = Refused { number: 2, place: 204 };
+    assert_eq!(notepack_read(&record[..record.len() - 1]), Err(refused));
+    assert_eq!(notepack_read(&[]), Err(Refused { number: 2, place: 0 }));
+    assert_eq!(read_both(&[], &mut [], &mut []), Err(Refused { number: 14, place: 0 }));
+    let any: Box<dyn std::error::Error + Send + Sync> = refused.into();
+    assert_eq!(any.to_string(), format!("refused 2 at 204: {}", kez_refusal_text(2)));
+    assert_eq!(any.downcast_ref(), Some(&refused));
+    Ok(())
+}
+
+/// The elements that the iterator tells are those of notepack_element, for blocks that are cut, full, and many.
+fn all_elements(record: &[u8]) -> Result<(), Refused> {
+    let elements: Vec<Element> = notepack_elements(record)?.collect();
+    let mut wanted = Vec::new();
+    for tag in 0..notepack_read(record)?.tag_count {
+        for element in 0..notepack_tag_len(record, tag)? {
+            wanted.push(notepack_element(record, tag, element)?);
+        }
+    }
+    assert_eq!((elements.len(), &elements), (5, &wanted));
+    let number: u64 = KEZ_VERSION.split('.').fold(0, |n, part| n * 100 + part.parse::<u64>().unwrap());
+    assert_eq!(version(), number);
+    assert_eq!(notepack_elements(&[]).err(), Some(Refused { number: 2, place: 0 }));
+    assert_eq!(notepack_elements(&[0; 132])?.next(), None);
+    for (tags, texts) in [(1, 1), (16, 64), (32, 64), (5, 255), (253, 255)] {
+        let varint = |n: usize| if n < 128 { vec![n as u8] } else { vec![n as u8 | 128, (n >> 7) as u8] };
+        let tag = [varint(texts), vec![0; texts]].concat();
+        let many = [vec![0; 131], varint(tags), tag.repeat(tags)].concat();
+        let mut elements = notepack_elements(&many)?;
+        let mut at = 131 + varint(tags).len();
+        for number in 0..tags {
+            at += varint(texts).len();
+            for _ in 0..texts {
+                at += 1;
+                assert_eq!(elements.next(), Some(Element { tag: number as u64, at, len: 0, is_bytes: false }));
+            }
+        }
+        assert_eq!((elements.next(), elements.next()), (None, None));
+    }
+    Ok(())
 }

@@ -13,7 +13,7 @@
 #include <string.h>
 #include <time.h>
 
-enum { PASSES = 12, ROUNDS = 3, ROUND_NS = 1500000, ROOM = 1 << 19 };
+enum { PASSES = 12, ROUNDS = 3, ROUND_NS = 1500000, ROOM = KEZ_ELEMENTS_MOST };
 
 /* Records */
 
@@ -24,7 +24,7 @@ typedef struct {
     size_t packed_len, text_len;
 } __attribute__((aligned(4096))) record;
 
-static record records[7];
+static record records[8];
 
 static void put(record *r, const void *part, size_t len)
 {
@@ -68,8 +68,8 @@ static void make(record *r, const char *name, size_t size, size_t tags, const ch
     }
 }
 
-/* A strict record without content, of so many tags of a name and 32 raw bytes. */
-static void make_hex(record *r, const char *name, size_t tags)
+/* The start of a strict record without content, up to its so many tags. */
+static void start(record *r, const char *name, size_t tags)
 {
     make(r, name, 300, 0, ".");
     r->packed_len = 128;
@@ -77,21 +77,39 @@ static void make_hex(record *r, const char *name, size_t tags)
     put_varint(r, 10002);
     put_varint(r, 0);
     put_varint(r, tags);
+}
+
+/* A strict record without content, of so many tags of a name and 32 raw bytes. */
+static void make_hex(record *r, const char *name, size_t tags)
+{
+    start(r, name, tags);
     for (size_t i = 0; i < tags; i++) {
         put(r, "\x02\x02p\x41", 4);
         put(r, r->packed + i % 96, 32);
     }
 }
 
+/* A strict record without content, as full of elements as one can be: 253 tags of 255 empty texts. */
+static void make_empty_texts(record *r, const char *name)
+{
+    start(r, name, 253);
+    for (size_t i = 0; i < 253; i++) {
+        put_varint(r, 255);
+        memset(r->packed + r->packed_len, 0, 255);
+        r->packed_len += 255;
+    }
+}
+
 /* Entries */
 
-typedef enum { READS, ASKS, WRITES, COUNTS, SHOWS, BOTH, RIVALS, PARSES, COPIES } shape;
+typedef enum { READS, ASKS, WRITES, COUNTS, SHOWS, LISTS, BOTH, RIVALS, PARSES, COPIES } shape;
 
 typedef kez_answer reads(const uint8_t *, size_t, uint64_t *, uint64_t *, uint64_t *, uint64_t *, uint64_t *);
 typedef kez_answer asks(const uint8_t *, size_t);
 typedef kez_answer writes(const uint8_t *, size_t, uint8_t *, size_t);
 typedef kez_answer counts(const uint8_t *, size_t, uint64_t);
 typedef kez_answer shows(const uint8_t *, size_t, uint64_t, uint64_t, uint64_t *, uint64_t *, uint64_t *);
+typedef kez_answer lists(const uint8_t *, size_t, uint64_t, uint8_t *, size_t);
 typedef kez_answer both(const uint8_t *, size_t, uint8_t *, size_t, uint8_t *, size_t, uint64_t *);
 typedef kez_answer rivals(const uint8_t *, size_t, const uint8_t *, size_t);
 typedef int parses(const uint8_t *, size_t);
@@ -109,6 +127,7 @@ static const entry entries[] = {
     {"pack", "kez_notepack_write", WRITES, kez_notepack_write, 0},
     {"tag_len", "kez_notepack_tag_len", COUNTS, kez_notepack_tag_len, 0},
     {"element", "kez_notepack_element", SHOWS, kez_notepack_element, 0},
+    {"elements", "kez_notepack_elements", LISTS, kez_notepack_elements, 0},
     {"canonical", "kez_canonical_write", WRITES, kez_canonical_write, 0},
     {"nson_write", "kez_nson_write", WRITES, kez_nson_write, 0},
     {"nson_read", "kez_nson_read", WRITES, kez_nson_read, 1},
@@ -161,6 +180,7 @@ static int call(const entry *e, const uint8_t *in, size_t len)
     case WRITES: return ((writes *)e->function)(in, len, out, (size_t)ROOM).refusal != 0;
     case COUNTS: return ((counts *)e->function)(in, len, 1).refusal != 0;
     case SHOWS: return ((shows *)e->function)(in, len, 1, 1, n, n + 1, n + 2).refusal != 0;
+    case LISTS: return ((lists *)e->function)(in, len, 0, out, (size_t)ROOM).refusal != 0;
     case BOTH: return ((both *)e->function)(in, len, out, (size_t)ROOM / 2, out + ROOM / 2, (size_t)ROOM / 2, n).refusal != 0;
     case RIVALS: return ((rivals *)e->function)(in, len, in, len).refusal != 0;
     case PARSES: return !((parses *)e->function)(in, len);
@@ -241,9 +261,12 @@ static void measure(row *best, const entry *e, const record *r, void *reference,
         keep_best(&best->ns[PROGRAM], ns);
 }
 
+/* All elements are listed of the small, the middle and the fullest record: content does not matter. */
 static int is_for(const record *r, const entry *e)
 {
-    return !r->only || !strcmp(r->only, e->name);
+    if (r->only)
+        return !strcmp(r->only, e->name);
+    return e->shape != LISTS || r->packed_len <= 4000;
 }
 
 enum { ENTRIES = sizeof entries / sizeof *entries, RECORDS = sizeof records / sizeof *records };
@@ -301,8 +324,10 @@ int main(int count, char **words)
     make(&records[4], "plain", 60000, 0, "Threshold 42 dB at 1000 Hz, comfort 61 dB; the next visit is in spring. ");
     make(&records[5], "lines of 80", 60000, 0, "Threshold 42 dB at 1000 Hz, comfort 61 dB; the next visit is in spring, at ten.\n");
     make_hex(&records[6], "hex in tags", 1000);
-    for (int j = 4; j < RECORDS; j++)
+    for (int j = 4; j < 7; j++)
         records[j].only = "canonical";
+    make_empty_texts(&records[7], "empty texts");
+    records[7].only = "elements";
     for (int j = 0; j < RECORDS; j++) {
         record *r = &records[j];
         r->text_len = nson_write(r->packed, r->packed_len, r->text, sizeof r->text).value;

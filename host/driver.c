@@ -103,7 +103,7 @@ static void check_room(size_t room, size_t written)
         if ((i < GUARD || i >= GUARD + written) && area[i] != pattern(i)) {
             wrong(i < GUARD || i >= GUARD + room ? "writes outside its buffer"
                   : written                      ? "writes behind the written length"
-                                                 : "writes though it refuses");
+                                                 : "writes though nothing is to be written");
             return;
         }
 }
@@ -243,6 +243,17 @@ static int do_element(const kind *k, char **words)
     return 1;
 }
 
+static void print_bytes(const uint8_t *at, size_t len)
+{
+    putchar_unlocked(' ');
+    for (size_t i = 0; i < len; i++) {
+        putchar_unlocked("0123456789abcdef"[at[i] >> 4]);
+        putchar_unlocked("0123456789abcdef"[at[i] & 15]);
+    }
+    if (!len)
+        putchar_unlocked('-');
+}
+
 static int do_write(const kind *k, char **words)
 {
     uint64_t room;
@@ -259,29 +270,37 @@ static int do_write(const kind *k, char **words)
         wrong("refuses 11 though there is room");
     if (told_refusal(a))
         return 1;
-    printf("ok %" PRIu64 " ", a.value);
-    for (size_t i = 0; i < a.value; i++) {
-        putchar_unlocked("0123456789abcdef"[area[GUARD + i] >> 4]);
-        putchar_unlocked("0123456789abcdef"[area[GUARD + i] & 15]);
-    }
-    if (!a.value)
-        putchar_unlocked('-');
+    printf("ok %" PRIu64, a.value);
+    print_bytes(area + GUARD, a.value);
+    return 1;
+}
+
+/* `elements BYTES FIRST ROOM`: how many were listed, and their bytes. */
+static int do_elements(const kind *k, char **words)
+{
+    (void)k;
+    uint64_t from, room;
+    if (!lend(&first, words[0]) || !parsed(words[1], &from) || !parsed(words[2], &room) || room > MOST)
+        return 0;
+    uint8_t *out = lend_room(room);
+    kez_answer a = kez_notepack_elements(first.at, first.len, from, out, room), read = read_packed(&first);
+    size_t written = a.refusal ? 0 : KEZ_ELEMENT_BYTES * a.value;
+    if (!a.refusal && a.value > room / KEZ_ELEMENT_BYTES)
+        wrong("has written more than there is room for");
+    else
+        check_room(room, written);
+    /* the reader's refusals, and no other */
+    if (a.refusal ? !same(a, read) : read.refusal != 0)
+        wrong("and the reader disagree");
+    if (told_refusal(a))
+        return 1;
+    printf("ok %" PRIu64, a.value);
+    print_bytes(area + GUARD, written);
     return 1;
 }
 
 /* The second lent buffer: the guards of the first, and a pattern of its own. */
 static uint8_t second_area[GUARD + MOST + GUARD];
-
-static void print_bytes(const uint8_t *at, size_t len)
-{
-    putchar_unlocked(' ');
-    for (size_t i = 0; i < len; i++) {
-        putchar_unlocked("0123456789abcdef"[at[i] >> 4]);
-        putchar_unlocked("0123456789abcdef"[at[i] & 15]);
-    }
-    if (!len)
-        putchar_unlocked('-');
-}
 
 static int do_both(const kind *k, char **words)
 {
@@ -350,6 +369,7 @@ static const kind kinds[] = {
     {"lister", 1, do_read, NULL},
     {"strict", 1, do_strict, NULL},
     {"element", 3, do_element, NULL},
+    {"elements", 3, do_elements, NULL},
     {"pack", 2, do_write, kez_notepack_write},
     {"canonical", 2, do_write, kez_canonical_write},
     {"nson_write", 2, do_write, kez_nson_write},

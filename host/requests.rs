@@ -75,12 +75,14 @@ fn thinned(lines: Vec<String>, most: usize) -> Vec<String> {
 }
 
 /// Every kind of request.
-const ALL: [&str; 12] = [
-    "read", "strict", "pack", "content", "element", "lister", "canonical", "nson_write", "nson_read", "json_read", "rivals", "read_both",
+const ALL: [&str; 13] = [
+    "read", "strict", "pack", "content", "element", "elements", "lister", "canonical", "nson_write", "nson_read",
+    "json_read", "rivals", "read_both",
 ];
 
 /// Kinds whose input is a packed event.
-const PACKED: [&str; 8] = ["read", "strict", "pack", "content", "element", "lister", "canonical", "nson_write"];
+const PACKED: [&str; 9] =
+    ["read", "strict", "pack", "content", "element", "elements", "lister", "canonical", "nson_write"];
 
 struct Requests {
     dice: Dice,
@@ -98,11 +100,15 @@ impl Requests {
         self.lines.push(format!("{kind} {}{rest}", hex(input)));
     }
 
-    /// One request: some room, or some element, where the kind wants one.
+    /// One request: some room, some element or both, where the kind wants one.
     fn one(&mut self, kind: &str, input: &[u8], e: &Event) {
         let rest = if kind == "element" {
             let (tag, element) = self.element_of(e);
             format!(" {tag} {element}")
+        } else if kind == "elements" {
+            let within = self.dice.below(texts_in(e) + 1) as u64;
+            let first = if self.dice.percent(50) { within } else { self.dice.pick(&firsts(e)) };
+            format!(" {first} {}", self.dice.pick(&rooms(e)))
         } else if writes(kind) {
             let need = needed(kind, e);
             let room = match self.dice.below(16) {
@@ -146,6 +152,12 @@ impl Requests {
                 for (tag, element) in [(0, 0), (last, end.saturating_sub(1)), (last, end), (last + 1, 0), (u64::MAX, u64::MAX)] {
                     self.line(kind, input, &format!(" {tag} {element}"));
                 }
+            } else if kind == "elements" {
+                // every first and every room once; elements_boundaries has each with each
+                let (turn, firsts, rooms) = (self.dice.below(7), firsts(e), rooms(e));
+                for i in 0..7 {
+                    self.line(kind, input, &format!(" {} {}", firsts[i], rooms[(i + turn) % 7]));
+                }
             } else if writes(kind) {
                 let need = needed(kind, e);
                 for room in [need, need.saturating_sub(1), 0, need + 9] {
@@ -176,6 +188,25 @@ impl Requests {
 /// Does the kind write into a lent buffer?
 fn writes(kind: &str) -> bool {
     ["pack", "canonical", "nson_write", "nson_read", "json_read"].contains(&kind)
+}
+
+/// How many texts the tags of this event have together.
+fn texts_in(e: &Event) -> usize {
+    e.tags.iter().map(Vec::len).sum()
+}
+
+/// Numbers of a first element to be listed: at the start, in the middle, the last, the end, past it, and far past it
+/// (the first of those is 0 in 32 bits).
+fn firsts(e: &Event) -> [u64; 7] {
+    let all = texts_in(e) as u64;
+    [0, all / 2, all.saturating_sub(1), all, all + 1, 1 << 32, u64::MAX]
+}
+
+/// Rooms for a list of elements: none, one byte less than one needs, one, one byte more, some and a half, just enough
+/// for all, and more than that.
+fn rooms(e: &Event) -> [usize; 7] {
+    let all = texts_in(e);
+    [0, 15, 16, 17, 16 * (all / 2) + 7, 16 * all, 16 * all + 47]
 }
 
 /// The length that the kind writes for this event.

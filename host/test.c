@@ -6,6 +6,7 @@
 #include <stdio.h>
 #include <string.h>
 #include <sys/mman.h>
+#include <time.h>
 
 static int passed, failed;
 
@@ -151,6 +152,8 @@ static void refused(const uint8_t *s, size_t len, uint64_t refusal, uint64_t pla
         kez_notepack_tag_len(s, len, 0),
         element_of(s, len, 0, 0),
         element_of(s, len, UINT64_MAX, UINT64_MAX),
+        kez_notepack_elements(s, len, 0, room, sizeof room),
+        kez_notepack_elements(s, len, UINT64_MAX, NULL, 0),
     };
     for (size_t i = 0; i < sizeof all / sizeof *all; i++)
         CHECK(is(all[i], refusal, place), "entry %zu on %zu bytes: %d at %d, not %d at %d", i, len, (int)all[i].refusal,
@@ -302,6 +305,98 @@ static void elements(void)
         shows(&b, 0, 1, 136, cases[i].len - 1, (uint64_t)cases[i].spelled[0] & 1);
         no_such(&b, 0, 2);
     }
+}
+
+/* The elements of a record as they are listed, and a buffer for the list with bytes behind it. */
+enum { BEHIND = 64 };
+static uint8_t list[KEZ_ELEMENTS_MOST + BEHIND], wanted_list[KEZ_ELEMENTS_MOST];
+
+static void put_listed(uint8_t *to, uint64_t tag, uint64_t at, uint64_t len, uint64_t is_bytes)
+{
+    const uint64_t listed[] = {tag, at, len, is_bytes};
+    for (int i = 0; i < KEZ_ELEMENT_BYTES; i++)
+        to[i] = (uint8_t)(listed[i / 4] >> 8 * (i % 4));
+}
+
+/* From element `first` on, into `len` bytes: so many, as they stand in wanted_list, and no byte behind them changed. */
+static void lists(const bytes *b, uint64_t first, size_t len, uint64_t count)
+{
+    size_t written = KEZ_ELEMENT_BYTES * count;
+    memset(list, 0xa5, len + BEHIND);
+    kez_answer a = kez_notepack_elements(b->at, b->len, first, len ? list : NULL, len);
+    CHECK(is(a, 0, count), "first %d in %zu bytes: %d, %d", (int)first, len, (int)a.refusal, (int)a.value);
+    const uint8_t *wanted = count ? wanted_list + KEZ_ELEMENT_BYTES * first : list;
+    CHECK(!memcmp(list, wanted, written), "first %d in %zu bytes: other elements", (int)first, len);
+    size_t same = written;
+    while (same < len + BEHIND && list[same] == 0xa5)
+        same++;
+    CHECK(same == len + BEHIND, "first %d in %zu bytes: byte %zu changed", (int)first, len, same);
+}
+
+static double milliseconds(void)
+{
+    struct timespec t;
+    clock_gettime(CLOCK_MONOTONIC, &t);
+    return 1e3 * (double)t.tv_sec + 1e-6 * (double)t.tv_nsec;
+}
+
+/* The vector's five elements: every first, and every length of out up to that of six. */
+static void listed_elements(void)
+{
+    static const uint64_t all[5][4] = {
+        {0, 143, 1, 0}, {0, 145, 32, 1}, {0, 178, 23, 0}, {1, 203, 1, 0}, {1, 205, 32, 1},
+    };
+    for (int i = 0; i < 5; i++)
+        put_listed(wanted_list + KEZ_ELEMENT_BYTES * i, all[i][0], all[i][1], all[i][2], all[i][3]);
+    for (uint64_t first = 0; first < 8; first++)
+        for (size_t len = 0; len <= 6 * KEZ_ELEMENT_BYTES; len++) {
+            uint64_t left = first < 5 ? 5 - first : 0, fit = len / KEZ_ELEMENT_BYTES;
+            lists(&vector, first, len, left < fit ? left : fit);
+        }
+    lists(&vector, UINT64_C(1) << 32, sizeof room, 0);
+    lists(&vector, UINT64_MAX - 1, sizeof room, 0);
+    lists(&vector, UINT64_MAX, sizeof room, 0);
+    /* no tags, no elements */
+    static bytes b;
+    event(&b, 0, 0);
+    put_varint(&b, 0);
+    lists(&b, 0, sizeof room, 0);
+    lists(&b, 0, 0, 0);
+}
+
+/* A record of 253 tags with 255 empty texts each: 64,515 elements, in one call or in several. The time is the best of
+ * ten calls, so that a busy machine does not count: one that went through the record anew for each element would take
+ * seconds. */
+static void many_elements(void)
+{
+    enum { TAGS = 253, TEXTS = 255, ELEMENTS = TAGS * TEXTS };
+    static bytes b;
+    event(&b, 0, 0);
+    put_varint(&b, TAGS);
+    for (uint64_t tag = 0; tag < TAGS; tag++) {
+        put_varint(&b, TEXTS);
+        for (uint64_t i = 0; i < TEXTS; i++) {
+            fill(&b, 0, 1);
+            put_listed(wanted_list + KEZ_ELEMENT_BYTES * (tag * TEXTS + i), tag, b.len, 0, 0);
+        }
+    }
+    CHECK(b.len <= KEZ_MOST && ELEMENTS == 64515, "%zu", b.len);
+    lists(&b, 0, KEZ_ELEMENTS_MOST, ELEMENTS);
+    lists(&b, 0, KEZ_ELEMENT_BYTES * ELEMENTS, ELEMENTS);
+    lists(&b, 0, KEZ_ELEMENT_BYTES * ELEMENTS - 1, ELEMENTS - 1);
+    lists(&b, ELEMENTS - 1, KEZ_ELEMENTS_MOST, 1);
+    lists(&b, ELEMENTS, KEZ_ELEMENTS_MOST, 0);
+    for (uint64_t first = 0; first < ELEMENTS; first += 10000)
+        lists(&b, first, 10000 * KEZ_ELEMENT_BYTES + 9, ELEMENTS - first < 10000 ? ELEMENTS - first : 10000);
+    double best = 1e9;
+    for (int i = 0; i < 10; i++) {
+        double start_of_call = milliseconds();
+        kez_answer a = kez_notepack_elements(b.at, b.len, 0, list, KEZ_ELEMENTS_MOST);
+        double took = milliseconds() - start_of_call;
+        CHECK(is(a, 0, ELEMENTS), "%d", (int)a.value);
+        best = took < best ? took : best;
+    }
+    CHECK(best < 5, "%.1f ms for all elements", best);
 }
 
 static void varint_faults(void)
@@ -629,7 +724,8 @@ static void sentences(void)
 }
 
 /* With length 0 every entry takes a null pointer, one that is not aligned to anything, and one to a page that can't be
- * touched, for what is read and for what is written. Nothing but a refusal can follow: no form of an event is empty. */
+ * touched, for what is read and for what is written. Nothing but a refusal can follow, since no form of an event is
+ * empty; kez_notepack_elements alone lists no elements, and succeeds. */
 static void nothing_lent(void)
 {
     uint8_t *page = mmap(NULL, 4096, PROT_NONE, MAP_PRIVATE | MAP_ANONYMOUS, -1, 0);
@@ -641,6 +737,8 @@ static void nothing_lent(void)
             uint8_t *out = none[j];
             CHECK(is(kez_notepack_write(in, 0, out, 0), 2, 0), "%d %d", i, j);
             CHECK(is(kez_notepack_write(vector.at, vector.len, out, 0), 11, vector.len), "%d", j);
+            CHECK(is(kez_notepack_elements(in, 0, 0, out, 0), 2, 0), "%d %d", i, j);
+            CHECK(is(kez_notepack_elements(vector.at, vector.len, 0, out, 0), 0, 0), "%d", j);
             CHECK(is(kez_canonical_write(in, 0, out, 0), 2, 0), "%d %d", i, j);
             CHECK(is(kez_canonical_write(vector.at, vector.len, out, 0), 11, 265), "%d", j);
             CHECK(is(kez_nson_write(in, 0, out, 0), 2, 0), "%d %d", i, j);
@@ -749,6 +847,8 @@ int main(void)
     truncations();
     padded();
     elements();
+    listed_elements();
+    many_elements();
     varint_faults();
     limits();
     sentences();

@@ -15,6 +15,21 @@
  * A packed event is notepack without a version byte, at most 65,536 bytes. Places, tags and elements are counted from
  * 0. Lengths are in bytes. Link with `pkg-config --cflags --libs kezubimoryu`.
  *
+ * This header is C99, and C++ too.
+ *
+ * An entry that writes an event or a text, lent nothing, answers refusal 11 and the length that it needs, unless it
+ * refuses the input. So a host that would lend no more than that asks first (the lengths below need no question):
+ *
+ *     kez_answer a = kez_nson_write(packed, packed_len, NULL, 0);
+ *     if (a.refusal != 11)
+ *         return a;                        (no event, or one that NSON can't carry)
+ *     size_t out_len = (size_t)a.value;
+ *     uint8_t *out = malloc(out_len);
+ *     if (out)
+ *         a = kez_nson_write(packed, packed_len, out, out_len);        (a is now 0, out_len)
+ *
+ * "Cost" says how the time of a call grows, whether it is refused or not.
+ *
  * "Rule 2.4" is rule 2.4 of docs/RULES.md in the source repository. Parts 1 (the event and its limits), 10 (refusals),
  * 11 (which fault is reported first) and 12.1 (what every call keeps to) bind every entry. The comment of each entry
  * ends with the other rules that bind it.
@@ -29,8 +44,15 @@
 extern "C" {
 #endif
 
-/* The version of this library; the tool and the pkg-config file have it from here. */
-#define KEZ_VERSION "0.4.3"
+/* The version of this header; the tool and the pkg-config file have it from here. As a number: 10,000 for a major
+ * version, 100 for a minor one, 1 for a patch. */
+#define KEZ_VERSION "0.5.0"
+#define KEZ_VERSION_NUMBER 500
+
+/* The version of the library that runs, as such a number. A host that was compiled with this header and runs with the
+ * library of the same version has kez_version() == KEZ_VERSION_NUMBER.
+ * Cost: constant. */
+uint64_t kez_version(void);
 
 /* How long an output buffer has to be. An event in strict form is never longer than the packed bytes, the NSON or the
  * JSON it was read from, so a buffer as long as the input is always enough for it. A canonical text is never longer
@@ -43,7 +65,16 @@ extern "C" {
 /* No canonical text is longer: three bytes for each byte that was packed. Rule 5.8. */
 #define KEZ_CANONICAL_MOST (3 * KEZ_MOST)
 
-/* What every entry answers. Rules 12.1.2 to 12.1.8.
+/* Where the three fixed fields of a packed event are, as raw bytes, and their lengths. Every packed event that
+ * kez_notepack_read accepts has them there. Rules 1.1, 2.1 and 2.2. */
+#define KEZ_ID_AT 0
+#define KEZ_ID_LEN 32
+#define KEZ_PUBKEY_AT 32
+#define KEZ_PUBKEY_LEN 32
+#define KEZ_SIG_AT 64
+#define KEZ_SIG_LEN 64
+
+/* What every entry but kez_version answers. Rules 12.1.2 to 12.1.8.
  * Success: refusal is 0, and value is what the entry's comment says.
  * Refusal: refusal is a number from 1 to 19, and value is the place in the input where the fault was found, or the
  * input's length if the fault is at its end. Rule 10.N says when refusal N is given, and its place. Refusals 1, 17 and
@@ -61,6 +92,7 @@ typedef struct {
  * empty content is that of the byte behind its length.
  * Refusals: 1 to 10.
  * value: 0
+ * Cost: linear in packed_len.
  * Rules 2.1 to 2.18, 4.1, 4.8, 4.9, 12.2.1 to 12.2.3. */
 kez_answer kez_notepack_read(const uint8_t *packed, size_t packed_len,
                              uint64_t *created_at, uint64_t *kind,
@@ -71,6 +103,7 @@ kez_answer kez_notepack_read(const uint8_t *packed, size_t packed_len,
  * stored as raw bytes exactly if its text is not empty, has an even length and consists of 0-9 and a-f alone.
  * Refusals: those of kez_notepack_read.
  * value: 1 strict, 0 not strict
+ * Cost: linear in packed_len.
  * Rules 3.1 to 3.5, 12.2.7; of the input 2.1 to 2.17. */
 kez_answer kez_notepack_is_strict(const uint8_t *packed, size_t packed_len);
 
@@ -78,6 +111,7 @@ kez_answer kez_notepack_is_strict(const uint8_t *packed, size_t packed_len);
  * bytes come out unchanged. An out_len of packed_len is always enough.
  * Refusals: those of kez_notepack_read; then 11.
  * value: the length written
+ * Cost: linear in packed_len.
  * Rules 3.1 to 3.3, 3.6, 3.7, 12.2.4 to 12.2.6; of the input 2.1 to 2.17. */
 kez_answer kez_notepack_write(const uint8_t *packed, size_t packed_len,
                               uint8_t *out, size_t out_len);
@@ -85,33 +119,68 @@ kez_answer kez_notepack_write(const uint8_t *packed, size_t packed_len,
 /* How many texts does this tag have?
  * Refusals: those of kez_notepack_read; then 19 if there is no such tag.
  * value: the number of texts, 1 to 255
+ * Cost: linear in packed_len, since each call reads the whole record. kez_notepack_elements tells of all tags at once.
  * Rules 4.4 to 4.6, 4.9, 12.2.3; of the input 2.1 to 2.17. */
 kez_answer kez_notepack_tag_len(const uint8_t *packed, size_t packed_len, uint64_t tag);
 
 /* Finds one text of a tag as it is packed. Stores the place of its payload in packed, the payload's length, and in
- * is_bytes how the payload is to be read: 0, it is the text; 1, the text is the payload written in lowercase hex.
+ * is_bytes how the payload is to be read: 0, it is the text; 1, the text is the payload written in lowercase hex. (Rule
+ * 2.10 calls this number b.) With 1 the bytes 0a ff are the text 0aff, which is twice as long as the payload.
  * Refusals: those of kez_notepack_read; then 19 if there is no such tag or no such element in it.
  * value: 0
+ * Cost: linear in packed_len, since each call reads the whole record. To list many, call kez_notepack_elements.
  * Rules 2.10 to 2.12, 4.2, 4.3, 4.5, 4.6, 4.8, 4.9, 12.2.3; of the input 2.1 to 2.17. */
 kez_answer kez_notepack_element(const uint8_t *packed, size_t packed_len,
                                 uint64_t tag, uint64_t element,
                                 uint64_t *at, uint64_t *len, uint64_t *is_bytes);
+
+/* What kez_notepack_elements writes for one element. */
+#define KEZ_ELEMENT_BYTES 16
+
+/* A buffer of this length has room for the elements of any record. Rule 4.15. */
+#define KEZ_ELEMENTS_MOST (KEZ_ELEMENT_BYTES * KEZ_MOST)
+
+/* Lists the elements of all tags, in their order, in one pass: from element number first on, counted over all tags from
+ * 0, as many as there are and as fit whole into out. Each takes KEZ_ELEMENT_BYTES in out, four little-endian numbers of
+ * four bytes: its tag's number, the place of its payload in packed, the payload's length, and 1 for raw bytes (whose
+ * text is their lowercase hex) or 0 for text. Bytes behind the last of them are unchanged. To list them in blocks, lend
+ * at least KEZ_ELEMENT_BYTES and go on with first + value until value is less than fits. There is no size query here.
+ * Refusals: those of kez_notepack_read; never 11.
+ * value: how many were listed; fewer than fit means that there are no more, so a first past the last lists none
+ * Cost: linear in packed_len.
+ * Rules 2.10 to 2.12, 4.3, 4.8, 4.12 to 4.15; of the input 2.1 to 2.17. */
+kez_answer kez_notepack_elements(const uint8_t *packed, size_t packed_len, uint64_t first,
+                                 uint8_t *out, size_t out_len);
 
 /* Which of two packed events is to be kept? Two events are rivals, versions of one record, if both have a key and the
  * keys are equal. The key of kinds 0, 3 and 10000 to 19999 is author and kind; that of kinds 30000 to 39999 is author,
  * kind and label (the text behind "d", in the first tag with "d" in front). Other events have no key. Of two rivals
  * the later is kept; at equal times the one with the lower id; if the ids are equal too, the first.
  * Refusals: those of kez_notepack_read. Any refusal of the first input comes before those of the second. The place is
- * one in the input that is refused, and the answer does not say which that is; kez_notepack_read of the first tells.
+ * one in the input that is refused, and the answer does not say which that is; kez_rivals_refused below tells.
  * value: 0 not rivals, 1 keep the first, 2 keep the second
+ * Cost: linear in first_len + second_len.
  * Rules 8.1 to 8.11; of both inputs 2.1 to 2.17. */
 kez_answer kez_rivals(const uint8_t *first, size_t first_len,
                       const uint8_t *second, size_t second_len);
+
+/* Which input did kez_rivals refuse? Call it after a refusal, with the same first input. It reads that input alone: any
+ * refusal of the first comes before those of the second, so if the first is refused here, kez_rivals told of it; if it
+ * is not, kez_rivals can only have refused the second.
+ * Returns 1 for the first, 2 for the second.
+ * Cost: linear in first_len. */
+static inline int kez_rivals_refused(const uint8_t *first, size_t first_len)
+{
+    uint64_t created_at, kind, content_at, content_len, tag_count;
+    kez_answer a = kez_notepack_read(first, first_len, &created_at, &kind, &content_at, &content_len, &tag_count);
+    return a.refusal ? 1 : 2;
+}
 
 /* Writes the canonical text of NIP-01 to out: [0,"pubkey",created_at,kind,tags,"content"]. An event's id is the SHA-256
  * of this text; the library does not compute it. An out_len of 3 * packed_len is always enough.
  * Refusals: those of kez_notepack_read; then 11.
  * value: the length written
+ * Cost: linear in packed_len.
  * Rules 5.1 to 5.9, 12.2.8; of the input 2.1 to 2.17. */
 kez_answer kez_canonical_write(const uint8_t *packed, size_t packed_len,
                                uint8_t *out, size_t out_len);
@@ -120,6 +189,7 @@ kez_answer kez_canonical_write(const uint8_t *packed, size_t packed_len,
  * out_len of KEZ_MOST is always enough.
  * Refusals: those of kez_notepack_read; then 17 if NSON can't carry the event; then 11.
  * value: the length written
+ * Cost: linear in packed_len.
  * Rules 6.1 to 6.16, 12.3.10 to 12.3.12; of the input 2.1 to 2.17. */
 kez_answer kez_nson_write(const uint8_t *packed, size_t packed_len,
                           uint8_t *out, size_t out_len);
@@ -129,6 +199,7 @@ kez_answer kez_nson_write(const uint8_t *packed, size_t packed_len,
  * same out_len. An out_len of text_len is always enough.
  * Refusals: 1, 5, 6, 9, 10, 12, 13, 14; then 11.
  * value: the length written
+ * Cost: linear in text_len.
  * Rules 6.1 to 6.12, 6.17 to 6.30, 12.3.1 to 12.3.3, 12.3.5 to 12.3.9; of what is written 3.1 to 3.3. */
 kez_answer kez_nson_read(const uint8_t *text, size_t text_len,
                          uint8_t *out, size_t out_len);
@@ -138,6 +209,7 @@ kez_answer kez_nson_read(const uint8_t *text, size_t text_len,
  * is one of these, so this entry does not notice a wrong count in it. An out_len of text_len is always enough.
  * Refusals: 1, 5 to 10, 12, 14, 15, 16, 18; then 11.
  * value: the length written
+ * Cost: linear in text_len.
  * Rules 7.1 to 7.27, 12.1.9, 12.2.9, 12.2.10, 12.3.1 to 12.3.6; of what is written 3.1 to 3.3. */
 kez_answer kez_json_read(const uint8_t *text, size_t text_len,
                          uint8_t *out, size_t out_len);
@@ -151,8 +223,8 @@ kez_answer kez_json_read(const uint8_t *text, size_t text_len,
  * Refusals: those of kez_json_read (what it refuses, kez_nson_read refuses too, perhaps with another number). Then 11
  * if json_out is too short; then 11 if kez_nson_read accepts the text and nson_out is too short. A length of text_len
  * for each buffer is always enough.
- * Cost: each reader goes through the text twice, once to decide before anything is written and once to write. A call
- * takes up to twice as long as the two readers together.
+ * Cost: linear in text_len. Each reader goes through the text twice, once to decide before anything is written and once
+ * to write. A call takes up to twice as long as the two readers together.
  * Rules 9.1 to 9.7, 12.3.1 to 12.3.3, 12.3.6; of the text parts 6 and 7; of what is written 3.1 to 3.3. */
 kez_answer kez_read_both(const uint8_t *text, size_t text_len,
                          uint8_t *nson_out, size_t nson_out_len,

@@ -4,6 +4,7 @@
 
 #include <errno.h>
 #include <inttypes.h>
+#include <stdarg.h>
 #include <stdio.h>
 #include <stdlib.h>
 #include <string.h>
@@ -12,11 +13,13 @@
 enum { ACCEPTED = 0, REFUSED = 1, USAGE = 2 };
 
 static const char help[] =
-    "usage: kez COMMAND [--hex | --hex=in | --hex=out] < INPUT > OUTPUT\n"
+    "usage: kez COMMAND [--hex | --hex=in | --hex=out] [FILE] > OUTPUT\n"
     "       kez keep [--hex] FIRST SECOND\n"
     "       kez --help | --version\n"
     "\n"
-    "  list [--all]  the numbers of a packed event; --all: its fields and texts too\n"
+    "  list [--all | --json]\n"
+    "                the numbers of a packed event; --all: its fields and texts too, for people;\n"
+    "                --json: all of it as plain JSON on one line, for programs\n"
     "  strict        is a packed event in its strict form? 'strict' or 'not strict'\n"
     "  pack          the strict form of a packed event\n"
     "  canonical     the canonical text, over which the id is taken\n"
@@ -28,10 +31,11 @@ static const char help[] =
     "\n"
     "  --hex         bytes are hexadecimal digits on both sides; =in, =out: on one side\n"
     "\n"
-    "A packed event is notepack. Exit status: 0 accepted, 1 refused ('refused N at P: ..' on\n"
-    "standard error, with the place), 2 usage, or a file that can't be read or written.\n";
+    "Without FILE, or where it is -, standard input is read. A packed event is notepack.\n"
+    "Exit status: 0 accepted, 1 refused ('refused N at P: ..' on standard error, with the\n"
+    "place), 2 usage, or a file that can't be read or written.\n";
 
-static int hex_in, hex_out, all;
+static int hex_in, hex_out, all, json;
 
 static int usage(const char *what, const char *word)
 {
@@ -49,7 +53,10 @@ static bytes first, second;
 
 static int digit(int c)
 {
-    return c >= '0' && c <= '9' ? c - '0' : c >= 'a' && c <= 'f' ? c - 'a' + 10 : c >= 'A' && c <= 'F' ? c - 'A' + 10 : -1;
+    return c >= '0' && c <= '9'   ? c - '0'
+           : c >= 'a' && c <= 'f' ? c - 'a' + 10
+           : c >= 'A' && c <= 'F' ? c - 'A' + 10
+                                  : -1;
 }
 
 static int is_space(int c)
@@ -66,7 +73,10 @@ static int read_hex(bytes *b, FILE *file, const char *name)
         if (is_space(c))
             continue;
         if (digit(c) < 0) {
-            fprintf(stderr, "kez: %s: byte %" PRIu64 " is not a hexadecimal digit. Is the input hex? Without --hex bytes are taken as they are.\n", name, place);
+            fprintf(stderr,
+                    "kez: %s: byte %" PRIu64 " is not a hexadecimal digit. "
+                    "Is the input hex? Without --hex bytes are taken as they are.\n",
+                    name, place);
             return 0;
         }
         if (high < 0) {
@@ -76,16 +86,22 @@ static int read_hex(bytes *b, FILE *file, const char *name)
             high = -1;
         }
     }
-    if (high >= 0) {
-        fprintf(stderr, "kez: %s: an odd number of hexadecimal digits. The last byte is cut; is the input whole?\n", name);
+    if (high >= 0 && !ferror(file)) {
+        fprintf(stderr, "kez: %s: an odd number of hexadecimal digits. The last byte is cut; is the input whole?\n",
+                name);
         return 0;
     }
     return 1;
 }
 
+static int is_standard(const char *file)
+{
+    return !strcmp(file, "-");
+}
+
 static int read_file(bytes *b, const char *name)
 {
-    int standard = !strcmp(name, "-");
+    int standard = is_standard(name);
     FILE *file = standard ? stdin : fopen(name, "rb");
     if (standard) {
         name = "standard input";
@@ -113,36 +129,93 @@ static int read_file(bytes *b, const char *name)
 
 /* Output. Packed bytes go to a terminal as hex; what is text gets a line end there. */
 
-static void put_hex(FILE *to, const uint8_t *at, size_t len)
+static int on_terminal;
+/* the errno of the first write to standard output that failed; later calls may set errno anew */
+static int lost;
+
+static void written(int good)
+{
+    if (!good && !lost)
+        lost = errno ? errno : EIO;
+}
+
+static void put_bytes(const void *at, size_t len)
+{
+    written(fwrite(at, 1, len, stdout) == len);
+}
+
+static void put_byte(int c)
+{
+    written(putchar(c) != EOF);
+}
+
+__attribute__((format(printf, 1, 2))) static void put(const char *format, ...)
+{
+    va_list rest;
+    va_start(rest, format);
+    written(vprintf(format, rest) >= 0);
+    va_end(rest);
+}
+
+/* The exit status, once everything is written. */
+static int finish(int status)
+{
+    written(!fflush(stdout));
+    if (!lost)
+        return status;
+    fprintf(stderr, "kez: standard output: %s\n", strerror(lost));
+    return USAGE;
+}
+
+static void put_hex(const uint8_t *at, size_t len)
 {
     for (size_t i = 0; i < len; i++)
-        fprintf(to, "%02x", at[i]);
+        put("%02x", at[i]);
 }
 
 static void put_output(const uint8_t *at, size_t len, int is_text)
 {
-    if (hex_out || (!is_text && isatty(1))) {
-        put_hex(stdout, at, len);
-        putchar('\n');
+    if (hex_out || (!is_text && on_terminal)) {
+        put_hex(at, len);
+        put_byte('\n');
     } else {
-        fwrite(at, 1, len, stdout);
-        if (is_text && isatty(1))
-            putchar('\n');
+        put_bytes(at, len);
+        if (is_text && on_terminal)
+            put_byte('\n');
     }
 }
 
-/* A text in quotes, on one line whatever is in it. */
+/* The character of two or three bytes that starts here, if a terminal does something else than to show it: a control
+ * above 7f, a line or paragraph separator, or what turns the direction of writing. Otherwise 0. */
+static unsigned hidden(const uint8_t *at, size_t len)
+{
+    unsigned c = 0;
+    if (len >= 2 && at[0] >> 5 == 6)
+        c = (at[0] & 31u) << 6 | (at[1] & 63u);
+    else if (len >= 3 && at[0] >> 4 == 14)
+        c = (at[0] & 15u) << 12 | (at[1] & 63u) << 6 | (at[2] & 63u);
+    return (c >= 0x80 && c <= 0x9f) || c == 0x61c || c == 0x200e || c == 0x200f || (c >= 0x2028 && c <= 0x202e) ||
+           (c >= 0x2066 && c <= 0x2069) ? c : 0;
+}
+
+/* A text in quotes, on one line whatever is in it. With --json it is a string of JSON. */
 static void put_quoted(const uint8_t *at, size_t len)
 {
-    putchar('"');
-    for (size_t i = 0; i < len; i++)
-        if (at[i] == '"' || at[i] == '\\')
-            printf("\\%c", at[i]);
-        else if (at[i] < 0x20 || at[i] == 0x7f)
-            printf("\\x%02x", at[i]);
-        else
-            putchar(at[i]);
-    putchar('"');
+    put_byte('"');
+    for (size_t i = 0; i < len; i++) {
+        unsigned c = hidden(at + i, len - i);
+        if (c) {
+            put("\\u%04x", c);
+            i += c < 0x800 ? 1 : 2;
+        } else if (at[i] == '"' || at[i] == '\\') {
+            put("\\%c", at[i]);
+        } else if (at[i] < 0x20 || at[i] == 0x7f) {
+            put(json ? "\\u%04x" : "\\x%02x", at[i]);
+        } else {
+            put_byte(at[i]);
+        }
+    }
+    put_byte('"');
 }
 
 /* Refusals. What the input is decides how its place is shown. */
@@ -154,13 +227,205 @@ static const char *advice(uint64_t refusal, int input)
     switch (refusal) {
     case 2:
     case 4: return "Was the whole record read? Hexadecimal digits need --hex.";
-    case 10: return input == NSON ? "A line end behind an NSON text is too much already: cut it off with head -c -1." : "One record at a time: cut the input there.";
+    case 10:
+        return input == NSON ? "A line end behind an NSON text is too much already: cut it off with head -c -1."
+                             : "One record at a time: cut the input there.";
     case 12: return input == NSON ? "NSON has its fields in one fixed order. Other JSON is read by from-json." : NULL;
-    case 13: return "The sender's nson field is wrong. from-json reads the text without that field.";
+    case 13:
+        return "The counts and the text disagree: the text is cut or changed, or its nson field is wrong. "
+               "from-json takes no notice of the counts.";
+    case 14:
+        return input == NSON ? "A string of NSON has no escapes but \\n, \\\\ and \\\", no raw control byte, "
+                               "and no escape that its count cuts."
+                             : NULL;
     case 15: return "Nothing is filled in: ask the sender for the whole record.";
-    case 17: return "NSON takes times of ten digits, no control character but the line end, at most 127 bytes of counts, 65,536 bytes in all. Send packed bytes instead.";
+    case 17:
+        return "NSON takes times of ten digits, no control character but the line end, at most 127 bytes of counts, "
+               "65,536 bytes in all. Send packed bytes instead.";
     default: return NULL;
     }
+}
+
+/* What the input lacks, where it can be told without doubt. For plain JSON the library itself is asked: it reads the
+ * input up to the place, and something behind it. */
+
+static const char *const fields[] = {"id", "pubkey", "sig", "created_at", "kind", "tags", "content"};
+enum { FIELDS = sizeof fields / sizeof *fields };
+
+static kez_answer ask(const bytes *b, uint64_t place, const char *more)
+{
+    static uint8_t text[sizeof b->at + 32], event[sizeof text];
+    size_t len = strlen(more);
+    memcpy(text, b->at, place);
+    memcpy(text + place, more, len);
+    return kez_json_read(text, place + len, event, sizeof event);
+}
+
+/* Names what is missing at the closing brace: a name that is there already is refused with 16 if it comes again. */
+static void tell_missing(const bytes *b, uint64_t brace)
+{
+    char said[100] = "", more[20];
+    size_t end = brace;
+    while (end && is_space(b->at[end - 1]))
+        end--;
+    int comma = end && b->at[end - 1] != '{';
+    for (int i = 0; i < FIELDS; i++) {
+        snprintf(more, sizeof more, "%s\"%s\"", comma ? "," : "", fields[i]);
+        kez_answer a = ask(b, brace, more);
+        if (a.refusal == 14 && a.value == brace + strlen(more))
+            snprintf(said + strlen(said), sizeof said - strlen(said), "%s%s", *said ? ", " : "", fields[i]);
+        else if (a.refusal != 16)
+            return; /* the input is so long that nothing can be put behind it */
+    }
+    if (*said)
+        fprintf(stderr, "     Missing: %s.\n", said);
+}
+
+/* The four digits of \uXXXX at this place, or -1. */
+static long unit(const bytes *b, size_t at)
+{
+    long number = 0;
+    if (b->len < 6 || at > b->len - 6 || b->at[at] != '\\' || b->at[at + 1] != 'u')
+        return -1;
+    for (int i = 2; i < 6; i++) {
+        if (digit(b->at[at + i]) < 0)
+            return -1;
+        number = number << 4 | digit(b->at[at + i]);
+    }
+    return number;
+}
+
+/* Is the escape at this backslash cut by the input's end? */
+static int is_cut(const bytes *b, size_t at)
+{
+    size_t to = at + 1;
+    if (to < b->len && b->at[to] == 'u')
+        for (to++; to < b->len && to < at + 6 && digit(b->at[to]) >= 0; to++)
+            ;
+    return to == b->len && to < at + 6;
+}
+
+/* Which of the seven names stands at this opening quote? NULL: none. */
+static const char *name_at(const bytes *b, size_t quote)
+{
+    for (int i = 0; i < FIELDS; i++) {
+        size_t at = quote + 1;
+        const char *c = fields[i];
+        for (; *c && at < b->len; c++) {
+            int escaped = unit(b, at) == *c;
+            if (!escaped && b->at[at] != *c)
+                break;
+            at += escaped ? 6 : 1;
+        }
+        if (!*c && at < b->len && b->at[at] == '"')
+            return fields[i];
+    }
+    return NULL;
+}
+
+/* The name in front of the value at this place. */
+static const char *name_before(const bytes *b, size_t place)
+{
+    while (place && (is_space(b->at[place - 1]) || b->at[place - 1] == ':'))
+        place--;
+    if (place < 2 || b->at[--place] != '"')
+        return NULL;
+    while (place && b->at[place - 1] != '"')
+        place--;
+    return place ? name_at(b, place - 1) : NULL;
+}
+
+/* What is wrong with the string of plain JSON at this opening quote. */
+static void tell_string(const bytes *b, size_t quote)
+{
+    size_t at = quote + 1;
+    const char *what = NULL;
+    while (at < b->len && !what && !(b->at[at] == '\\' && is_cut(b, at))) {
+        long u = unit(b, at);
+        if (b->at[at] == '"')
+            return;
+        if (b->at[at] < 0x20)
+            what = "a raw control byte";
+        else if (b->at[at] != '\\')
+            at++;
+        else if (at + 1 < b->len && b->at[at + 1] && strchr("\"\\/bfnrt", b->at[at + 1]))
+            at += 2;
+        else if (u >= 0 && (u < 0xd800 || u > 0xdfff))
+            at += 6;
+        else if (u >= 0xd800 && u <= 0xdbff && unit(b, at + 6) >= 0xdc00 && unit(b, at + 6) <= 0xdfff)
+            at += 12;
+        else
+            what = u < 0 ? "an escape that is not allowed" : "half of a surrogate pair";
+    }
+    if (what)
+        fprintf(stderr, "     The string that starts here has %s at byte %zu.\n", what, at);
+    else
+        fprintf(stderr, "     The string that starts here is not closed.\n");
+}
+
+/* Which tokens of plain JSON may stand at this place: those that the library does not refuse there. */
+static void tell_tokens(const bytes *b, uint64_t place)
+{
+    enum { STRING, NUMBER };
+    static const struct { const char *token, *name; } tokens[] = {
+        {" \"\"", "a string"}, {" 0", "a number"}, {" null", "true, false, null"}, {" :", "':'"}, {" ,", "','"},
+        {" [", "'['"}, {" {", "'{'"}, {" ]", "']'"}, {" }", "'}'"}};
+    enum { TOKENS = sizeof tokens / sizeof *tokens };
+    int may[TOKENS], count = 0;
+    for (int i = 0; i < TOKENS; i++) {
+        kez_answer a = ask(b, place, tokens[i].token);
+        if (a.refusal == 1)
+            return; /* the input is so long that nothing can be put behind it */
+        may[i] = !a.refusal || (a.refusal == 14 && a.value == place + strlen(tokens[i].token)) ||
+                 ((a.refusal == 12 || a.refusal == 15) && a.value == place + 1);
+        count += may[i];
+    }
+    if (may[STRING] && place < b->len && b->at[place] == '"') {
+        tell_string(b, place);
+        return;
+    }
+    if (count)
+        fprintf(stderr, "     Expected here: ");
+    for (int i = 0, left = count; i < TOKENS; i++)
+        if (may[i]) {
+            left--;
+            fprintf(stderr, "%s%s%s", tokens[i].name, i == NUMBER && count == 1 ? " of digits alone" : "",
+                    left > 1 ? ", " : left ? " or " : ".\n");
+        }
+}
+
+/* The pieces of NSON up to its descriptors stand at fixed places. */
+static void tell_piece(uint64_t place)
+{
+    static const struct { uint64_t at; const char *what; } pieces[] = {
+        {0, "{\"id\":\""}, {7, "the id, 64 lowercase hexadecimal digits"},
+        {71, "\",\"pubkey\":\""}, {83, "the pubkey, 64 lowercase hexadecimal digits"},
+        {147, "\",\"sig\":\""}, {156, "the sig, 128 lowercase hexadecimal digits"},
+        {284, "\",\"created_at\":"}, {299, "created_at, ten digits of which the first is not 0"},
+        {309, ",\"nson\":\""}, {318, "the size, two lowercase hexadecimal digits"}};
+    for (size_t i = 0; i < sizeof pieces / sizeof *pieces; i++)
+        if (pieces[i].at == place)
+            fprintf(stderr, "     Expected here: %s\n", pieces[i].what);
+    if (place >= 320)
+        fprintf(stderr, "     Expected here: a descriptor, in lowercase hexadecimal digits\n");
+}
+
+static void tell_lack(const bytes *b, kez_answer a, int input)
+{
+    const char *name;
+    if (a.refusal == 12 && input == NSON)
+        tell_piece(a.value);
+    if (input != JSON)
+        return;
+    if (a.refusal == 12 && (name = name_before(b, a.value)))
+        fprintf(stderr, "     Expected here: the %s, %d lowercase hexadecimal digits.\n", name,
+                *name == 's' ? 128 : 64);
+    if (a.refusal == 14)
+        tell_tokens(b, a.value);
+    if (a.refusal == 15)
+        tell_missing(b, a.value);
+    if (a.refusal == 16 && (name = name_at(b, a.value)))
+        fprintf(stderr, "     Here %s stands for the second time.\n", name);
 }
 
 /* Do these numbers have a place that shows something? */
@@ -178,7 +443,8 @@ static void show_place(const bytes *b, uint64_t place, int is_text)
     int mark = 0;
     fprintf(stderr, from ? "  .. " : "     ");
     for (size_t i = from; i < to; i++) {
-        int width = is_text ? fprintf(stderr, "%c", b->at[i] >= 0x20 && b->at[i] < 0x7f ? b->at[i] : '.') : fprintf(stderr, "%02x ", b->at[i]);
+        int c = b->at[i];
+        int width = is_text ? fprintf(stderr, "%c", c >= 0x20 && c < 0x7f ? c : '.') : fprintf(stderr, "%02x ", c);
         if (i < place)
             mark += width;
     }
@@ -192,58 +458,106 @@ static int refused(const bytes *b, kez_answer a, int input)
     fprintf(stderr, "refused %" PRIu64 " at %" PRIu64 ": %s\n", a.refusal, a.value, kez_refusal_text(a.refusal));
     if (has_place(a.refusal) && a.value <= b->len)
         show_place(b, a.value, input != PACKED);
+    if (b->len)
+        tell_lack(b, a, input);
     if (what)
         fprintf(stderr, "     %s\n", what);
     return REFUSED;
 }
 
-/* Commands. Each takes what stands in first, and second if it asks for files. */
+/* Commands. Each takes what stands in first; keep takes second too. */
 
-static void put_text(uint64_t at, uint64_t len, uint64_t is_bytes)
+static void put_text(const uint8_t *at, size_t len, int is_bytes)
 {
-    putchar(' ');
     if (is_bytes) {
-        putchar('"');
-        put_hex(stdout, first.at + at, len);
-        putchar('"');
+        put_byte('"');
+        put_hex(at, len);
+        put_byte('"');
     } else {
-        put_quoted(first.at + at, len);
+        put_quoted(at, len);
     }
 }
 
-static void put_all(uint64_t content_at, uint64_t content_len, uint64_t tags)
+/* One of the four numbers that the library lists of an element. */
+static uint32_t number_at(const uint8_t *at)
 {
-    static const struct { const char *name; size_t at, len; } fixed[] = {{"id", 0, 32}, {"pubkey", 32, 32}, {"sig", 64, 64}};
-    for (int i = 0; i < 3; i++) {
-        printf("%s ", fixed[i].name);
-        put_hex(stdout, first.at + fixed[i].at, fixed[i].len);
-        putchar('\n');
-    }
-    printf("content");
-    put_text(content_at, content_len, 0);
-    putchar('\n');
-    for (uint64_t tag = 0; tag < tags; tag++) {
-        uint64_t texts = kez_notepack_tag_len(first.at, first.len, tag).value;
-        printf("tag %" PRIu64, tag);
-        for (uint64_t element = 0; element < texts; element++) {
-            uint64_t at, len, is_bytes;
-            if (!kez_notepack_element(first.at, first.len, tag, element, &at, &len, &is_bytes).refusal)
-                put_text(at, len, is_bytes);
+    return at[0] | (uint32_t)at[1] << 8 | (uint32_t)at[2] << 16 | (uint32_t)at[3] << 24;
+}
+
+/* The texts of all tags, with what stands before and behind a tag, and between two tags and two texts. */
+typedef struct {
+    const char *open, *close, *tags, *texts;
+} frame;
+
+static void put_tags(const frame *f, int numbered)
+{
+    static uint8_t list[KEZ_ELEMENTS_MOST];
+    uint64_t count = kez_notepack_elements(first.at, first.len, 0, list, sizeof list).value;
+    for (uint64_t i = 0; i < count; i++) {
+        const uint8_t *e = list + i * KEZ_ELEMENT_BYTES;
+        uint32_t tag = number_at(e);
+        int fresh = !i || number_at(e - KEZ_ELEMENT_BYTES) != tag;
+        if (fresh) {
+            put("%s%s", i ? f->tags : "", f->open);
+            if (numbered)
+                put(" %" PRIu32, tag);
         }
-        putchar('\n');
+        put("%s", fresh && !numbered ? "" : f->texts);
+        put_text(first.at + number_at(e + 4), number_at(e + 8), number_at(e + 12) == 1);
+        if (i + 1 == count || number_at(e + KEZ_ELEMENT_BYTES) != tag)
+            put("%s", f->close);
     }
+}
+
+static void put_fixed(const char *name, size_t at, size_t len)
+{
+    put(json ? "\"%s\":\"" : "%s ", name);
+    put_hex(first.at + at, len);
+    put(json ? "\"," : "\n");
 }
 
 static int do_list(void)
 {
+    static const frame lines = {"tag", "\n", "", " "}, arrays = {"[", "]", ",", ","};
     uint64_t created_at, kind, content_at, content_len, tags;
     kez_answer a = kez_notepack_read(first.at, first.len, &created_at, &kind, &content_at, &content_len, &tags);
     if (a.refusal)
         return refused(&first, a, PACKED);
-    printf("created_at %" PRIu64 "\nkind %" PRIu64 "\ncontent %" PRIu64 "\ntags %" PRIu64 "\n", created_at, kind, content_len, tags);
-    if (all)
-        put_all(content_at, content_len, tags);
+    if (json)
+        put("{\"created_at\":%" PRIu64 ",\"kind\":%" PRIu64 ",", created_at, kind);
+    else
+        put("created_at %" PRIu64 "\nkind %" PRIu64 "\ncontent %" PRIu64 "\ntags %" PRIu64 "\n", created_at, kind,
+            content_len, tags);
+    if (json || all) {
+        put_fixed("id", KEZ_ID_AT, KEZ_ID_LEN);
+        put_fixed("pubkey", KEZ_PUBKEY_AT, KEZ_PUBKEY_LEN);
+        put_fixed("sig", KEZ_SIG_AT, KEZ_SIG_LEN);
+        put(json ? "\"content\":" : "content ");
+        put_quoted(first.at + content_at, content_len);
+        put(json ? ",\"tags\":[" : "\n");
+        put_tags(json ? &arrays : &lines, !json);
+        if (json)
+            put("]}\n");
+    }
     return ACCEPTED;
+}
+
+static uint8_t out[KEZ_CANONICAL_MOST];
+
+typedef kez_answer writer(const uint8_t *, size_t, uint8_t *, size_t);
+
+/* Where the strict form first differs. It does differ, in a byte that both have: no event goes on behind its end. */
+static void tell_difference(void)
+{
+    size_t at = 0;
+    uint64_t len = kez_notepack_write(first.at, first.len, out, sizeof out).value;
+    while (at < len && out[at] == first.at[at])
+        at++;
+    if (at == len)
+        return;
+    fprintf(stderr, "the strict form differs first at byte %zu, where it has %02x for %02x\n", at, out[at],
+            first.at[at]);
+    show_place(&first, at, 0);
 }
 
 static int do_strict(void)
@@ -251,13 +565,14 @@ static int do_strict(void)
     kez_answer a = kez_notepack_is_strict(first.at, first.len);
     if (a.refusal)
         return refused(&first, a, PACKED);
-    puts(a.value ? "strict" : "not strict");
+    put(a.value ? "strict\n" : "not strict\n");
+    if (!a.value) {
+        /* the answer first, where both go to one place */
+        written(!fflush(stdout));
+        tell_difference();
+    }
     return ACCEPTED;
 }
-
-static uint8_t out[KEZ_CANONICAL_MOST];
-
-typedef kez_answer writer(const uint8_t *, size_t, uint8_t *, size_t);
 
 static int do_write(writer *entry, int input, int to_text)
 {
@@ -296,12 +611,11 @@ static int do_keep(void)
     static const char *const told[] = {"not rivals", "first", "second"};
     kez_answer a = kez_rivals(first.at, first.len, second.at, second.len);
     if (!a.refusal) {
-        puts(told[a.value]);
+        put("%s\n", told[a.value]);
         return ACCEPTED;
     }
-    /* the place is in the input that is refused: the first, if its reader refuses it */
-    uint64_t number[5];
-    int of_first = kez_notepack_read(first.at, first.len, number, number + 1, number + 2, number + 3, number + 4).refusal != 0;
+    /* the place is in the input that is refused */
+    int of_first = kez_rivals_refused(first.at, first.len) == 1;
     fprintf(stderr, of_first ? "the first: " : "the second: ");
     return refused(of_first ? &first : &second, a, PACKED);
 }
@@ -312,10 +626,11 @@ typedef struct {
     int (*run)(void);
 } command;
 
+/* one file may be named, or none; with keep two must be */
 static const command commands[] = {
-    {"list", 0, do_list},         {"strict", 0, do_strict},       {"pack", 0, do_pack},
-    {"canonical", 0, do_canonical}, {"to-nson", 0, do_to_nson},   {"from-nson", 0, do_from_nson},
-    {"from-json", 0, do_from_json}, {"both", 0, do_both},         {"keep", 2, do_keep},
+    {"list", 1, do_list},         {"strict", 1, do_strict},       {"pack", 1, do_pack},
+    {"canonical", 1, do_canonical}, {"to-nson", 1, do_to_nson},   {"from-nson", 1, do_from_nson},
+    {"from-json", 1, do_from_json}, {"both", 1, do_both},         {"keep", 2, do_keep},
 };
 
 static const command *find(const char *name)
@@ -337,6 +652,8 @@ static int option(const char *word, const command *c)
         hex_out = 1;
     else if (!strcmp(word, "--all") && c && c->run == do_list)
         all = 1;
+    else if (!strcmp(word, "--json") && c && c->run == do_list)
+        json = 1;
     else
         return 0;
     return 1;
@@ -345,13 +662,18 @@ static int option(const char *word, const command *c)
 int main(int count, char **words)
 {
     const command *c = NULL;
-    const char *files[2];
+    const char *files[2] = {"-", NULL};
     int given = 0;
+    on_terminal = isatty(1);
     for (int i = 1; i < count; i++) {
-        if (!strcmp(words[i], "--help") || !strcmp(words[i], "-h"))
-            return fputs(help, stdout) < 0 || fflush(stdout) ? USAGE : ACCEPTED;
-        if (!strcmp(words[i], "--version"))
-            return puts("kez " KEZ_VERSION) < 0 || fflush(stdout) ? USAGE : ACCEPTED;
+        if (!strcmp(words[i], "--help") || !strcmp(words[i], "-h")) {
+            put("%s", help);
+            return finish(ACCEPTED);
+        }
+        if (!strcmp(words[i], "--version")) {
+            put("kez %s\n", KEZ_VERSION);
+            return finish(ACCEPTED);
+        }
         if (words[i][0] == '-' && words[i][1]) {
             if (!option(words[i], c))
                 return usage("there is no such option here", words[i]);
@@ -361,19 +683,17 @@ int main(int count, char **words)
         } else if (given < c->files) {
             files[given++] = words[i];
         } else {
-            return usage("too many words; input comes from standard input", words[i]);
+            return usage(c->files == 2 ? "too many words; keep takes two files" : "too many words; one file is read",
+                         words[i]);
         }
     }
     if (!c)
         return usage("which command?", NULL);
-    if (given < c->files)
+    if (c->files == 2 && given < 2)
         return usage("two files are needed, the first and the second record", NULL);
-    if (!read_file(&first, c->files ? files[0] : "-") || (c->files && !read_file(&second, files[1])))
+    if (c->files == 2 && is_standard(files[0]) && is_standard(files[1]))
+        return usage("standard input can be one of the two records only", NULL);
+    if (!read_file(&first, files[0]) || (c->files == 2 && !read_file(&second, files[1])))
         return USAGE;
-    int status = c->run();
-    if (fflush(stdout) || ferror(stdout)) {
-        fprintf(stderr, "kez: standard output: %s\n", strerror(errno));
-        return USAGE;
-    }
-    return status;
+    return finish(c->run());
 }

@@ -13,11 +13,13 @@
 #include <sys/mman.h>
 #include <unistd.h>
 
-enum { READ, STRICT, PACK, TAG_LEN, ELEMENT, CANONICAL, NSON_WRITE, NSON_READ, JSON_READ, READ_BOTH, RIVALS };
+enum { READ, STRICT, PACK, TAG_LEN, ELEMENT, ELEMENTS, CANONICAL, NSON_WRITE, NSON_READ, JSON_READ, READ_BOTH, RIVALS };
 
-const char *const entry_names[ENTRIES] = {"kez_notepack_read", "kez_notepack_is_strict", "kez_notepack_write", "kez_notepack_tag_len",
-                                          "kez_notepack_element", "kez_canonical_write", "kez_nson_write", "kez_nson_read",
-                                          "kez_json_read", "kez_read_both", "kez_rivals"};
+const char *const entry_names[ENTRIES] = {
+    "kez_notepack_read", "kez_notepack_is_strict", "kez_notepack_write", "kez_notepack_tag_len", "kez_notepack_element",
+    "kez_notepack_elements", "kez_canonical_write", "kez_nson_write", "kez_nson_read", "kez_json_read", "kez_read_both",
+    "kez_rivals",
+};
 
 void (*answered)(int entry, uint64_t refusal, uint64_t value);
 
@@ -128,6 +130,7 @@ static const uint32_t allowed[ENTRIES] = {
     [PACK] = PACKED_ONES | ROOM,
     [TAG_LEN] = PACKED_ONES | NO_SUCH,
     [ELEMENT] = PACKED_ONES | NO_SUCH,
+    [ELEMENTS] = PACKED_ONES,
     [CANONICAL] = PACKED_ONES | ROOM,
     [NSON_WRITE] = PACKED_ONES | NOT_CARRIED | ROOM,
     [NSON_READ] = 1 << 1 | 1 << 5 | 1 << 6 | 1 << 9 | 1 << 10 | 1 << 12 | 1 << 13 | 1 << 14 | ROOM,
@@ -259,6 +262,83 @@ static void elements(kez_answer read, uint64_t tags)
         must(numbers[2] < 2 && numbers[0] <= in_first.len && numbers[1] <= in_first.len - numbers[0], "shows a part that is not in the input");
 }
 
+/* All elements, block after block */
+
+static uint64_t four_bytes(const uint8_t *at)
+{
+    return at[0] | (uint64_t)at[1] << 8 | (uint64_t)at[2] << 16 | (uint64_t)at[3] << 24;
+}
+
+/* The elements from this one on, into so many bytes; behind them nothing changes. */
+static kez_answer list_from(uint64_t first, size_t room)
+{
+    current = ELEMENTS;
+    lend_room(&out_first, room);
+    kez_answer a = checked(kez_notepack_elements(lent(&in_first), in_first.len, first, lent(&out_first), room));
+    must(a.refusal || a.value <= room / KEZ_ELEMENT_BYTES, "lists more than there is room for");
+    unchanged(&out_first, a.refusal ? 0 : KEZ_ELEMENT_BYTES * a.value, "changes bytes behind the listed elements");
+    return a;
+}
+
+/* Is this what kez_notepack_element shows for the element? With `wanted` null: it must not be there. */
+static void must_show(uint64_t tag, uint64_t element, const uint8_t *wanted)
+{
+    lend_numbers(3);
+    kez_answer a = kez_notepack_element(lent(&in_first), in_first.len, tag, element, number(0), number(1), number(2));
+    take_numbers(a, 3);
+    if (!wanted)
+        must(a.refusal == 19, "leaves out an element");
+    else
+        must(!a.refusal && numbers[0] == four_bytes(wanted + 4) && numbers[1] == four_bytes(wanted + 8) &&
+                 numbers[2] == four_bytes(wanted + 12), "lists another element than kez_notepack_element shows");
+}
+
+/* Where the walk over the list is: the tag, and the number in it of the element that comes next. */
+typedef struct {
+    uint64_t tag, element;
+} position;
+
+/* One listed element is the next one of its tag, or the first of the next tag. Of many, some are put to
+ * kez_notepack_element: it goes through the record for each. */
+static void step_to(position *p, const uint8_t *listed, int show)
+{
+    uint64_t tag = four_bytes(listed);
+    if (tag != p->tag) {
+        must(tag == p->tag + 1 && p->element, "lists a tag out of its order");
+        if (show)
+            must_show(p->tag, p->element, NULL);
+        *p = (position){tag, 0};
+    }
+    if (show)
+        must_show(p->tag, p->element, listed);
+    p->element++;
+}
+
+/* The elements that are listed, block after block, are those of kez_notepack_element, one after another. */
+static void listed_elements(kez_answer read, uint64_t tags)
+{
+    static uint8_t block[SIZE];
+    /* a long record in some 16 blocks at most */
+    size_t fit = in_first.len < 1000 && roll(2) ? 1 + roll(4) : in_first.len / 16 + 1 + roll(20);
+    uint64_t first = 0, rare = 1 + in_first.len / 1000;
+    position p = {0, 0};
+    kez_answer a;
+    do {
+        a = list_from(first, KEZ_ELEMENT_BYTES * fit + roll(KEZ_ELEMENT_BYTES));
+        must(read.refusal ? same(a, read) : !a.refusal, "disagrees with the reader");
+        if (a.refusal)
+            return;
+        memcpy(block, out_first.at, KEZ_ELEMENT_BYTES * a.value);
+        for (size_t i = 0; i < a.value; i++)
+            step_to(&p, block + KEZ_ELEMENT_BYTES * i, !roll(rare));
+        first += a.value;
+    } while (a.value == fit);
+    must(tags ? p.tag == tags - 1 : !first, "does not end with the last tag");
+    must_show(p.tag, p.element, NULL);
+    accepted(list_from(roll(2) ? first : UINT64_MAX - roll(2), roll(600)), 0, "lists elements that are not there");
+    accepted(list_from(0, roll(KEZ_ELEMENT_BYTES)), 0, "lists an element where there is no room for one");
+}
+
 /* One input as a packed event */
 
 static result strict_form, again;
@@ -283,6 +363,7 @@ static void as_packed(const uint8_t *data, size_t len)
     must((strict < 0) == (read.refusal != 0), "disagrees with the reader");
     for (int i = 0; i < 3; i++)
         elements(read, was[4]);
+    listed_elements(read, was[4]);
     write_with(&strict_form, PACK, kez_notepack_write);
     write_with(&canonical_text, CANONICAL, kez_canonical_write);
     must(!read.refusal || same(read, canonical_text.answer), "refuses otherwise than the reader");
@@ -364,6 +445,8 @@ static void as_text(const uint8_t *data, size_t len)
     if (!by_json.answer.refusal) {
         lend_input(&in_first, by_json.bytes, by_json.answer.value, first_copy);
         must(is_strict() == 1, "does not take as strict what the JSON reader leaves");
+        kez_answer read = read_numbers();
+        listed_elements(read, numbers[4]);
     }
     if (!by_nson.answer.refusal) {
         lend_input(&in_first, by_nson.bytes, by_nson.answer.value, first_copy);

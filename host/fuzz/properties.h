@@ -10,5 +10,5 @@ void properties(const uint8_t *data, size_t len, const uint8_t *other, size_t ot
 /* Told of every answer: the number of the entry, the refusal and the place or value. */
 extern void (*answered)(int entry, uint64_t refusal, uint64_t value);
 
-enum { ENTRIES = 11 };
+enum { ENTRIES = 12 };
 extern const char *const entry_names[ENTRIES];

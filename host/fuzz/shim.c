@@ -89,6 +89,20 @@ kez_answer __wrap_kez_rivals(const uint8_t *first, size_t first_len, const uint8
         a.value = 1;
     return a;
 }
+#elif PLANTED == 11 || PLANTED == 12 || PLANTED == 13 /* in a list: another tag, a byte behind it, the last left out */
+typedef kez_answer lists(const uint8_t *in, size_t in_len, uint64_t first, uint8_t *out, size_t out_len);
+lists __real_kez_notepack_elements, __wrap_kez_notepack_elements;
+kez_answer __wrap_kez_notepack_elements(const uint8_t *in, size_t in_len, uint64_t first, uint8_t *out, size_t out_len)
+{
+    int less = PLANTED == 13 && out_len >= KEZ_ELEMENT_BYTES && shows(in, in_len);
+    kez_answer a = __real_kez_notepack_elements(in, in_len, first, out, less ? out_len - KEZ_ELEMENT_BYTES : out_len);
+    size_t written = a.refusal ? 0 : KEZ_ELEMENT_BYTES * a.value;
+    if (PLANTED == 11 && written && shows(in, in_len))
+        out[written - KEZ_ELEMENT_BYTES] ^= 1;
+    if (PLANTED == 12 && written < out_len && shows(in, in_len))
+        out[written] ^= 1;
+    return a;
+}
 #elif PLANTED >= 9 /* a refusal of both readers is told as success; the length of what was written is one too many */
 typedef kez_answer both(const uint8_t *in, size_t in_len, uint8_t *first, size_t first_len, uint8_t *second, size_t second_len, uint64_t *written);
 both __real_kez_read_both, __wrap_kez_read_both;

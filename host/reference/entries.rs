@@ -10,6 +10,12 @@ pub struct KezAnswer {
     value: u64,
 }
 
+/// 0.5.0: 10,000 for a major version, 100 for a minor one, 1 for a patch.
+#[no_mangle]
+pub extern "C" fn kez_version() -> u64 {
+    500
+}
+
 fn told(answer: Answer<u64>) -> KezAnswer {
     match answer {
         Ok(value) => KezAnswer { refusal: 0, value },
@@ -85,6 +91,18 @@ pub unsafe extern "C" fn kez_notepack_element(
         }
         0
     }))
+}
+
+#[no_mangle]
+pub unsafe extern "C" fn kez_notepack_elements(
+    packed: *const u8,
+    packed_len: usize,
+    first: u64,
+    out: *mut u8,
+    out_len: usize,
+) -> KezAnswer {
+    let (packed, out) = unsafe { (lent(packed, packed_len), lent_mut(out, out_len)) };
+    told(notepack::elements(packed, first, out))
 }
 
 /// An entry that reads one lent buffer and writes another.

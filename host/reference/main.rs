@@ -54,6 +54,11 @@ fn answer(line: &str) -> Option<String> {
             let found = notepack::read(&s).and_then(|p| p.element(tag, element));
             told(found.map(|text| format!("ok {} {} {}", text.at, text.payload.len(), text.raw as u8)))
         }
+        ["elements", s, first, room] => {
+            let (s, first, mut out) = (bytes(s)?, number(first)?, vec![0; number(room)? as usize]);
+            let listed = notepack::elements(&s, first, &mut out);
+            told(listed.map(|count| format!("ok {count} {}", hex(&out[..count as usize * notepack::ELEMENT_BYTES]))))
+        }
         ["lister", s] => notepack::list(&bytes(s)?).replace('\n', "\\n"),
         ["rivals", first, second] => match rivals::choose(&bytes(first)?, &bytes(second)?) {
             Ok(Choice::NotRivals) => "not_rivals".into(),
@@ -114,10 +119,11 @@ fn bench(entry: &str, file: &str, calls: &str) -> bool {
         eprintln!("no file {file} or no number {calls}");
         return false;
     };
-    let mut out = vec![0; 1 << 20];
+    let mut out = vec![0; notepack::LIMIT * notepack::ELEMENT_BYTES];
     let mut call: Box<dyn FnMut(&[u8]) -> Answer<u64>> = match entry {
         "read" => Box::new(|s| notepack::read(s).map(|p| p.created_at)),
         "strict" => Box::new(|s| notepack::is_strict(s).map(u64::from)),
+        "elements" => Box::new(move |s| notepack::elements(s, 0, &mut out)),
         _ => match writing(entry) {
             Some(f) => Box::new(move |s| f(s, &mut out).map(|length| length as u64)),
             None => {

@@ -246,6 +246,18 @@ impl<'a> Packed<'a> {
         Items { bytes: self.bytes, at: self.tags_at, texts_left: 0, tags_left: self.tag_count }
     }
 
+    /// The texts of all tags in order, each with the number of its tag.
+    pub fn texts(&self) -> impl Iterator<Item = (u32, Text<'a>)> {
+        let mut tags = 0;
+        self.items().filter_map(move |item| match item {
+            Item::Tag(_) => {
+                tags += 1;
+                None
+            }
+            Item::Text(text) => Some((tags - 1, text)),
+        })
+    }
+
     pub fn tag_len(&self, tag: u64) -> Answer<u64> {
         let counts = self.items().filter_map(|item| match item {
             Item::Tag(count) => Some(count),
@@ -315,6 +327,26 @@ impl<'a> Iterator for Items<'a> {
         }
         None
     }
+}
+
+/// So many bytes for each element that is listed.
+pub const ELEMENT_BYTES: usize = 16;
+
+/// The elements of all tags from number `first` on, as many as there are and as fit whole into the lent buffer; how
+/// many that is. Each is four little-endian numbers: its tag, the payload's place and length, and b.
+pub fn elements(bytes: &[u8], first: u64, out: &mut [u8]) -> Answer<u64> {
+    let packed = read(bytes)?;
+    let places = out.chunks_exact_mut(ELEMENT_BYTES);
+    let wanted = packed.texts().skip(usize::try_from(first).unwrap_or(usize::MAX));
+    let mut listed = 0;
+    for (place, (tag, text)) in places.zip(wanted) {
+        let numbers = [tag, text.at as u32, text.payload.len() as u32, text.raw as u32];
+        for (four, number) in place.chunks_exact_mut(4).zip(numbers) {
+            four.copy_from_slice(&number.to_le_bytes());
+        }
+        listed += 1;
+    }
+    Ok(listed)
 }
 
 /// What the lister prints.

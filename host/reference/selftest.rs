@@ -113,6 +113,20 @@ pub fn run() -> bool {
     same("vector read", ask(format!("read {}", hex(&v))), "ok 1720000000 0 135 5 2".into());
     same("vector strict", ask(format!("strict {}", hex(&v))), "yes".into());
     same("vector written", room("pack", &v), left(&v));
+    let listed = |s: &[u8], first: u64, room: usize| ask(format!("elements {} {first} {room}", hex(s)));
+    let spelled = |all: &[[u32; 4]]| {
+        let bytes: Vec<u8> = all.iter().flatten().flat_map(|number| number.to_le_bytes()).collect();
+        format!("ok {} {}", all.len(), hex(&bytes))
+    };
+    let all = [[0, 143, 1, 0], [0, 145, 32, 1], [0, 178, 23, 0], [1, 203, 1, 0], [1, 205, 32, 1]];
+    for (first, room, count) in [(0, 80, 5), (0, 79, 4), (0, 9_000, 5), (0, 15, 0), (0, 0, 0), (2, 32, 2), (4, 17, 1)] {
+        let wanted = &all[first..first + count];
+        same(&format!("vector, elements from {first} in {room}"), listed(&v, first as u64, room), spelled(wanted));
+    }
+    for first in [5, 6, u64::MAX] {
+        same(&format!("vector, elements from {first}"), listed(&v, first, 70_000), "ok 0 -".into());
+    }
+    same("cut, elements", listed(&v[..236], u64::MAX, 0), ask(format!("read {}", hex(&v[..236]))));
     same("canonical length", CANONICAL.len().to_string(), "265".into());
     same("vector canonical", room("canonical", &v), left(CANONICAL.as_bytes()));
     same("vector nson", room("nson_read", answer_bytes(&room("nson_write", &v)).as_slice()), left(&v));

@@ -4,10 +4,11 @@ use crate::event::*;
 use crate::json::*;
 use crate::notepack::*;
 use crate::texts::*;
-use crate::{Requests, PACKED};
+use crate::{firsts, rooms, Requests, PACKED};
 
 pub fn all(g: &mut Requests) {
     packed_boundaries(g);
+    elements_boundaries(g);
     text_boundaries(g);
     carry_boundaries(g);
     nson_boundaries(g);
@@ -67,10 +68,33 @@ fn packed_boundaries(g: &mut Requests) {
     }
 }
 
+/// Every first with every room: no tags, a tag of one text, of many, and as many texts as a record can hold. The same
+/// of a record that is cut, and one with something behind its end.
+fn elements_boundaries(g: &mut Requests) {
+    if !g.has("elements") {
+        return;
+    }
+    let most = Event { tags: vec![vec![vec![]; 255]; 253], ..small() };
+    let one = Event { tags: vec![vec![b"d".to_vec()]], ..small() };
+    for e in [small(), one, vector(), mixed(), most] {
+        let input = strict(&e);
+        for first in firsts(&e) {
+            for room in rooms(&e).into_iter().chain([1 << 20]) {
+                g.line("elements", &input, &format!(" {first} {room}"));
+            }
+            for wrong in [input[..input.len() - 1].to_vec(), [&input[..], &[0]].concat()] {
+                for room in [0, 17, 1_000] {
+                    g.line("elements", &wrong, &format!(" {first} {room}"));
+                }
+            }
+        }
+    }
+}
+
 /// Bytes of content and texts: hex or not, escapes, UTF-8.
 fn text_boundaries(g: &mut Requests) {
     let with_text = |text: &[u8]| Event { tags: vec![vec![b"t".to_vec(), text.to_vec()]], ..carried() };
-    let kinds = ["strict", "pack", "element", "canonical", "nson_write"];
+    let kinds = ["strict", "pack", "element", "elements", "canonical", "nson_write"];
     for length in (0..70).chain([8_190, 8_191, 8_192, 16_384]) {
         let e = with_text(&vec![b'a'; length]);
         g.any(&kinds, &strict(&e), &e);

@@ -5,7 +5,6 @@ ghost use mathlib.Core.Path.{_≡_};
 ghost use Rattle.scan.specs.Compare.{sameBytes};
 ghost use Rattle.hex.specs.Hex.{hexes};
 ghost use Rattle.notepack.specs.Unpack.{textOf};
-ghost use Rattle.notepack.specs.inner.Again.{textsEnd};
 ghost use Rattle.keys.specs.Key.{isReplaceable, isLabelled, sameKey};
 ghost use Rattle.keys.specs.inner.Place.{isD, secondAt, labelAt, keyAt, keyThere};
 
@@ -76,20 +75,6 @@ fn is_d(n: u64, s: &[u8], p: Part) -> bool
     false
 }
 
-// The place behind n texts.
-fn texts_end(s: &[u8], at: usize, n: u64) -> usize
-    ensures { λ r. ⌜ r ≡ textsEnd n (now (s .entry)) at ⌝ }
-{
-    let mut i = at;
-    let mut left = n;
-    while 0 < left {
-        let p = notepack::part_again(s, i);
-        i = p.next;
-        left -= 1;
-    }
-    i
-}
-
 // The key by the second of n texts, where the first ends at a place.
 fn second_text(kind: u64, s: &[u8], at: usize, n: u64) -> KeyRead
     ensures { λ r. ⌜ r ≡ secondAt kind n (now (s .entry)) at ⌝ }
@@ -115,7 +100,7 @@ fn find_label(kind: u64, s: &[u8], at: usize, count: u64) -> KeyRead
         if is_d(texts.count, s, p) {
             return second_text(kind, s, first.next, texts.count);
         }
-        i = texts_end(s, texts.next, texts.count);
+        i = notepack::texts_end(s, texts.next, texts.count);
         left -= 1;
     }
     KeyRead::Keyless

@@ -14,10 +14,11 @@ use Rattle.buffer.specs.Entry.{written, filled, writes, leaves}
 use Rattle.event.specs.Event.{Event}
 use Rattle.event.specs.inner.Tells.{among, Tells, value, refusal}
 use Rattle.event.proofs.TellsLaws.{then-tells, pick-tells, wider}
-use Rattle.notepack.specs.Unpack.{unpack}
+use Rattle.notepack.specs.Unpack.{Packed, packedAt, unpack}
 use Rattle.notepack.specs.inner.Numbers.{packedNumbers}
 use Rattle.notepack.specs.Strict.{pack}
-use Rattle.notepack.proofs.Telling.{unpack-tells, numbers-tells, texts-tells, element-of-tells}
+use Rattle.notepack.proofs.Telling.{packed-tells, unpack-tells, numbers-tells, texts-tells, element-of-tells}
+use Rattle.elements.specs.Elements.{rows, listed, elementsTold, elementsLeft}
 use Rattle.strict.proofs.Telling.{strict-tells}
 use Rattle.canonical.specs.Canonical.{canonical}
 use Rattle.nson.specs.Nson.{nson}
@@ -126,6 +127,13 @@ both-keeps s d₁ d₂ n p = by (readNson s) (readJson s)
     by (shown a) (refused k q) h = (refl, refl)
     by (refused m q) (refused k r) h = (refl, refl)
 
+elements-keep : (i : ℕ) (s d : List ℕ) (n p : ℕ) → elementsTold i s d ≡ refused n p → elementsLeft i s d ≡ d
+elements-keep i s d n p = go (packedAt s)
+  where
+    go : (a : Answer Packed) → andThen a (λ (p : Packed). shown (length (listed i d p))) ≡ refused n p → leaves (λ (p : Packed). rows (listed i d p)) a d ≡ d
+    go (shown x) h = no-value h
+    go (refused k q) h = refl
+
 -- THE refusals of the C entries
 pub entries-refuse : Refusals
 entries-refuse =
@@ -135,6 +143,7 @@ entries-refuse =
       notepack-write = λ s d. fills s pack (unpack s) d (unpack-tells s);
       notepack-tag-len = λ i s. asked s (texts-tells s i);
       notepack-element = λ i j s. told s (λ p. 0) (element-of-tells s i j);
+      notepack-elements = λ i s d. told s (λ p. length (listed i d p)) (packed-tells s);
       canonical-write = λ s d. fills s canonical (unpack s) d (unpack-tells s);
       nson-write = λ s d. fills s nson (carried (unpack s)) d (carried-tells s);
       nson-read = λ s d. fills s pack (readNson s) d (nson-tells s);
@@ -142,6 +151,7 @@ entries-refuse =
       read-both = both-fills;
       which-is-kept = rivals-tells;
       write-keeps = write-keeps;
+      elements-keep = elements-keep;
       both-keeps = both-keeps;
       packed-not-0 = refl;
       view-not-0 = refl;

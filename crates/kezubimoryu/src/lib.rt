@@ -16,6 +16,7 @@ ghost use Rattle.buffer.specs.Entry.{writes, leaves};
 ghost use Rattle.notepack.specs.Strict.{pack};
 ghost use Rattle.notepack.specs.Unpack.{unpack};
 ghost use Rattle.notepack.specs.Views.{numbersOf, textsIn, elementOf};
+ghost use Rattle.elements.specs.Elements.{elementsTold, elementsLeft};
 ghost use Rattle.strict.specs.Strict.{strict};
 ghost use Rattle.canonical.specs.Canonical.{canonical};
 ghost use Rattle.nson.specs.Entries.{nsonReads, nsonLeaves, nsonWrites, writerLeaves};
@@ -221,6 +222,14 @@ fn kept_number(k: Kept) -> u64
 }
 
 #[no_mangle]
+pub extern "C" fn kez_notepack_elements(packed: &[u8], first: u64, out: &mut [u8]) -> KezAnswer
+    ensures { λ a. ⌜ (a .refusal, a .value) ≡ twoNumbers (elementsTold first (now (packed .entry)) (now (out .entry))) ⌝ }
+    ensures { λ _. ⌜ now (out .exit) ≡ elementsLeft first (now (packed .entry)) (now (out .entry)) ⌝ }
+{
+    written(elements::list_elements(packed, first, out))
+}
+
+#[no_mangle]
 pub extern "C" fn kez_rivals(first: &[u8], second: &[u8]) -> KezAnswer
     ensures { λ a. ⌜ (a .refusal, a .value) ≡ twoNumbers (keptAnswer (rivals (now (first .entry)) (now (second .entry)))) ⌝ }
 {
@@ -230,4 +239,12 @@ pub extern "C" fn kez_rivals(first: &[u8], second: &[u8]) -> KezAnswer
         RivalsRead::FirstRefused(r) => refused(r),
         RivalsRead::SecondRefused(r) => refused(r),
     }
+}
+
+// The version as one number: 10,000 for a major one, 100 for a minor one, 1 for a patch.
+#[no_mangle]
+pub extern "C" fn kez_version() -> u64
+    ensures { λ r. ⌜ r ≡ 500 ⌝ }
+{
+    500
 }

@@ -80,7 +80,7 @@ module _ (s : List ℕ) where
       rw (le-leb n (length s - at) k) λ i. shown (record { value = sym (g .1 .payload .is) i; next = next i })
 
   -- an element that was read is read again without a test of its text
-  part-again : (at : ℕ) (e : Read Part) → elementAt s at ≡ shown e → partAgain s at ≡ e
+  pub part-again : (at : ℕ) (e : Read Part) → elementAt s at ≡ shown e → partAgain s at ≡ e
   unfolding elementAt elementPartAt partAgain
   part-again at e r = let w = then-shown (varintAt s at) _ e r in rw (w .1, go (w .0) (eqb (w .0 .value % 2) 1) (w .2))
     where
@@ -100,7 +100,7 @@ module _ (s : List ℕ) where
       (rw (q, b .0) (ap (map (textOf s)) (sym (a .4))), rw q (b .1 ∙ sym (a .5)))
 
   -- a tag's number of texts is a number that is not 0
-  count-number : (at : ℕ) (n : Read ℕ) → tagCountAt s at ≡ shown n → numberAt 255 8 s at ≡ shown n
+  pub count-number : (at : ℕ) (n : Read ℕ) → tagCountAt s at ≡ shown n → numberAt 255 8 s at ≡ shown n
   unfolding tagCountAt
   count-number at n e = let a = then-shown (numberAt 255 8 s at) _ n e in a .1 ∙ go (eqb (a .0 .value) 0) (a .2)
     where

@@ -8,7 +8,7 @@ ghost use Rattle.scan.specs.Choice.{andThen, shown};
 ghost use Rattle.hex.specs.Hex.{hexes};
 ghost use Rattle.notepack.specs.Strict.{packElement};
 ghost use Rattle.notepack.specs.Unpack.{textOf, payloadAt, textAt, numberAt, contentAt, elementAt, elementsAt, tagCountAt, tagAt, tagsAt, numbersAt, headAt};
-ghost use Rattle.notepack.specs.inner.Again.{elementPartAt, partAgain, countAgain};
+ghost use Rattle.notepack.specs.inner.Again.{elementPartAt, partAgain, countAgain, textsEnd};
 ghost use Rattle.notepack.specs.inner.Tally.{headLen, isHollow, more, passElements, passTag, passTags};
 ghost use Rattle.notepack.specs.Views.{numbersOf, textsIn, elementOf, view, contentOf};
 ghost use Rattle.notepack.specs.inner.Places.{tagStart, elementPlace};
@@ -630,4 +630,18 @@ pub fn count_again(s: &[u8], at: usize) -> CountAgain
         },
         NumberRead::Refused(_) => CountAgain { count: 0, next: at },
     }
+}
+
+// The place behind n texts, from part to part.
+pub fn texts_end(s: &[u8], at: usize, n: u64) -> usize
+    ensures { λ r. ⌜ r ≡ textsEnd n (now (s .entry)) at ⌝ }
+{
+    let mut i = at;
+    let mut left = n;
+    while 0 < left {
+        let p = part_again(s, i);
+        i = p.next;
+        left -= 1;
+    }
+    i
 }

@@ -14,6 +14,7 @@ use Rattle.notepack.specs.Unpack.{unpack}
 use Rattle.notepack.specs.inner.Numbers.{packedNumbers, viewNumbers}
 use Rattle.notepack.specs.Strict.{pack}
 use Rattle.notepack.specs.Views.{numbersOf, textsIn, elementOf}
+use Rattle.elements.specs.Elements.{elementsTold, elementsLeft}
 use Rattle.strict.specs.Strict.{strict}
 use Rattle.canonical.specs.Canonical.{canonical}
 use Rattle.nson.specs.inner.Numbers.{nsonNumbers}
@@ -52,6 +53,7 @@ pub record Refusals : Type 0 where
   pub notepack-write : (s d : List ℕ) → Fills packedNumbers s d (writes pack (unpack s) d)
   pub notepack-tag-len : (i : ℕ) (s : List ℕ) → Asks viewNumbers s (textsIn i s)
   pub notepack-element : (i j : ℕ) (s : List ℕ) → Asks viewNumbers s (ok (elementOf i j s))
+  pub notepack-elements : (i : ℕ) (s d : List ℕ) → Asks packedNumbers s (elementsTold i s d)
   pub canonical-write : (s d : List ℕ) → Fills packedNumbers s d (writes canonical (unpack s) d)
   pub nson-write : (s d : List ℕ) → Fills writerNumbers s d (nsonWrites s d)
   pub nson-read : (s d : List ℕ) → Fills nsonNumbers s d (nsonReads s d)
@@ -62,6 +64,7 @@ pub record Refusals : Type 0 where
   -- after a refusal a lent buffer is as it was (rule 12.1.5): of an entry that writes the text of an event, and of both
   -- readers over one text
   pub write-keeps : (text : Event → List ℕ) (a : Answer Event) (d : List ℕ) (n p : ℕ) → writes text a d ≡ refused n p → leaves text a d ≡ d
+  pub elements-keep : (i : ℕ) (s d : List ℕ) (n p : ℕ) → elementsTold i s d ≡ refused n p → elementsLeft i s d ≡ d
   pub both-keeps : (s d₁ d₂ : List ℕ) (n p : ℕ) → both s d₁ d₂ ≡ refused n p → (bothFirst s d₁ d₂ ≡ d₁) × (bothSecond s d₁ d₂ ≡ d₂)
   -- no number is 0
   pub packed-not-0 : among writerNumbers 0 ≡ false

@@ -3,10 +3,10 @@
 use mathlib.Core.Path.{_≡_, refl, sym, _∙_}
 use native.Mathlib.Omega.{arith}
 use borrow.Author.Needs.{needs}
 use Rattle.notepack.specs.inner.Again.{textsEnd}
 use Rattle.notepack.proofs.Again.{texts-turn, texts-left}
-use Rattle.keys.proofs.texts_end.Statement.{statement}
-use Rattle.keys.proofs.texts_end.Tie as tie
+use Rattle.notepack.proofs.texts_end.Statement.{statement}
+use Rattle.notepack.proofs.texts_end.Tie as tie
 
 abbrev Inv-loop : tie.InvT-loop
 Inv-loop s at n i₀ left₀ i left = textsEnd n s at ≡ textsEnd left s i

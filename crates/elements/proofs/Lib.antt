@@ -1,0 +1,4 @@
+pub mod Again
+pub mod Entry
+pub mod Most
+pub mod Texts

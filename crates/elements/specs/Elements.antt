@@ -1,0 +1,46 @@
+-- The elements of all tags as a list, and what is told of them in a lent buffer (rules 4.12 to 4.15). Assumes nothing.
+use Prim.Native.Nat.{ℕ, suc, _/_, _%_}
+use mathlib.Core.List.{List, [], _∷_, _++_}
+use lib.ListN.{length, take, drop}
+use Rattle.scan.specs.Choice.{pick, Answer, shown, andThen}
+use Rattle.buffer.specs.Entry.{leaves}
+use Rattle.notepack.specs.declared.Part.{Part}
+use Rattle.notepack.specs.Unpack.{Packed, packedAt}
+
+-- an element: the number of its tag, and where its payload stands
+pub record Element : Type 0 where
+  pub tag : ℕ
+  pub part : Part
+
+-- the elements of tag number i
+abbrev pub inTag : ℕ → List Part → List Element
+inTag i [] = []
+inTag i (p ∷ ps) = record { tag = i; part = p } ∷ inTag i ps
+
+-- the elements of all tags in their order, the first tag being number i
+abbrev pub inTags : ℕ → List (List Part) → List Element
+inTags i [] = []
+inTags i (t ∷ ts) = inTag i t ++ inTags (suc i) ts
+
+-- a number in four bytes, the lowest first
+abbrev pub fourBytes : ℕ → List ℕ
+fourBytes n = n % 256 ∷ n / 256 % 256 ∷ n / 65_536 % 256 ∷ n / 16_777_216 % 256 ∷ []
+
+-- what is told of an element in 16 bytes: its tag's number, its payload's place and length, and 1 for raw bytes
+unfoldable pub row : Element → List ℕ
+row e = fourBytes (e .tag) ++ fourBytes (e .part .at) ++ fourBytes (e .part .len) ++ fourBytes (pick (e .part .raw) 1 0)
+
+abbrev pub rows : List Element → List ℕ
+rows [] = []
+rows (e ∷ es) = row e ++ rows es
+
+-- those from element number `first` on for which d has room
+unfoldable pub listed : ℕ → List ℕ → Packed → List Element
+listed first d p = take (length d / 16) (drop first (inTags 0 (p .tags)))
+
+-- how many are told, or the reader's refusal; and what is left in d
+abbrev pub elementsTold : ℕ → List ℕ → List ℕ → Answer ℕ
+elementsTold first s d = andThen (packedAt s) λ p. shown (length (listed first d p))
+
+abbrev pub elementsLeft : ℕ → List ℕ → List ℕ → List ℕ
+elementsLeft first s d = leaves (λ p. rows (listed first d p)) (packedAt s) d

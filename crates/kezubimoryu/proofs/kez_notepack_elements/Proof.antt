@@ -1,0 +1,16 @@
+-- The entry answers the two numbers of the list of elements and leaves the buffer as that does.
+-- By the one law of a writer's answer.
+use mathlib.Core.Path.{ap, _∙_}
+use borrow.Author.Needs.{needs}
+use Rattle.event.specs.Answers.{twoNumbers}
+use Rattle.kezubimoryu.proofs.kez_notepack_elements.Statement.{statement}
+use Rattle.kezubimoryu.proofs.kez_notepack_elements.Tie as tie
+
+pub kez-notepack-elements-spec : {M : Type 1} → statement M
+kez-notepack-elements-spec =
+    tie.close
+    (tie.spec
+    (λ c κs. search needs)
+    (λ c κs. search needs)
+    (λ c. search needs)
+    (λ c. let done = c .before .before .before .list-elements .ensures in (c .written .ensures ∙ ap twoNumbers (done .0), done .1)))
