@@ -499,9 +499,10 @@ fn string_sizes(g: &mut Requests) {
     }
     for chars in (87_379..=87_385).chain([199_999, 200_000, 200_001, 200_002]) {
         let text = [PREFIX, &vec![b'A'; chars]].concat();
-        for (place, b) in [(9, b'A'), (text.len() - 1, b'B'), (text.len() - 1, b'!'), (9, b'\n'), (8, b'-'), (90_000, b'=')] {
+        let last = text.len() - 1;
+        for (place, b) in [(9, b'A'), (last, b'B'), (last, b'!'), (9, b'\n'), (8, b'-'), (last.min(90_000), b'=')] {
             let mut changed = text.clone();
-            changed[place.min(text.len() - 1)] = b;
+            changed[place] = b;
             g.one("string_read", &changed, &e);
         }
     }

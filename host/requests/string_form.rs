@@ -35,14 +35,14 @@ pub fn decoded_len(text: usize) -> usize {
 
 /// Bytes beside the alphabet's, and what other kinds of base64 and the post put there.
 pub const ODD_CHARS: [u8; 28] = [
-    b'=', b'-', b'_', b'\n', b'\r', b'\t', b' ', b'.', b',', b'*', b'"', b':', b'@', b'[', b'`', b'{', b'~', 0, 0x1f, 0x7f,
-    0x80, 0xc1, 0xff, b'A', b'z', b'9', b'+', b'/',
+    b'=', b'-', b'_', b'\n', b'\r', b'\t', b' ', b'.', b',', b'*', b'"', b':', b'@', b'[', b'`', b'{', b'~', 0, 0x1f,
+    0x7f, 0x80, 0xc1, 0xff, b'A', b'z', b'9', b'+', b'/',
 ];
 
 /// Other prefixes, and the right one twice.
 pub const ODD_PREFIXES: [&[u8]; 14] = [
-    b"", b"n", b"notepack", b"notepack-", b"notepack ", b"notepack\n_", b"Notepack_", b"NOTEPACK_", b"notepack1_", b" notepack_",
-    b"\xef\xbb\xbfnotepack_", b"nostr:notepack_", b"notepack__", b"notepack_notepack_",
+    b"", b"n", b"notepack", b"notepack-", b"notepack ", b"notepack\n_", b"Notepack_", b"NOTEPACK_", b"notepack1_",
+    b" notepack_", b"\xef\xbb\xbfnotepack_", b"nostr:notepack_", b"notepack__", b"notepack_notepack_",
 ];
 
 /// One thing that happens to a text.
