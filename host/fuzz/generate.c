@@ -361,8 +361,8 @@ static void insert_at(input *to, size_t at, const uint8_t *part, size_t len)
 
 static void damage(input *to)
 {
-    static const uint8_t telling[] = {0, 1, 0x7f, 0x80, 0xff, '"', '\\', ',', '[', ']', '{', '}', ':', '0', '9', 'a', ' ', '\n',
-                                      '='};
+    static const uint8_t telling[] = {0, 1, 0x7f, 0x80, 0xff, '"', '\\', ',', '[', ']', '{', '}', ':', '0', '9', 'a',
+                                      ' ', '\n', '='};
     uint8_t byte = percent(60) ? telling[draw(sizeof telling)] : (uint8_t)draw(256), part[64];
     size_t at = to->len ? draw(to->len) : 0, len = to->len ? 1 + draw(to->len - at < 64 ? to->len - at : 64) : 0;
     switch (to->len ? draw(8) : 1) {
