@@ -54,11 +54,16 @@ typedef struct {
 
 static bytes first, second;
 
-/* So many are kept: one more than the library takes, so that it can say that there are too many. A string form has no
- * limit and is kept whole. */
-static size_t most(void)
+/* Can more bytes change the answer? One more than the library takes is kept, so that it can say that there are too
+ * many. A string form has no limit: as often as the memory is full, the library is asked whether it has a fault. */
+static int wants_more(const bytes *b)
 {
-    return string_in ? SIZE_MAX : KEZ_MOST + 1;
+    if (!string_in)
+        return b->len <= KEZ_MOST;
+    if (b->len < b->room)
+        return 1;
+    kez_answer a = kez_notepack_string_read(b->at, b->len, NULL, 0);
+    return a.refusal != 20 && (a.refusal != 21 || a.value == b->len);
 }
 
 /* Makes room for one more byte; 0: there is none. */
@@ -95,7 +100,9 @@ static int read_hex(bytes *b, FILE *file, const char *name)
 {
     int high = -1;
     uint64_t place = 0;
-    for (int c; (c = getc(file)) != EOF && b->len < most(); place++) {
+    for (int c; (c = getc(file)) != EOF && wants_more(b); place++) {
+        if (!make_room(b, name))
+            return 0;
         if (is_space(c))
             continue;
         if (digit(c) < 0) {
@@ -105,8 +112,6 @@ static int read_hex(bytes *b, FILE *file, const char *name)
                     name, place);
             return 0;
         }
-        if (!make_room(b, name))
-            return 0;
         if (high < 0) {
             high = digit(c);
         } else {
@@ -124,11 +129,10 @@ static int read_hex(bytes *b, FILE *file, const char *name)
 
 static int read_raw(bytes *b, FILE *file, const char *name)
 {
-    while (!feof(file) && !ferror(file) && b->len < most()) {
+    while (!feof(file) && !ferror(file) && wants_more(b)) {
         if (!make_room(b, name))
             return 0;
-        size_t to = b->room < most() ? b->room : most();
-        b->len += fread(b->at + b->len, 1, to - b->len, file);
+        b->len += fread(b->at + b->len, 1, b->room - b->len, file);
     }
     return 1;
 }
@@ -569,26 +573,37 @@ static void tell_end(const bytes *b)
         fprintf(stderr, "     The last character, '%c', has bits left over that are not zero.\n", b->at[b->len - 1]);
 }
 
+/* The place behind white space and, where it may be there, padding. */
+static size_t behind_space(const bytes *b, size_t place, int padding)
+{
+    while (place < b->len && (is_space(b->at[place]) || (padding && b->at[place] == '=')))
+        place++;
+    return place;
+}
+
+/* Does a second text start here, behind white space or at the end of its prefix? */
+static int is_second(const bytes *b, size_t place)
+{
+    size_t behind = behind_space(b, place, 0);
+    return starts(b->at + behind, b->len - behind) ||
+           (place >= 2 * PREFIX - 1 && starts(b->at + place - (PREFIX - 1), PREFIX));
+}
+
 /* What can be done about refusal 21. */
 static const char *string_advice(const bytes *b, size_t place)
 {
-    size_t behind = place, padded = place;
-    while (behind < b->len && is_space(b->at[behind]))
-        behind++;
-    while (padded < b->len && (b->at[padded] == '=' || is_space(b->at[padded])))
-        padded++;
-    if (place == b->len)
+    int c = place < b->len ? b->at[place] : EOF;
+    if (c == EOF)
         return "A character was lost, added or changed, or the end is missing: ask for the text anew.";
-    int c = b->at[place];
-    if (starts(b->at + behind, b->len - behind) || (place >= 2 * PREFIX - 1 && starts(b->at + place - 8, PREFIX)))
+    if (is_second(b, place))
         return "A second text starts there: put them to from-letter one by one.";
     if (is_line_end(c))
-        return behind == b->len
+        return behind_space(b, place, 0) == b->len
                    ? "It was pasted along behind the text. Cut it off: tr -d '[:space:]' < FILE | kez from-letter"
                    : "It was pasted along inside the text. Join the lines: tr -d '[:space:]' < FILE | kez from-letter";
     if (is_space(c))
         return "White space was pasted along. Take it out: tr -d '[:space:]' < FILE | kez from-letter";
-    if (c == '=' && padded == b->len)
+    if (c == '=' && behind_space(b, place, 1) == b->len)
         return "This form has no padding. Take it off: tr -d '=[:space:]' < FILE | kez from-letter";
     if (c == '-' || c == '_')
         return "If the sender used the URL-safe alphabet, write + for - and / for _ behind notepack_.";
@@ -872,9 +887,9 @@ typedef struct {
 
 /* one file may be named, or none; with keep two must be */
 static const command commands[] = {
-    {"list", 1, do_list},           {"strict", 1, do_strict},       {"pack", 1, do_pack},
+    {"list", 1, do_list},           {"strict", 1, do_strict},           {"pack", 1, do_pack},
     {"to-letter", 1, do_to_string}, {"from-letter", 1, do_from_string}, {"canonical", 1, do_canonical},
-    {"to-nson", 1, do_to_nson},     {"from-nson", 1, do_from_nson}, {"from-json", 1, do_from_json},
+    {"to-nson", 1, do_to_nson},     {"from-nson", 1, do_from_nson},     {"from-json", 1, do_from_json},
     {"both", 1, do_both},           {"keep", 2, do_keep},
 };
 
