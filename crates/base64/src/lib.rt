@@ -8,76 +8,8 @@ ghost use Rattle.buffer.specs.inner.Store.{Wrote};
 ghost use Rattle.base64.specs.Base64.{alphabet, characterOf, sixBits, inAlphabet, encoded, decoded, endsWhole};
 ghost use Rattle.base64.specs.inner.Tables.{bitsTable, isOther};
 
-// The alphabet. A table is made once in a call and lent to the loops: a constant that is indexed would be built anew
-// for each byte.
-const ALPHABET: [u8; 64] = [
-    65,
-    66,
-    67,
-    68,
-    69,
-    70,
-    71,
-    72,
-    73,
-    74,
-    75,
-    76,
-    77,
-    78,
-    79,
-    80,
-    81,
-    82,
-    83,
-    84,
-    85,
-    86,
-    87,
-    88,
-    89,
-    90,
-    97,
-    98,
-    99,
-    100,
-    101,
-    102,
-    103,
-    104,
-    105,
-    106,
-    107,
-    108,
-    109,
-    110,
-    111,
-    112,
-    113,
-    114,
-    115,
-    116,
-    117,
-    118,
-    119,
-    120,
-    121,
-    122,
-    48,
-    49,
-    50,
-    51,
-    52,
-    53,
-    54,
-    55,
-    56,
-    57,
-    43,
-    47,
-];
-
-// The six bits of each byte; 64 for a byte outside the alphabet.
+// The six bits of each byte; 64 for a byte outside the alphabet. A table is made once in a call and lent to the loops: a
+// constant that is indexed would be built anew for each byte.
 const BITS: [u8; 256] = [
     64,
     64,
@@ -434,12 +366,12 @@ pub fn put_encoded(out: &mut [u8], at: usize, s: &[u8]) -> usize
     if out.len() <= at {
         return at;
     }
-    let table = ALPHABET;
+    let table = b"ABCDEFGHIJKLMNOPQRSTUVWXYZabcdefghijklmnopqrstuvwxyz0123456789+/";
     let groups = lesser(s.len() / 3, (out.len() - at) / 4);
     let cut = 3 * groups;
-    let o = encode_groups(&table, out, at, &s[..cut]);
+    let o = encode_groups(table, out, at, &s[..cut]);
     // a group more, or what is left of the bytes; where there is less room for it, it fills the buffer
-    encode_group(&table, out, o, &s[cut..])
+    encode_group(table, out, o, &s[cut..])
 }
 
 // How many characters the bytes take.
