@@ -166,7 +166,7 @@ kez_answer kez_notepack_elements(const uint8_t *packed, size_t packed_len, uint6
  * Refusals: those of kez_notepack_read; then 11.
  * value: the length written
  * Cost: linear in packed_len.
- * Stack: some 70 KB, since a strict form other than the packed bytes is made there.
+ * Stack: some 75 KB, since a strict form other than the packed bytes is made there.
  * Rules 3.1 to 3.3, 14.1, 14.2; of the input 2.1 to 2.17. */
 kez_answer kez_notepack_string_write(const uint8_t *packed, size_t packed_len,
                                      uint8_t *out, size_t out_len);
@@ -183,7 +183,7 @@ kez_answer kez_notepack_string_write(const uint8_t *packed, size_t packed_len,
  * the bytes that the text holds (2 at 0 with nothing behind the prefix); then 11.
  * value: the length written
  * Cost: linear in text_len.
- * Stack: some 70 KB, since the bytes are held there until no refusal is left.
+ * Stack: some 75 KB, since the bytes are held there until no refusal is left.
  * Rules 14.1, 14.3, 14.4; of the bytes 2.1 to 2.17. */
 kez_answer kez_notepack_string_read(const uint8_t *text, size_t text_len,
                                     uint8_t *out, size_t out_len);
