@@ -419,7 +419,7 @@ def kez_notepack_string_write(packed: Bytes) -> bytes:
     >>> len(kez_notepack_string_write(bytes(132)))
     185
 
-    Rules 3.1 to 3.3, 14.1, 14.2."""
+    Rules 3.1 to 3.3, 14.1, 14.2, 14.8, 14.9."""
     return _write("kez_notepack_string_write", packed)
 
 
@@ -436,7 +436,7 @@ def kez_notepack_string_read(text: Bytes) -> bytes:
     ...     print(refused.number, refused.place)
     21 185
 
-    Rules 14.1, 14.3, 14.4."""
+    Rules 14.1, 14.3 to 14.7."""
     return _write("kez_notepack_string_read", text)
 
 

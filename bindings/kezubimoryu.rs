@@ -76,9 +76,9 @@ unsafe extern "C" {
         out: *mut u8,
         out_len: usize,
     ) -> kez_answer;
-    /// Rules 3.1 to 3.3, 14.1, 14.2.
+    /// Rules 3.1 to 3.3, 14.1, 14.2, 14.8, 14.9.
     pub fn kez_notepack_string_write(packed: *const u8, packed_len: usize, out: *mut u8, out_len: usize) -> kez_answer;
-    /// Rules 14.1, 14.3, 14.4.
+    /// Rules 14.1, 14.3 to 14.7.
     pub fn kez_notepack_string_read(text: *const u8, text_len: usize, out: *mut u8, out_len: usize) -> kez_answer;
     /// Rule 12.1.12.
     pub fn kez_version() -> u64;

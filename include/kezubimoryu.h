@@ -63,7 +63,7 @@ uint64_t kez_version(void);
  * and 14.2. */
 
 /* No accepted input is longer, but for a string form, of which the bytes that it holds are counted; nor is an event in
- * strict form, nor NSON. Rules 1.9 and 14.3. */
+ * strict form, nor NSON. Rules 1.9, 14.3 and 14.6. */
 #define KEZ_MOST 65536
 
 /* No canonical text is longer: three bytes for each byte that was packed. Rule 5.8. */
@@ -167,16 +167,16 @@ kez_answer kez_notepack_elements(const uint8_t *packed, size_t packed_len, uint6
  * value: the length written
  * Cost: linear in packed_len.
  * Stack: some 75 KB, since a strict form other than the packed bytes is made there.
- * Rules 3.1 to 3.3, 14.1, 14.2; of the input 2.1 to 2.17. */
+ * Rules 3.1 to 3.3, 14.1, 14.2, 14.8, 14.9; of the input 2.1 to 2.17. */
 kez_answer kez_notepack_string_write(const uint8_t *packed, size_t packed_len,
                                      uint8_t *out, size_t out_len);
 
 /* Reads a string form and writes the packed event that it holds to out, byte for byte as it was encoded. These bytes
  * are ones that kez_notepack_read accepts; they need not be strict. No other text that is read holds the same bytes: a
  * line end or other white space, padding with =, and the characters - and _ are refused, like all that is not A-Z, a-z,
- * 0-9, + or /. But base64 has no check sum: where one character of the alphabet was changed into another, the bytes may
- * be another event, and only its id and signature show that. The text may have any length. An out_len of text_len is
- * always enough, and so is KEZ_MOST.
+ * 0-9, + or /. But base64 has no check sum: where a character was changed into another of the alphabet, lost, doubled or
+ * exchanged, the bytes may be another event, and only its id and signature show that. The text may have any length. An
+ * out_len of text_len is always enough, and so is KEZ_MOST.
  * Refusals: 20 if the text does not start with notepack_; then 21, at the first character outside the alphabet, counted
  * in the whole text, or if there is none at the text's length, for a lone last character or leftover bits that are not
  * zero; then 1 if the text holds more than 65,536 bytes; then 2 to 10 as kez_notepack_read gives them, with places in
@@ -184,7 +184,7 @@ kez_answer kez_notepack_string_write(const uint8_t *packed, size_t packed_len,
  * value: the length written
  * Cost: linear in text_len.
  * Stack: some 75 KB, since the bytes are held there until no refusal is left.
- * Rules 14.1, 14.3, 14.4; of the bytes 2.1 to 2.17. */
+ * Rules 14.1, 14.3 to 14.7; of the bytes 2.1 to 2.17. */
 kez_answer kez_notepack_string_read(const uint8_t *text, size_t text_len,
                                     uint8_t *out, size_t out_len);
 

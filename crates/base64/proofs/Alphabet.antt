@@ -7,10 +7,13 @@ use mathlib.Core.Bool.{Bool, true, false}
 use mathlib.Core.List.{List, [], _∷_}
 use native.Mathlib.Nat.{add-zero}
 use native.Mathlib.Omega.{arith}
+use native.Mathlib.Decide.{decLt}
+use mathlib.Core.Logic.{dite}
 use lib.ListN.{length, getD, take, drop}
 use lib.Dec.{ltb, eqb}
 use borrow.Author.Tests.{eqb-true, ltb-true, lt-ltb, le-ltb}
 use Rattle.scan.specs.Ascii.{ascii}
+use Rattle.scan.specs.Bytes.{All, none, also}
 use Rattle.scan.specs.Choice.{pick}
 use Rattle.scan.specs.Place.{within, run, runAt}
 use Rattle.scan.specs.inner.Blocks.{sumOf}
@@ -18,7 +21,7 @@ use Rattle.scan.proofs.Step.{false-true}
 use Rattle.scan.proofs.PlaceLaws.{run-over, run-stops}
 use Rattle.scan.proofs.BlockLaws.{block-none}
 use Rattle.base64.specs.Base64.{alphabet, characterOf, sixBits, inAlphabet}
-use Rattle.base64.specs.inner.Tables.{bitsFrom, bitsTable, isOther}
+use Rattle.base64.specs.inner.Tables.{bitsFrom, bitsTable, isOutside}
 use Rattle.base64.proofs.Below.{every, every-at}
 
 pub alphabet-long : (t : List ℕ) → t ≡ alphabet → length t ≡ 64
@@ -40,6 +43,23 @@ character-bits b h = found (eqb (characterOf (sixBits b)) b) refl (run-stops (λ
     found : (t : Bool) → eqb (characterOf (sixBits b)) b ≡ t → pick t false true ≡ false → characterOf (sixBits b) ≡ b
     found true e h = eqb-true (characterOf (sixBits b)) b e
     found false e h = absurd (false-true (sym h))
+
+-- ---- what is outside
+
+-- no byte above 7F is of the alphabet
+pub none-above : (b : ℕ) → 128 ≤ b → inAlphabet b ≡ false
+unfolding inAlphabet characterOf alphabet
+none-above b h =
+    le-ltb (sixBits b) 64
+    (dite (decLt (sixBits b) 64) (λ l. absurd (omega (arith, below (sixBits b) l, character-bits b l))) (λ g. omega (arith, g)))
+  where
+    below : (v : ℕ) → v < 64 → characterOf v < 128
+    below v l = ltb-true (characterOf v) 128 (every-at (λ k. ltb (characterOf k) 128) 64 0 refl v (omega arith) (omega arith))
+
+-- nor are `=`, `-`, `_`, a blank, a tab and the line ends
+pub none-named : All (λ b. inAlphabet b ≡ false) (0x3D ∷ 0x2D ∷ 0x5F ∷ 0x20 ∷ 0x09 ∷ 0x0A ∷ 0x0D ∷ [])
+unfolding inAlphabet sixBits alphabet run
+none-named = also refl (also refl (also refl (also refl (also refl (also refl (also refl none))))))
 
 -- ---- the table of all bytes
 
@@ -78,25 +98,25 @@ unfolding sixBits alphabet run within
 range-bits b h = eqb-true (bitsByRange b) (sixBits b) (every-at (λ k. eqb (bitsByRange k) (sixBits k)) 256 0 refl b (omega arith) (omega arith))
 
 -- a byte outside the alphabet by these ranges, of which two touch
-abbrev pub otherByRange : ℕ → ℕ
-otherByRange b = pick (within 97 122 b) 0 (pick (within 65 90 b) 0 (pick (within 47 57 b) 0 (pick (eqb b 43) 0 1)))
+abbrev pub outsideByRange : ℕ → ℕ
+outsideByRange b = pick (within 97 122 b) 0 (pick (within 65 90 b) 0 (pick (within 47 57 b) 0 (pick (eqb b 43) 0 1)))
 
-pub range-other : (b : ℕ) → b < 256 → otherByRange b ≡ isOther b
-unfolding isOther inAlphabet sixBits alphabet run within
-range-other b h = eqb-true (otherByRange b) (isOther b) (every-at (λ k. eqb (otherByRange k) (isOther k)) 256 0 refl b (omega arith) (omega arith))
+pub range-outside : (b : ℕ) → b < 256 → outsideByRange b ≡ isOutside b
+unfolding isOutside inAlphabet sixBits alphabet run within
+range-outside b h = eqb-true (outsideByRange b) (isOutside b) (every-at (λ k. eqb (outsideByRange k) (isOutside k)) 256 0 refl b (omega arith) (omega arith))
 
 -- ---- a byte that counts, and one that does not
 
-pub counts-in : (b : ℕ) {n : ℕ} → n ≡ isOther b → n ≡ 0 → inAlphabet b ≡ true
-unfolding isOther
+pub counts-in : (b : ℕ) {n : ℕ} → n ≡ isOutside b → n ≡ 0 → inAlphabet b ≡ true
+unfolding isOutside
 counts-in b e z = go (inAlphabet b) (sym e ∙ z)
   where
     go : (t : Bool) → _≡_ {A = ℕ} (pick t 0 1) 0 → t ≡ true
     go true h = refl
     go false h = absurd (omega arith)
 
-pub counts-out : (b : ℕ) {n : ℕ} → n ≡ isOther b → (n ≡ 0 → ⊥) → inAlphabet b ≡ false
-unfolding isOther
+pub counts-out : (b : ℕ) {n : ℕ} → n ≡ isOutside b → (n ≡ 0 → ⊥) → inAlphabet b ≡ false
+unfolding isOutside
 counts-out b {n} e z = go (inAlphabet b) e
   where
     go : (t : Bool) → n ≡ pick t 0 1 → t ≡ false
@@ -104,6 +124,6 @@ counts-out b {n} e z = go (inAlphabet b) e
     go false h = refl
 
 -- a block in which none counts is passed
-pub block-passed : (t : List ℕ) (i e : ℕ) {n : ℕ} → i ≤ e → e ≤ length t → n ≡ sumOf isOther (take (e - i) (drop i t)) → n ≡ 0
+pub block-passed : (t : List ℕ) (i e : ℕ) {n : ℕ} → i ≤ e → e ≤ length t → n ≡ sumOf isOutside (take (e - i) (drop i t)) → n ≡ 0
     → runAt inAlphabet t i ≡ runAt inAlphabet t e
-block-passed t i e l h q z = run-over inAlphabet t (e - i) i e (omega arith) h (λ k m n. counts-in _ refl (block-none isOther t i e h q z k m n))
+block-passed t i e l h q z = run-over inAlphabet t (e - i) i e (omega arith) h (λ k m n. counts-in _ refl (block-none isOutside t i e h q z k m n))

@@ -41,7 +41,8 @@ second b c = b % 16 * 16 + c % 64 / 4
 abbrev pub third : ℕ → ℕ → ℕ
 third c d = c % 4 * 64 + d % 64
 
--- a byte for each eight bits of the characters. (Any other byte counts as 0 here; a reader asks `inAlphabet` first.)
+-- a byte for each eight bits of the characters. (Any other byte counts as 0 here, and a lone last character as nothing;
+-- a reader asks `inAlphabet` and `endsWhole` first.)
 unfoldable pub decoded : List ℕ → List ℕ
 decoded [] = []
 decoded (a ∷ []) = []
@@ -50,7 +51,8 @@ decoded (a ∷ b ∷ c ∷ []) = first (sixBits a) (sixBits b) ∷ second (sixBi
 decoded (a ∷ b ∷ c ∷ d ∷ t) =
     first (sixBits a) (sixBits b) ∷ second (sixBits b) (sixBits c) ∷ third (sixBits c) (sixBits d) ∷ decoded t
 
--- whether a text ends as base64 does: its length leaves 0, 2 or 3 after division by 4, and the bits left over are zero
+-- whether a text ends as base64 does: its length leaves 0, 2 or 3 after division by 4, and the bits left over are zero.
+-- (Here too a reader asks `inAlphabet` of each byte first.)
 unfoldable pub endsWhole : List ℕ → Bool
 endsWhole [] = true
 endsWhole (a ∷ []) = false

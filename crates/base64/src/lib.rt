@@ -6,10 +6,10 @@ ghost use Rattle.scan.specs.Place.{runAt};
 ghost use Rattle.scan.specs.inner.Blocks.{sumOf};
 ghost use Rattle.buffer.specs.inner.Store.{Wrote};
 ghost use Rattle.base64.specs.Base64.{alphabet, characterOf, sixBits, inAlphabet, encoded, decoded, endsWhole};
-ghost use Rattle.base64.specs.inner.Tables.{bitsTable, isOther};
+ghost use Rattle.base64.specs.inner.Tables.{bitsTable, isOutside};
 
-// The six bits of each byte; 64 for a byte outside the alphabet. A table is made once in a call and lent to the loops: a
-// constant that is indexed would be built anew for each byte.
+// The six bits of each byte; 64 for a byte outside the alphabet. A table is made once in a call and lent to the loops:
+// a constant that is indexed would be built anew for each byte.
 const BITS: [u8; 256] = [
     64,
     64,
@@ -304,8 +304,8 @@ fn six_bits(b: u8) -> u8
     if b == b'/' { 63 } else { 64 }
 }
 
-// The lesser of two.
-fn lesser(a: usize, b: usize) -> usize
+// The fewer of two numbers.
+fn fewer(a: usize, b: usize) -> usize
     ensures { λ r. ⌜ r ≡ min a b ⌝ }
 {
     if a < b { a } else { b }
@@ -367,7 +367,7 @@ pub fn put_encoded(out: &mut [u8], at: usize, s: &[u8]) -> usize
         return at;
     }
     let table = b"ABCDEFGHIJKLMNOPQRSTUVWXYZabcdefghijklmnopqrstuvwxyz0123456789+/";
-    let groups = lesser(s.len() / 3, (out.len() - at) / 4);
+    let groups = fewer(s.len() / 3, (out.len() - at) / 4);
     let cut = 3 * groups;
     let o = encode_groups(table, out, at, &s[..cut]);
     // a group more, or what is left of the bytes; where there is less room for it, it fills the buffer
@@ -437,7 +437,7 @@ pub fn put_decoded(out: &mut [u8], at: usize, t: &[u8]) -> usize
         return at;
     }
     let table = BITS;
-    let groups = lesser(t.len() / 4, (out.len() - at) / 3);
+    let groups = fewer(t.len() / 4, (out.len() - at) / 3);
     let cut = 4 * groups;
     let o = decode_groups(&table, out, at, &t[..cut]);
     // a group more, or what is left of the text; where there is less room for it, it fills the buffer
@@ -454,8 +454,8 @@ pub fn decoded_len(t: &[u8]) -> usize
 // ---- is a text base64
 
 // 1 for a byte outside the alphabet, and else 0: by the alphabet's ranges, so that a loop goes in vectors.
-fn is_other(b: u8) -> u8
-    ensures { λ r. ⌜ r ≡ isOther b ⌝ }
+fn is_outside(b: u8) -> u8
+    ensures { λ r. ⌜ r ≡ isOutside b ⌝ }
     ensures { λ r. ⌜ r ≤ 1 ⌝ }
 {
     if scan::is_within(b'a', b'z', b) {
@@ -471,26 +471,26 @@ fn is_other(b: u8) -> u8
 }
 
 // How many bytes of a block are outside the alphabet. No exit on the way, and a sum in a byte: a loop for vectors.
-fn others(block: &[u8]) -> u8
+fn count_outside(block: &[u8]) -> u8
     requires { ⌜ length (now block) ≤ 128 ⌝ }
-    ensures { λ r. ⌜ r ≡ sumOf isOther (now (block .entry)) ⌝ }
+    ensures { λ r. ⌜ r ≡ sumOf isOutside (now (block .entry)) ⌝ }
 {
     let mut i = 0;
     let mut n: u8 = 0;
     while i < block.len() {
-        n += is_other(block[i]);
+        n += is_outside(block[i]);
         i += 1;
     }
     n
 }
 
 // The place of the first byte outside the alphabet from a place on, or the text's end: byte by byte.
-fn first_other(t: &[u8], at: usize) -> usize
+fn first_outside(t: &[u8], at: usize) -> usize
     ensures { λ r. ⌜ r ≡ runAt inAlphabet (now (t .entry)) at ⌝ }
 {
     let mut i = at;
     while i < t.len() {
-        if is_other(t[i]) != 0 {
+        if is_outside(t[i]) != 0 {
             return i;
         }
         i += 1;
@@ -508,15 +508,15 @@ pub fn alphabet_end(t: &[u8], at: usize) -> usize
     let mut i = at;
     while t.len() - i >= 128 {
         let e = i + 128;
-        if others(&t[i..e]) != 0 {
-            return first_other(t, i);
+        if count_outside(&t[i..e]) != 0 {
+            return first_outside(t, i);
         }
         i = e;
     }
-    if others(&t[i..]) == 0 {
+    if count_outside(&t[i..]) == 0 {
         return t.len();
     }
-    first_other(t, i)
+    first_outside(t, i)
 }
 
 // Whether a text ends as base64 does: neither with a lone character nor with bits left over that are not zero.

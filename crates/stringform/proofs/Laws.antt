@@ -19,7 +19,7 @@ use Rattle.scan.proofs.Step.{rest-none, false-true}
 use Rattle.scan.proofs.SpanLaws.{from-span}
 use Rattle.scan.proofs.PlaceLaws.{stands-span, run-span}
 use Rattle.base64.specs.Base64.{inAlphabet, encoded, decoded, endsWhole}
-use Rattle.base64.proofs.Texts.{Character, character-in, in-character, decoded-encoded, encoded-whole, encoded-in, encoded-decoded, decoded-bytes}
+use Rattle.base64.proofs.Texts.{Character, character-in, in-character, decoded-encoded, encoded-whole, encoded-in, encoded-decoded, decoded-bytes, length-encoded}
 use Rattle.event.specs.Event.{Event}
 use Rattle.notepack.specs.Strict.{pack}
 use Rattle.notepack.specs.Unpack.{unpack}
@@ -103,23 +103,23 @@ accepted-event b c h = go (unpack b) refl h
 
 -- ---- the theorems
 
--- A text is read as the bytes b exactly if it is their string form and the notepack reader accepts them.
-pub read-exactly : (t b : List ℕ) → IsBytes b → (readString t ≡ shown b) ↔ ((t ≡ stringForm b) × (e : Event) × (unpack b ≡ shown e))
+-- A text is read as b exactly if b is bytes, the text is their string form, and the notepack reader accepts them.
+pub read-exactly : (t b : List ℕ) → (readString t ≡ shown b) ↔ (IsBytes b × (t ≡ stringForm b) × (e : Event) × (unpack b ≡ shown e))
 unfolding readString
-read-exactly t b y = (λ h. there (heldBytes t) refl h, λ p. back (p .0) (p .1) (p .2))
+read-exactly t b = (λ h. there (heldBytes t) refl h, λ p. back (p .0) (p .1) (p .2) (p .3))
   where
-    there : (r : Answer (List ℕ)) → heldBytes t ≡ r → andThen r accepted ≡ shown b → (t ≡ stringForm b) × (e : Event) × (unpack b ≡ shown e)
+    there : (r : Answer (List ℕ)) → heldBytes t ≡ r → andThen r accepted ≡ shown b → IsBytes b × (t ≡ stringForm b) × (e : Event) × (unpack b ≡ shown e)
     there (shown c) h k =
         let a = accepted-event c b k in
-        (held-form t c h ∙ ap stringForm (a .2), a .0, sym (ap unpack (a .2)) ∙ a .1)
+        (subst IsBytes (a .2) (held-bytes t c h), held-form t c h ∙ ap stringForm (a .2), a .0, sym (ap unpack (a .2)) ∙ a .1)
     there (refused n q) h k = let z : _≡_ {A = ℕ} 0 1 = cc in absurd (omega arith)
 
-    back : t ≡ stringForm b → (e : Event) → unpack b ≡ shown e → andThen (heldBytes t) accepted ≡ shown b
-    back q e u = rw (ap heldBytes q ∙ held-back b y) (accepted-shown b e u)
+    back : IsBytes b → t ≡ stringForm b → (e : Event) → unpack b ≡ shown e → andThen (heldBytes t) accepted ≡ shown b
+    back y q e u = rw (ap heldBytes q ∙ held-back b y) (accepted-shown b e u)
 
 -- Two texts that are read as the same bytes are the same text.
-pub one-text : (t u b : List ℕ) → IsBytes b → readString t ≡ shown b → readString u ≡ shown b → t ≡ u
-one-text t u b y p q = read-exactly t b y .0 p .0 ∙ sym (read-exactly u b y .0 q .0)
+pub one-text : (t u b : List ℕ) → readString t ≡ shown b → readString u ≡ shown b → t ≡ u
+one-text t u b p q = read-exactly t b .0 p .1 ∙ sym (read-exactly u b .0 q .1)
 
 -- What is written of an accepted input is read as its strict form, which shows the same event.
 pub string-back : (s : List ℕ) (e : Event) → IsBytes s → unpack s ≡ shown e → (readString (eventString e) ≡ shown (pack e)) × (unpack (pack e) ≡ shown e)
@@ -127,7 +127,7 @@ unfolding eventString
 string-back s e y h =
     let u = sound s y e h in
     let again = reads-again s e h y in
-    (read-exactly (stringForm (pack e)) (pack e) (pack-bytes e (u .valid)) .1 (refl, e, again), again)
+    (read-exactly (stringForm (pack e)) (pack e) .1 (pack-bytes e (u .valid), refl, e, again), again)
 
 -- Two records with the same string form are the same event.
 pub one-event : (s t : List ℕ) (d e : Event) → IsBytes s → IsBytes t → unpack s ≡ shown d → unpack t ≡ shown e → eventString d ≡ eventString e → d ≡ e
@@ -137,3 +137,10 @@ one-event s t d e y z p q k =
     let r : shown (pack d) ≡ shown (pack e) = sym (a .0) ∙ ap readString k ∙ b .0 in
     let c : pack d ≡ pack e = cc in
     equal-exactly s t d e y z p q .1 c
+
+-- No string form that is written is longer than 87,391 bytes.
+pub string-most : (s : List ℕ) (e : Event) → IsBytes s → unpack s ≡ shown e → length (eventString e) ≤ 87_391
+unfolding eventString stringForm prefix
+string-most s e y h =
+    let u = sound s y e h in
+    omega (arith, u .least, u .short, length-encoded (pack e))

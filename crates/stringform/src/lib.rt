@@ -31,7 +31,7 @@ fn put_string(out: &mut [u8], b: &[u8]) -> Writing
 }
 
 // The string form of a walked event whose strict bytes have room in the scratch.
-fn put_event(scratch: &mut [u8], s: &[u8], h: Head, out: &mut [u8]) -> Writing
+fn put_event_string(scratch: &mut [u8], s: &[u8], h: Head, out: &mut [u8]) -> Writing
     requires { ⌜ length (packedPieces (now s) h) ≤ length (now scratch) ⌝ }
     ensures { λ r. ⌜ writing r ≡ written (stringForm (packedPieces (now (s .entry)) h)) (now (out .entry)) ⌝ }
     ensures { λ _. ⌜ now (out .exit) ≡ filled (stringForm (packedPieces (now (s .entry)) h)) (now (out .entry)) ⌝ }
@@ -57,14 +57,14 @@ pub fn write_string(s: &[u8], out: &mut [u8]) -> Writing
             }
             if t.len <= 512 {
                 let mut few = [0u8; 512];
-                return put_event(&mut few, s, h, out);
+                return put_event_string(&mut few, s, h, out);
             }
             if t.len <= 8192 {
                 let mut small = [0u8; 8192];
-                return put_event(&mut small, s, h, out);
+                return put_event_string(&mut small, s, h, out);
             }
             let mut large = [0u8; 65536];
-            put_event(&mut large, s, h, out)
+            put_event_string(&mut large, s, h, out)
         }
     }
 }

@@ -21,13 +21,13 @@ abbrev μ-loop : tie.MeasureT-loop
 again : tie.Need-loop-again Inv-loop μ-loop
 again c =
     let q = c .before .before .before .before .loop in
-    (omega arith, q .inv .1 ∙ block-passed _ (q .i) (q .i + 128) (omega arith) (omega arith) (c .before .others .ensures) (c .if2 .left))
+    (omega arith, q .inv .1 ∙ block-passed _ (q .i) (q .i + 128) (omega arith) (omega arith) (c .before .count-outside .ensures) (c .if2 .left))
 
 last : tie.Need-returns-3 Inv-loop μ-loop
 last c =
     let q = c .before .before .before .before .loop in
     let t = c .before .before .before .before .before .before .before .args .t .now in
-    run-left inAlphabet t _ (length t) (q .inv .1 ∙ block-passed t (q .i) (length t) (q .inv .0) (omega arith) (c .before .others2 .ensures) (c .if3 .taken)) (omega arith)
+    run-left inAlphabet t _ (length t) (q .inv .1 ∙ block-passed t (q .i) (length t) (q .inv .0) (omega arith) (c .before .count-outside2 .ensures) (c .if3 .taken)) (omega arith)
 
 pub alphabet-end-spec : {M : Type 1} → statement M
 alphabet-end-spec =
@@ -44,7 +44,7 @@ alphabet-end-spec =
     (λ c. omega arith)
     (λ c κs. simp (length-take, length-drop) (omega arith))
     (λ c κs. search needs)
-    (λ c. c .first-other .ensures ∙ sym (c .before .before .before .before .before .loop .inv .1))
+    (λ c. c .first-outside .ensures ∙ sym (c .before .before .before .before .before .loop .inv .1))
     (λ c. omega arith)
     again
     (λ c. omega arith)
@@ -53,4 +53,4 @@ alphabet-end-spec =
     (λ c κs. simp (length-take, length-drop) (omega arith))
     last
     (λ c κs. search needs)
-    (λ c. c .first-other2 .ensures ∙ sym (c .before .before .before .before .before .loop .inv .1)))
+    (λ c. c .first-outside2 .ensures ∙ sym (c .before .before .before .before .before .loop .inv .1)))

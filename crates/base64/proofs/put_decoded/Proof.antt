@@ -17,13 +17,13 @@ use Rattle.base64.proofs.put_decoded.Tie as tie
 part : tie.Need-slice-aggregate-decode-groups-2
 part c =
     let a = c .before .before .before .before .before .before .before .args in
-    sym (fours-fit (a .t .now) (length (a .out .now)) (a .at) _ (c .before .before .before .before .if1 .left) (c .before .before .before .lesser .ensures) .1)
+    sym (fours-fit (a .t .now) (length (a .out .now)) (a .at) _ (c .before .before .before .before .if1 .left) (c .before .before .before .fewer .ensures) .1)
 
 groups : tie.Need-decode-groups-requires
 unfolding bitsTable sixBits alphabet run
 groups c κs =
     let a = c .before .before .before .before .before .before .before .args in
-    let f = fours-fit (a .t .now) (length (a .out .now)) (a .at) _ (c .before .before .before .before .if1 .left) (c .before .before .before .lesser .ensures) in
+    let f = fours-fit (a .t .now) (length (a .out .now)) (a .at) _ (c .before .before .before .before .if1 .left) (c .before .before .before .fewer .ensures) in
     (refl, (omega (arith, f .1), f .2))
 
 group : tie.Need-decode-group-requires
@@ -34,7 +34,7 @@ returns-2 : tie.Need-returns-2
 returns-2 c =
     let a = c .before .before .before .before .before .before .before .before .before .before .before .before .before .before .before .before .args in
     let last = rw (rest-whole (a .t .now)) at (c .before .before .decode-group .ensures) in
-    decoded-cut (a .t .now) _ _ (c .before .before .before .before .before .before .before .before .before .before .before .before .before .if1 .left) (c .before .before .before .before .before .before .before .before .before .before .before .before .lesser .ensures) refl (c .before .before .before .before .before .before .before .before .decode-groups .ensures) last
+    decoded-cut (a .t .now) _ _ (c .before .before .before .before .before .before .before .before .before .before .before .before .before .if1 .left) (c .before .before .before .before .before .before .before .before .before .before .before .before .fewer .ensures) refl (c .before .before .before .before .before .before .before .before .decode-groups .ensures) last
 
 pub put-decoded-spec : {M : Type 1} → statement M
 put-decoded-spec =

@@ -15,13 +15,13 @@ use Rattle.base64.proofs.put_encoded.Tie as tie
 part : tie.Need-slice-aggregate-encode-groups
 part c =
     let a = c .before .before .before .before .before .before .before .before .args in
-    sym (threes-fit (a .s .now) (length (a .out .now)) (a .at) _ (c .before .before .before .before .before .if1 .left) (c .before .before .before .lesser .ensures) .1)
+    sym (threes-fit (a .s .now) (length (a .out .now)) (a .at) _ (c .before .before .before .before .before .if1 .left) (c .before .before .before .fewer .ensures) .1)
 
 groups : tie.Need-encode-groups-requires
 unfolding alphabet
 groups c κs =
     let a = c .before .before .before .before .before .before .before .before .args in
-    let f = threes-fit (a .s .now) (length (a .out .now)) (a .at) _ (c .before .before .before .before .before .if1 .left) (c .before .before .before .lesser .ensures) in
+    let f = threes-fit (a .s .now) (length (a .out .now)) (a .at) _ (c .before .before .before .before .before .if1 .left) (c .before .before .before .fewer .ensures) in
     (refl, (omega (arith, f .1), f .2))
 
 group : tie.Need-encode-group-requires
@@ -32,7 +32,7 @@ returns-2 : tie.Need-returns-2
 returns-2 c =
     let a = c .before .before .before .before .before .before .before .before .before .before .before .before .before .before .before .before .before .args in
     let last = rw (rest-whole (a .s .now)) at (c .before .before .encode-group .ensures) in
-    encoded-cut (a .s .now) _ _ (c .before .before .before .before .before .before .before .before .before .before .before .before .before .before .if1 .left) (c .before .before .before .before .before .before .before .before .before .before .before .before .lesser .ensures) refl (c .before .before .before .before .before .before .before .before .encode-groups .ensures) last
+    encoded-cut (a .s .now) _ _ (c .before .before .before .before .before .before .before .before .before .before .before .before .before .before .if1 .left) (c .before .before .before .before .before .before .before .before .before .before .before .before .fewer .ensures) refl (c .before .before .before .before .before .before .before .before .encode-groups .ensures) last
 
 pub put-encoded-spec : {M : Type 1} → statement M
 put-encoded-spec =

@@ -15,5 +15,5 @@ unfoldable pub bitsTable : List ℕ
 bitsTable = bitsFrom 256 0
 
 -- 1 for a byte outside the alphabet
-unfoldable pub isOther : ℕ → ℕ
-isOther b = pick (inAlphabet b) 0 1
+unfoldable pub isOutside : ℕ → ℕ
+isOutside b = pick (inAlphabet b) 0 1

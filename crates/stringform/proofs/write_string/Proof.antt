@@ -17,19 +17,19 @@ already c =
 
 -- ---- the strict bytes have room in the scratch
 
-few-fit : tie.Need-put-event-requires
+few-fit : tie.Need-put-event-string-requires
 few-fit c κs =
     let a = c .before .before .before .before .before .before .before .before .before .before .before .before .args in
     let g = walked-event (a .s .now) (λ i. c .before .before .before .before .before .before .before .before .before .before .before .shared-slice-known .given i .fits) _ (c .before .before .before .before .before .before .before .before .before .walk-packed .ensures) (c .before .before .before .before .before .before .before .walked2 .given .1) in
     pieces-fit (a .s .now) _ g 512 (c .before .before .if3 .taken)
 
-some-fit : tie.Need-put-event-requires-2
+some-fit : tie.Need-put-event-string-requires-2
 some-fit c κs =
     let a = c .before .before .before .before .before .before .before .before .before .before .before .before .before .before .args in
     let g = walked-event (a .s .now) (λ i. c .before .before .before .before .before .before .before .before .before .before .before .before .before .shared-slice-known .given i .fits) _ (c .before .before .before .before .before .before .before .before .before .before .before .walk-packed .ensures) (c .before .before .before .before .before .before .before .before .before .walked2 .given .1) in
     pieces-fit (a .s .now) _ g 8192 (c .before .before .if4 .taken)
 
-many-fit : tie.Need-put-event-requires-3
+many-fit : tie.Need-put-event-string-requires-3
 many-fit c κs =
     let a = c .before .before .before .before .before .before .before .before .before .before .before .before .before .before .args in
     let g = walked-event (a .s .now) (λ i. c .before .before .before .before .before .before .before .before .before .before .before .before .before .shared-slice-known .given i .fits) _ (c .before .before .before .before .before .before .before .before .before .before .before .walk-packed .ensures) (c .before .before .before .before .before .before .before .before .before .walked2 .given .1) in
@@ -41,19 +41,19 @@ few : tie.Need-returns-2
 few c =
     let a = c .before .before .before .before .before .before .before .before .before .before .before .before .before .before .before .before .args in
     let g = walked-event (a .s .now) (λ i. c .before .before .before .before .before .before .before .before .before .before .before .before .before .before .before .shared-slice-known .given i .fits) _ (c .before .before .before .before .before .before .before .before .before .before .before .before .before .walk-packed .ensures) (c .before .before .before .before .before .before .before .before .before .before .before .walked2 .given .1) in
-    wrote-pieces (a .s .now) _ g (a .out .now) (c .before .before .before .put-event .ensures)
+    wrote-pieces (a .s .now) _ g (a .out .now) (c .before .before .before .put-event-string .ensures)
 
 some : tie.Need-returns-3
 some c =
     let a = c .before .before .before .before .before .before .before .before .before .before .before .before .before .before .before .before .before .before .args in
     let g = walked-event (a .s .now) (λ i. c .before .before .before .before .before .before .before .before .before .before .before .before .before .before .before .before .before .shared-slice-known .given i .fits) _ (c .before .before .before .before .before .before .before .before .before .before .before .before .before .before .before .walk-packed .ensures) (c .before .before .before .before .before .before .before .before .before .before .before .before .before .walked2 .given .1) in
-    wrote-pieces (a .s .now) _ g (a .out .now) (c .before .before .before .put-event2 .ensures)
+    wrote-pieces (a .s .now) _ g (a .out .now) (c .before .before .before .put-event-string2 .ensures)
 
 many : tie.Need-returns-5
 many c =
     let a = c .before .before .before .before .before .before .before .before .before .before .before .before .before .before .before .before .before .before .args in
     let g = walked-event (a .s .now) (λ i. c .before .before .before .before .before .before .before .before .before .before .before .before .before .before .before .before .before .shared-slice-known .given i .fits) _ (c .before .before .before .before .before .before .before .before .before .before .before .before .before .before .before .walk-packed .ensures) (c .before .before .before .before .before .before .before .before .before .before .before .before .before .walked2 .given .1) in
-    wrote-pieces (a .s .now) _ g (a .out .now) (c .before .before .before .put-event3 .ensures)
+    wrote-pieces (a .s .now) _ g (a .out .now) (c .before .before .before .put-event-string3 .ensures)
 
 refuses : tie.Need-returns-4
 refuses c = let a = c .before .before .before .before .before .before .args in refusal-told (a .s .now) (a .out .now) (c .before .before .before .walk-packed .ensures) (ap walk (c .before .walked .given .1))
