@@ -4,7 +4,7 @@ use Prim.Native.Nat.{ℕ, suc}
 use mathlib.Core.Path.{_≡_, refl, ap, _∙_}
 use mathlib.Core.List.{List, [], _∷_, _++_, map}
 use Rattle.scan.specs.Choice.{shown}
-use Rattle.event.specs.Event.{Text, Tag, Event}
+use Rattle.event.specs.Event.{Text, Tag}
 use Rattle.notepack.specs.declared.Part.{Part}
 use Rattle.notepack.specs.Unpack.{textOf, Packed, packedAt, eventOf, unpack}
 use Rattle.elements.specs.Elements.{Element, inTag, inTags}
