@@ -18,37 +18,37 @@ use Rattle.notepack.specs.Unpack.{elementAt, elementsAt, tagAt, tagsAt}
 use Rattle.notepack.specs.inner.Again.{partAgain, countAgain, textsEnd}
 use Rattle.notepack.proofs.Viewing.{tag-apart}
 use Rattle.notepack.proofs.Again as again
-use Rattle.elements.specs.Elements.{Element, inTag, inTags, row, rows}
+use Rattle.elements.specs.Elements.{TagElement, inTag, inTags, row, rows}
 use Rattle.elements.specs.inner.Again.{tagAgain, allAgain}
 
 -- ---- rows
 
-pub rows-append : (a b : List Element) → rows (a ++ b) ≡ rows a ++ rows b
+pub rows-append : (a b : List TagElement) → rows (a ++ b) ≡ rows a ++ rows b
 rows-append [] b = refl
 rows-append (e ∷ a) b = rw (rows-append a b) (sym (append-assoc (row e) (rows a) (rows b)))
 
 -- an element takes 16 bytes
-pub rows-length : (l : List Element) → length (rows l) ≡ 16 * length l
+pub rows-length : (l : List TagElement) → length (rows l) ≡ 16 * length l
 unfolding row
 rows-length [] = refl
 rows-length (e ∷ l) = let h = rows-length l in omega (arith, h)
 
 -- ---- what is listed of two lists, one behind the other
 
-take-two : (m : ℕ) (a b : List Element) → take m (a ++ b) ≡ take m a ++ take (m - length a) b
+take-two : (m : ℕ) (a b : List TagElement) → take m (a ++ b) ≡ take m a ++ take (m - length a) b
 take-two zero [] b = refl
 take-two zero (e ∷ a) b = let z : 0 - length (e ∷ a) ≡ 0 = omega arith in rw z
 take-two (suc m) [] b = let z : suc m - 0 ≡ suc m = omega arith in rw z
 take-two (suc m) (e ∷ a) b =
-    let z : suc m - length (e ∷ a) ≡ m - length a = omega arith in rw z (ap (λ (l : List Element). e ∷ l) (take-two m a b))
+    let z : suc m - length (e ∷ a) ≡ m - length a = omega arith in rw z (ap (λ (l : List TagElement). e ∷ l) (take-two m a b))
 
-drop-two : (k : ℕ) (a b : List Element) → drop k (a ++ b) ≡ drop k a ++ drop (k - length a) b
+drop-two : (k : ℕ) (a b : List TagElement) → drop k (a ++ b) ≡ drop k a ++ drop (k - length a) b
 drop-two zero [] b = refl
 drop-two zero (e ∷ a) b = let z : 0 - length (e ∷ a) ≡ 0 = omega arith in rw z
 drop-two (suc k) [] b = let z : suc k - 0 ≡ suc k = omega arith in rw z
 drop-two (suc k) (e ∷ a) b = let z : suc k - length (e ∷ a) ≡ k - length a = omega arith in rw z (drop-two k a b)
 
-pub rows-two : (m k : ℕ) (a b : List Element)
+pub rows-two : (m k : ℕ) (a b : List TagElement)
     → rows (take m (drop k (a ++ b))) ≡ rows (take m (drop k a)) ++ rows (take (m - (length a - k)) (drop (k - length a) b))
 rows-two m k a b =
     rw (drop-two k a b, take-two m (drop k a) (drop (k - length a) b), length-drop k a)
@@ -94,7 +94,7 @@ module _ (s : List ℕ) where
     unfolding tagAgain
     keep-some zero n at h = refl
     keep-some (suc b) zero at h = absurd (omega arith)
-    keep-some (suc b) (suc n) at h = ap (λ (l : List Element). record { tag = i; part = partAgain s at .value } ∷ l) (keep-some b n (partAgain s at .next) (omega arith))
+    keep-some (suc b) (suc n) at h = ap (λ (l : List TagElement). record { tag = i; part = partAgain s at .value } ∷ l) (keep-some b n (partAgain s at .next) (omega arith))
 
     kept : (m n at : ℕ) {b : ℕ} → b ≡ min m n → take m (tagAgain n i s at) ≡ tagAgain b i s at
     kept m n at {b} e =
@@ -113,7 +113,7 @@ module _ (s : List ℕ) where
         let z : b ≡ 0 = omega (arith, f, q) in
         rw (drop-of-length-le (tagAgain n i s at) {i = k} (omega (arith, h, again-count n at)), z) (nothing m ∙ sym (again-left 0 (textsEnd a s at) (omega arith))))
       where
-        nothing : (m : ℕ) → _≡_ {A = List Element} (take m []) []
+        nothing : (m : ℕ) → _≡_ {A = List TagElement} (take m []) []
         nothing zero = refl
         nothing (suc m) = refl
 
