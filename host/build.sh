@@ -68,7 +68,7 @@ prove_library() {
     echo "First the library is proved: $(wc -w <<< "$below") crates, some 5 to 8 minutes on two cores; less where a part"
     echo "of them is proved already."
     (rt check $(grep -vx kezubimoryu <<< "$below") && rt staticlib kezubimoryu) 2>&1 | tee "$built/log" |
-        awk '/^rt: [a-z0-9]+ proved \([0-9]+ s\)$/ || /^rt: target\/staticlib\// { print; fflush() }'
+        grep --line-buffered -E '^rt: [a-z0-9]+ proved \([0-9]+ s\)$|^rt: target/staticlib/'
     [ "${PIPESTATUS[0]}" = 0 ] || { cat "$built/log"; return 1; }
 }
 

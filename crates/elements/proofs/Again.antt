@@ -8,7 +8,8 @@ use mathlib.Core.Logic.{dite}
 use native.Mathlib.Numerals.{sub-one}
 use native.Mathlib.Omega.{arith}
 use native.Mathlib.Decide.{decLe}
-use lib.ListN.{length, take, drop}
+use lib.ListN.{length, take, drop, length-drop, drop-of-length-le}
+use lib.Seq.{take-all}
 use Rattle.scan.specs.Choice.{shown, Read, many}
 use Rattle.scan.proofs.Reading.{read-same}
 use Rattle.scan.proofs.Many.{many-apart}
@@ -17,45 +18,40 @@ use Rattle.notepack.specs.Unpack.{elementAt, elementsAt, tagAt, tagsAt}
 use Rattle.notepack.specs.inner.Again.{partAgain, countAgain, textsEnd}
 use Rattle.notepack.proofs.Viewing.{tag-apart}
 use Rattle.notepack.proofs.Again as again
-use Rattle.elements.specs.Elements.{Element, inTag, inTags, row, rows}
+use Rattle.elements.specs.Elements.{TagElement, inTag, inTags, row, rows}
 use Rattle.elements.specs.inner.Again.{tagAgain, allAgain}
 
 -- ---- rows
 
-pub rows-append : (a b : List Element) → rows (a ++ b) ≡ rows a ++ rows b
+pub rows-append : (a b : List TagElement) → rows (a ++ b) ≡ rows a ++ rows b
 rows-append [] b = refl
 rows-append (e ∷ a) b = rw (rows-append a b) (sym (append-assoc (row e) (rows a) (rows b)))
 
 -- an element takes 16 bytes
-pub rows-length : (l : List Element) → length (rows l) ≡ 16 * length l
+pub rows-length : (l : List TagElement) → length (rows l) ≡ 16 * length l
 unfolding row
 rows-length [] = refl
 rows-length (e ∷ l) = let h = rows-length l in omega (arith, h)
 
 -- ---- what is listed of two lists, one behind the other
 
-take-two : (m : ℕ) (a b : List Element) → take m (a ++ b) ≡ take m a ++ take (m - length a) b
+take-two : (m : ℕ) (a b : List TagElement) → take m (a ++ b) ≡ take m a ++ take (m - length a) b
 take-two zero [] b = refl
 take-two zero (e ∷ a) b = let z : 0 - length (e ∷ a) ≡ 0 = omega arith in rw z
 take-two (suc m) [] b = let z : suc m - 0 ≡ suc m = omega arith in rw z
 take-two (suc m) (e ∷ a) b =
-    let z : suc m - length (e ∷ a) ≡ m - length a = omega arith in rw z (ap (λ (l : List Element). e ∷ l) (take-two m a b))
+    let z : suc m - length (e ∷ a) ≡ m - length a = omega arith in rw z (ap (λ (l : List TagElement). e ∷ l) (take-two m a b))
 
-drop-two : (k : ℕ) (a b : List Element) → drop k (a ++ b) ≡ drop k a ++ drop (k - length a) b
+drop-two : (k : ℕ) (a b : List TagElement) → drop k (a ++ b) ≡ drop k a ++ drop (k - length a) b
 drop-two zero [] b = refl
 drop-two zero (e ∷ a) b = let z : 0 - length (e ∷ a) ≡ 0 = omega arith in rw z
 drop-two (suc k) [] b = let z : suc k - 0 ≡ suc k = omega arith in rw z
 drop-two (suc k) (e ∷ a) b = let z : suc k - length (e ∷ a) ≡ k - length a = omega arith in rw z (drop-two k a b)
 
-drop-length : (k : ℕ) (a : List Element) → length (drop k a) ≡ length a - k
-drop-length zero a = omega arith
-drop-length (suc k) [] = omega arith
-drop-length (suc k) (e ∷ a) = let h = drop-length k a in omega (arith, h)
-
-pub rows-two : (m k : ℕ) (a b : List Element)
+pub rows-two : (m k : ℕ) (a b : List TagElement)
     → rows (take m (drop k (a ++ b))) ≡ rows (take m (drop k a)) ++ rows (take (m - (length a - k)) (drop (k - length a) b))
 rows-two m k a b =
-    rw (drop-two k a b, take-two m (drop k a) (drop (k - length a) b), drop-length k a)
+    rw (drop-two k a b, take-two m (drop k a) (drop (k - length a) b), length-drop k a)
     (rows-append (take m (drop k a)) (take (m - (length a - k)) (drop (k - length a) b)))
 
 -- the room that is left: a are left out of n, and b of the others are told
@@ -94,31 +90,17 @@ module _ (s : List ℕ) where
     skip-some (suc a) zero at h = absurd (omega arith)
     skip-some (suc a) (suc n) at h = let z : suc n - suc a ≡ n - a = omega arith in rw z (skip-some a n (partAgain s at .next) (omega arith))
 
-    skip-all : (k n at : ℕ) → n ≤ k → drop k (tagAgain n i s at) ≡ []
-    unfolding tagAgain
-    skip-all zero zero at h = refl
-    skip-all zero (suc n) at h = absurd (omega arith)
-    skip-all (suc k) zero at h = refl
-    skip-all (suc k) (suc n) at h = skip-all k n (partAgain s at .next) (omega arith)
-
     keep-some : (b n at : ℕ) → b ≤ n → take b (tagAgain n i s at) ≡ tagAgain b i s at
     unfolding tagAgain
     keep-some zero n at h = refl
     keep-some (suc b) zero at h = absurd (omega arith)
-    keep-some (suc b) (suc n) at h = ap (λ (l : List Element). record { tag = i; part = partAgain s at .value } ∷ l) (keep-some b n (partAgain s at .next) (omega arith))
-
-    keep-all : (m n at : ℕ) → n ≤ m → take m (tagAgain n i s at) ≡ tagAgain n i s at
-    unfolding tagAgain
-    keep-all zero zero at h = refl
-    keep-all zero (suc n) at h = absurd (omega arith)
-    keep-all (suc m) zero at h = refl
-    keep-all (suc m) (suc n) at h = ap (λ (l : List Element). record { tag = i; part = partAgain s at .value } ∷ l) (keep-all m n (partAgain s at .next) (omega arith))
+    keep-some (suc b) (suc n) at h = ap (λ (l : List TagElement). record { tag = i; part = partAgain s at .value } ∷ l) (keep-some b n (partAgain s at .next) (omega arith))
 
     kept : (m n at : ℕ) {b : ℕ} → b ≡ min m n → take m (tagAgain n i s at) ≡ tagAgain b i s at
     kept m n at {b} e =
         dite (decLe m n)
         (λ h. let q : b ≡ m = omega (arith, e, h) in rw q (keep-some m n at h))
-        (λ h. let q : b ≡ n = omega (arith, e, h) in rw q (keep-all m n at (omega (arith, h))))
+        (λ h. let q : b ≡ n = omega (arith, e, h) in rw q (take-all m (tagAgain n i s at) (omega (arith, h, again-count n at))))
 
     -- all but the first k, and of these m: b of them, from behind the first a
     pub some-again : (m k n at : ℕ) {a b : ℕ} → a ≡ min k n → b ≡ min m (n - a)
@@ -129,9 +111,9 @@ module _ (s : List ℕ) where
         (λ h.
         let q : a ≡ n = omega (arith, e, h) in
         let z : b ≡ 0 = omega (arith, f, q) in
-        rw (skip-all k n at (omega (arith, h)), z) (nothing m ∙ sym (again-left 0 (textsEnd a s at) (omega arith))))
+        rw (drop-of-length-le (tagAgain n i s at) {i = k} (omega (arith, h, again-count n at)), z) (nothing m ∙ sym (again-left 0 (textsEnd a s at) (omega arith))))
       where
-        nothing : (m : ℕ) → _≡_ {A = List Element} (take m []) []
+        nothing : (m : ℕ) → _≡_ {A = List TagElement} (take m []) []
         nothing zero = refl
         nothing (suc m) = refl
 

@@ -1,28 +1,22 @@
 -- What is told of an accepted record, and of one that is refused.
 -- By the elements that a second pass finds, which are the record's own; they fit, since no more are taken than have room.
-use Prim.Native.Nat.{ℕ, zero, suc, _+_, _*_, _/_, _≤_}
-use mathlib.Core.Path.{_≡_, refl, sym, ap, _∙_}
-use mathlib.Core.List.{List, [], _∷_}
+use Prim.Native.Nat.{ℕ, _/_, _≤_}
+use mathlib.Core.Path.{_≡_, refl, sym, _∙_}
+use mathlib.Core.List.{List}
 use native.Mathlib.Omega.{arith}
-use lib.ListN.{length, take, drop}
+use lib.ListN.{length, take, drop, length-take}
 use Rattle.scan.specs.Choice.{Answer, shown, refused, andThen}
 use Rattle.scan.proofs.Many.{then-shown}
 use Rattle.buffer.specs.inner.Store.{Wrote}
-use Rattle.buffer.specs.Entry.{leaves}
 use Rattle.buffer.proofs.EntryLaws.{fitted}
 use Rattle.buffer.proofs.Places.{ends-behind}
 use Rattle.notepack.specs.declared.Head.{Head}
 use Rattle.notepack.specs.Unpack.{Packed, packedAt}
 use Rattle.notepack.specs.Views.{numbersOf}
 use Rattle.notepack.proofs.Viewing.{packed-apart}
-use Rattle.elements.specs.Elements.{Element, inTags, rows, listed, elementsTold, elementsLeft}
+use Rattle.elements.specs.Elements.{inTags, rows, listed, elementsTold, elementsLeft}
 use Rattle.elements.specs.inner.Again.{allAgain}
 use Rattle.elements.proofs.Again.{rows-length, all-same}
-
-take-most : (m : ℕ) (l : List Element) → length (take m l) ≤ m
-take-most zero l = omega arith
-take-most (suc m) [] = omega arith
-take-most (suc m) (e ∷ l) = let h = take-most m l in omega (arith, h)
 
 module _ (first : ℕ) (s d : List ℕ) where
   -- those listed have room
@@ -30,7 +24,7 @@ module _ (first : ℕ) (s d : List ℕ) where
   unfolding listed
   listed-fit p =
       let l = take (length d / 16) (drop first (inTags 0 (p .tags))) in
-      let h = take-most (length d / 16) (drop first (inTags 0 (p .tags))) in
+      let h = length-take (length d / 16) (drop first (inTags 0 (p .tags))) in
       let k = rows-length l in
       omega (arith, h, k)
 

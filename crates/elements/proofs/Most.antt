@@ -1,7 +1,7 @@
 -- A record has no more elements than bytes: so a buffer of 16 times the record's length has room for all.
 -- Each element takes a byte or more in the strict form, which is no longer than the record.
 use Prim.Native.Nat.{ℕ, suc, _+_, _*_, _≤_}
-use mathlib.Core.Path.{_≡_, refl}
+use mathlib.Core.Path.{_≡_}
 use mathlib.Core.Bool.{Bool, true, false}
 use mathlib.Core.List.{List, [], _∷_, _++_, map}
 use native.Mathlib.Omega.{arith}
@@ -11,7 +11,7 @@ use Rattle.scan.specs.Bytes.{IsBytes}
 use Rattle.varint.specs.Uleb.{uleb}
 use Rattle.varint.proofs.UlebLaws.{length-one}
 use Rattle.hex.specs.Hex.{unhex, goesAsBytes}
-use Rattle.event.specs.Event.{Text, Tag}
+use Rattle.event.specs.Event.{Text}
 use Rattle.notepack.specs.declared.Part.{Part}
 use Rattle.notepack.specs.Strict.{packElement, packElements, packTag, packTags, pack}
 use Rattle.notepack.specs.Unpack.{textOf, Packed, packedAt, eventOf, unpack}

@@ -4,10 +4,10 @@ use Prim.Native.Nat.{ℕ, suc}
 use mathlib.Core.Path.{_≡_, refl, ap, _∙_}
 use mathlib.Core.List.{List, [], _∷_, _++_, map}
 use Rattle.scan.specs.Choice.{shown}
-use Rattle.event.specs.Event.{Text, Tag, Event}
+use Rattle.event.specs.Event.{Text, Tag}
 use Rattle.notepack.specs.declared.Part.{Part}
 use Rattle.notepack.specs.Unpack.{textOf, Packed, packedAt, eventOf, unpack}
-use Rattle.elements.specs.Elements.{Element, inTag, inTags}
+use Rattle.elements.specs.Elements.{TagElement, inTag, inTags}
 
 -- the texts of all tags, one tag behind the other
 abbrev pub textsOf : List Tag → List Text
@@ -16,11 +16,11 @@ textsOf (t ∷ ts) = t ++ textsOf ts
 
 module _ (f : Part → Text) where
   -- the texts of a list of elements
-  abbrev pub textsBy : List Element → List Text
+  abbrev pub textsBy : List TagElement → List Text
   textsBy [] = []
   textsBy (e ∷ l) = f (e .part) ∷ textsBy l
 
-  tag-texts : (i : ℕ) (ps : List Part) (l : List Element) → textsBy (inTag i ps ++ l) ≡ map f ps ++ textsBy l
+  tag-texts : (i : ℕ) (ps : List Part) (l : List TagElement) → textsBy (inTag i ps ++ l) ≡ map f ps ++ textsBy l
   tag-texts i [] l = refl
   tag-texts i (p ∷ ps) l = ap (λ (t : List Text). f p ∷ t) (tag-texts i ps l)
 

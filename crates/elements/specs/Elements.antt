@@ -8,17 +8,17 @@ use Rattle.notepack.specs.declared.Part.{Part}
 use Rattle.notepack.specs.Unpack.{Packed, packedAt}
 
 -- an element: the number of its tag, and where its payload stands
-pub record Element : Type 0 where
+pub record TagElement : Type 0 where
   pub tag : ℕ
   pub part : Part
 
 -- the elements of tag number i
-abbrev pub inTag : ℕ → List Part → List Element
+abbrev pub inTag : ℕ → List Part → List TagElement
 inTag i [] = []
 inTag i (p ∷ ps) = record { tag = i; part = p } ∷ inTag i ps
 
 -- the elements of all tags in their order, the first tag being number i
-abbrev pub inTags : ℕ → List (List Part) → List Element
+abbrev pub inTags : ℕ → List (List Part) → List TagElement
 inTags i [] = []
 inTags i (t ∷ ts) = inTag i t ++ inTags (suc i) ts
 
@@ -27,15 +27,15 @@ abbrev pub fourBytes : ℕ → List ℕ
 fourBytes n = n % 256 ∷ n / 256 % 256 ∷ n / 65_536 % 256 ∷ n / 16_777_216 % 256 ∷ []
 
 -- what is told of an element in 16 bytes: its tag's number, its payload's place and length, and 1 for raw bytes
-unfoldable pub row : Element → List ℕ
+unfoldable pub row : TagElement → List ℕ
 row e = fourBytes (e .tag) ++ fourBytes (e .part .at) ++ fourBytes (e .part .len) ++ fourBytes (pick (e .part .raw) 1 0)
 
-abbrev pub rows : List Element → List ℕ
+abbrev pub rows : List TagElement → List ℕ
 rows [] = []
 rows (e ∷ es) = row e ++ rows es
 
 -- those from element number `first` on for which d has room
-unfoldable pub listed : ℕ → List ℕ → Packed → List Element
+unfoldable pub listed : ℕ → List ℕ → Packed → List TagElement
 listed first d p = take (length d / 16) (drop first (inTags 0 (p .tags)))
 
 -- how many are told, or the reader's refusal; and what is left in d

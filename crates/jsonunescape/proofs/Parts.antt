@@ -1,4 +1,4 @@
--- A text that comes in parts: whether it is digits, whether it is a name, and a byte for each two digits of it.
+-- A text that comes in parts: whether it is digits, and a byte for each two digits of it.
 -- Each question over `++` is the question of the first part and then of the rest; the bytes of a scalar value are such
 -- a part.
 use Prim.Native.Nat.{ℕ, _+_, _*_, _-_, _%_, _<_, _≤_}
@@ -8,17 +8,12 @@ use mathlib.Core.List.{List, [], _∷_, _++_}
 use mathlib.Core.Logic.{dite}
 use native.Mathlib.Omega.{arith}
 use native.Mathlib.Decide.{decLt}
-use lib.ListN.{length, getD, take, drop, length-take, length-drop}
-use lib.Seq.{take-at, drop-drop}
-use lib.Dec.{eqb, ltb}
-use borrow.Author.Tests.{eq-eqb, ne-eqb, lt-ltb, le-ltb}
-use Rattle.scan.specs.Choice.{pick}
-use Rattle.scan.specs.Place.{begins, standsAt}
+use lib.ListN.{length, getD, take, drop}
+use lib.Seq.{take-at}
+use lib.Dec.{ltb}
+use borrow.Author.Tests.{lt-ltb, le-ltb}
 use Rattle.scan.specs.Bytes.{All}
-use Rattle.scan.proofs.CompareLaws.{same-append}
-use Rattle.scan.proofs.Step.{pick-by, rest-none, rest-more}
-use Rattle.scan.proofs.SpanLaws.{span-fits}
-use Rattle.scan.proofs.PlaceLaws.{stands-span}
+use Rattle.scan.proofs.Step.{pick-by}
 use Rattle.buffer.specs.inner.Store.{Buffer, Wrote}
 use Rattle.buffer.proofs.Laws.{Left, puts-eq}
 use Rattle.utf8.specs.Encode.{Scalar, below, above, encode}
@@ -27,13 +22,12 @@ use Rattle.hex.specs.Hex.{valueOf, digitOf, unhex, allDigits}
 use Rattle.hex.proofs.Digits.{value-of-digit}
 use Rattle.hex.proofs.Texts.{digits-pass, digits-append}
 use Rattle.hex.proofs.Turn.{unhex-two, unhex-ended}
-use Rattle.scan.specs.Compare.{sameBytes}
 use Rattle.jsonunescape.specs.inner.Half.{held, halfBehind}
 use Rattle.jsontext.specs.declared.Escape.{Escape}
 use Rattle.jsontext.specs.inner.Escape.{escapeAt, orItself, unescape}
 use Rattle.jsonunescape.specs.inner.Run.{backslashAt}
 use Rattle.jsontext.proofs.Meaning.{unescape-escape}
-use Rattle.jsonunescape.proofs.Unescape.{run-inside, unescape-run, unescape-end, taken, turn-text}
+use Rattle.jsonunescape.proofs.Unescape.{unescape-run, unescape-end, turn-text}
 
 -- ---- the bytes of a scalar value in an array of four
 
@@ -69,30 +63,6 @@ digits-off a b e f = sym (e ∙ digits-append a b ∙ rw f)
 
 pub digits-none : allDigits [] ≡ true
 digits-none = digits-pass All.none
-
--- ---- a name in parts
-
-module _ {x : Bool} (a b name : List ℕ) (j : ℕ) (e : x ≡ sameBytes (a ++ b) (drop j name)) where
-  -- the part stands in the name: the rest decides
-  pub same-on : {k : ℕ} → length a ≡ k → standsAt a name j ≡ true → x ≡ sameBytes b (drop (j + k) name)
-  unfolding standsAt
-  same-on n t = e ∙ same-append a b (drop j name) ∙ rw (t, n, drop-drop)
-
-  -- it does not
-  pub same-off : standsAt a name j ≡ false → false ≡ x
-  unfolding standsAt
-  same-off f = sym (e ∙ same-append a b (drop j name) ∙ rw f)
-
--- a part that stands ends within the name
-pub stands-inside : (a name : List ℕ) (j : ℕ) {k : ℕ} → length a ≡ k → standsAt a name j ≡ true → j ≤ length name → j + k ≤ length name
-stands-inside a name j n t h = omega (arith, n, span-fits (stands-span a name j t))
-
--- behind the last part the name is at its end, or not
-pub same-end : {x : Bool} (name : List ℕ) (j : ℕ) → x ≡ sameBytes [] (drop j name) → j ≤ length name → eqb j (length name) ≡ x
-unfolding sameBytes
-same-end {x} name j e h =
-    dite (decLt j (length name)) (λ l. ne-eqb j (length name) (λ q. omega arith) ∙ sym (e ∙ rw (rest-more name j l)))
-    (λ g. eq-eqb j (length name) (omega (arith, g)) ∙ sym (e ∙ rw (rest-none name j (omega (arith, g)))))
 
 -- ---- two digits for a byte, in parts
 
@@ -186,51 +156,6 @@ module _ {t : List ℕ} {i : ℕ} (v : InDigits t i) where
 
   pub digits-end : length t ≤ i → true ≡ allDigits (unescape t)
   digits-end h = sym (v .same ∙ ap allDigits (unescape-end t i h) ∙ digits-none)
-
--- whether the text is the name is what the text from i on and the name from j on say
-pub record InName (t name : List ℕ) (i j : ℕ) : Type 0 where
-  pub same : sameBytes (unescape t) name ≡ sameBytes (unescape (drop i t)) (drop j name)
-  pub inside : i ≤ length t
-  pub within : j ≤ length name
-
-pub name-start : (t name : List ℕ) → InName t name 0 0
-name-start t name = record { same = refl; inside = omega arith; within = omega arith }
-
-module _ {t name : List ℕ} {i j : ℕ} (v : InName t name i j) where
-  module _ {e : ℕ} {p : List ℕ} {r : Bool} (q : e ≡ backslashAt t i) (k : p ≡ take (e - i) (drop i t)) (a : r ≡ standsAt p name j) where
-    name-part : r ≡ standsAt (take (e - i) (drop i t)) name j
-    name-part = a ∙ ap (λ (m : List ℕ). standsAt m name j) k
-
-    pub name-run : r ≡ true → InName t name e (j + (e - i))
-    name-run y =
-        let m = run-inside t i q (v .inside) in
-        let l : length (take (e - i) (drop i t)) ≡ e - i = simp (length-take, length-drop) (omega arith) in
-        let s = sym name-part ∙ y in
-        record {
-          same = same-on (take (e - i) (drop i t)) (unescape (drop e t)) name j (v .same ∙ ap (λ (m : List ℕ). sameBytes m (drop j name)) (unescape-run t i q)) l s;
-          inside = m;
-          within = stands-inside (take (e - i) (drop i t)) name j l s (v .within);
-        }
-
-    pub name-run-off : r ≡ false → false ≡ sameBytes (unescape t) name
-    name-run-off y =
-        same-off (take (e - i) (drop i t)) (unescape (drop e t)) name j (v .same ∙ ap (λ (m : List ℕ). sameBytes m (drop j name)) (unescape-run t i q)) (sym name-part ∙ y)
-
-  module _ {x : Escape} {r : Bool} (h : i < length t) (s : getD t i 0 ≡ 0x5C) (f : x ≡ orItself (escapeAt t i)) (a : r ≡ standsAt (encode (x .scalar)) name j) where
-    pub name-escape : {k : ℕ} → r ≡ true → k ≡ length (encode (x .scalar)) → InName t name (i + x .width) (j + k)
-    name-escape y k = record {
-      same =
-          same-on (encode (x .scalar)) (unescape (drop (i + x .width) t)) name j (v .same ∙ ap (λ (m : List ℕ). sameBytes m (drop j name)) (unescape-escape t i h s f)) (sym k) (sym a ∙ y);
-      inside = taken t i h s f .inside;
-      within = stands-inside (encode (x .scalar)) name j (sym k) (sym a ∙ y) (v .within);
-    }
-
-    pub name-escape-off : r ≡ false → false ≡ sameBytes (unescape t) name
-    name-escape-off y =
-        same-off (encode (x .scalar)) (unescape (drop (i + x .width) t)) name j (v .same ∙ ap (λ (m : List ℕ). sameBytes m (drop j name)) (unescape-escape t i h s f)) (sym a ∙ y)
-
-  pub name-end : length t ≤ i → eqb j (length name) ≡ sameBytes (unescape t) name
-  name-end h = same-end name j (v .same ∙ ap (λ (m : List ℕ). sameBytes m (drop j name)) (unescape-end t i h)) (v .within)
 
 -- two digits for a byte, over a run and over an escape of a spelled string
 pub unhex-run : (t : List ℕ) (i h : ℕ) {e : ℕ} → e ≡ backslashAt t i

@@ -13,11 +13,10 @@ use lib.Dec.{eqb}
 use borrow.Author.Tests.{eq-eqb, ne-eqb, eqb-true}
 use mir.Syntax.{w64}
 use mir.Val.{Fits}
-use Rattle.scan.specs.Place.{run}
 use Rattle.scan.specs.Bytes.{All}
 use Rattle.scan.specs.inner.Span.{Span}
 use Rattle.scan.proofs.Step.{pick-by, rest-none, false-true}
-use Rattle.scan.proofs.SpanLaws.{place, whole-span, from-span, span-length, span-fits}
+use Rattle.scan.proofs.SpanLaws.{whole-span, from-span, span-length, span-fits}
 use Rattle.scan.proofs.PlaceLaws.{run-span, run-stops}
 use Rattle.utf8.specs.Encode.{encode}
 use Rattle.utf8.proofs.EncodeLaws.{encode-one}

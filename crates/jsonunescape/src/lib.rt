@@ -1,12 +1,10 @@
-// The text of a spelled string: its length, written, as digits, unhexed, compared with a name.
+// The text of a spelled string: its length, written, as digits, unhexed.
 // A private function takes the spelled bytes as t.
 use jsontext::Escape;
 ghost use Prim.Native.Nat.{_+_, _-_, _≤_, _<_};
 ghost use mathlib.Core.Path.{_≡_};
 ghost use mathlib.Core.Bool.{true};
 ghost use lib.ListN.{length, getD, take, drop};
-ghost use Rattle.scan.specs.Place.{standsAt};
-ghost use Rattle.scan.specs.Compare.{sameBytes};
 ghost use Rattle.scan.specs.inner.Blocks.{sumOf, neighbours};
 ghost use Rattle.buffer.specs.inner.Store.{Wrote};
 ghost use Rattle.utf8.specs.Encode.{encode};
@@ -377,43 +375,6 @@ fn spelled_digits(t: &[u8]) -> bool
     true
 }
 
-// Whether the bytes of a scalar value stand at a place.
-fn scalar_stands(n: u32, s: &[u8], at: usize) -> bool
-    ensures { λ r. ⌜ r ≡ standsAt (encode n) (now (s .entry)) at ⌝ }
-{
-    let mut bytes = [0u8; 4];
-    let k = utf8::put_scalar(&mut bytes, 0, n);
-    scan::stands_at(scan::part(&bytes, 0, k), s, at)
-}
-
-// Whether the text is the name.
-fn spelled_is(t: &[u8], name: &[u8]) -> bool
-    ensures { λ r. ⌜ r ≡ sameBytes (unescape (now (t .entry))) (now (name .entry)) ⌝ }
-{
-    let mut i = 0;
-    let mut j = 0;
-    while i < t.len() {
-        let e = next_backslash(t, i);
-        let run = e - i;
-        if !scan::stands_at(scan::part(t, i, run), name, j) {
-            return false;
-        }
-        j += run;
-        if t.len() <= e {
-            return j == name.len();
-        }
-        let x = escape_or_itself(t, e);
-        let w = x.width;
-        let c = x.scalar;
-        if !scalar_stands(c, name, j) {
-            return false;
-        }
-        j += utf8::scalar_len(c);
-        i = e + w;
-    }
-    j == name.len()
-}
-
 // A place of the output, and the upper half of the byte that goes there; 16 where none is read yet.
 struct Half {
     at: usize,
@@ -515,11 +476,4 @@ pub fn put_unescaped_unhex(out: &mut [u8], at: usize, s: &[u8], from: usize, n: 
         return put_spelled_unhex(out, at, t);
     }
     hex::put_unhex(out, at, t)
-}
-
-// Whether it is the name.
-pub fn unescaped_is(s: &[u8], from: usize, n: usize, name: &[u8]) -> bool
-    ensures { λ r. ⌜ r ≡ sameBytes (unescape (take n (drop from (now (s .entry))))) (now (name .entry)) ⌝ }
-{
-    spelled_is(scan::part(s, from, n), name)
 }

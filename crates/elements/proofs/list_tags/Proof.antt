@@ -1,7 +1,7 @@
 -- `list_tags` lists what is asked for of all tags. The invariant: what is left to list is that of the tags left, and a
 -- tag's number with those left is their count. Each turn is one law; without room nothing is left to list.
 use Prim.Native.Nat.{_+_}
-use mathlib.Core.Path.{_≡_, refl, ap}
+use mathlib.Core.Path.{_≡_, refl}
 use native.Mathlib.Omega.{arith}
 use lib.ListN.{take, drop}
 use borrow.Author.Needs.{needs}
