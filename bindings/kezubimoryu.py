@@ -29,20 +29,24 @@ import os
 import struct
 from typing import Any, Dict, Iterator, List, NamedTuple, Optional, Tuple, Union
 
-__version__ = "0.5.0"
+__version__ = "0.6.0"
 
 __all__ = [
-    "KEZ_MOST", "KEZ_CANONICAL_MOST", "KEZ_ELEMENT_BYTES", "KEZ_ELEMENTS_MOST", "SENTENCES",
+    "KEZ_MOST", "KEZ_CANONICAL_MOST", "KEZ_NOTEPACK_STRING_MOST", "KEZ_ELEMENT_BYTES", "KEZ_ELEMENTS_MOST", "SENTENCES",
     "Bytes", "Numbers", "Payload", "Element", "Both", "Refused", "kez_refusal_text",
     "kez_notepack_read", "kez_notepack_is_strict", "kez_notepack_write", "kez_notepack_tag_len",
-    "kez_notepack_element", "kez_notepack_elements", "kez_canonical_write", "kez_nson_write",
-    "kez_nson_read", "kez_json_read", "kez_read_both", "kez_rivals", "kez_version",
+    "kez_notepack_element", "kez_notepack_elements", "kez_notepack_string_write",
+    "kez_notepack_string_read", "kez_canonical_write", "kez_nson_write", "kez_nson_read", "kez_json_read",
+    "kez_read_both", "kez_rivals", "kez_version",
 ]
 
-#: No accepted input is longer; nor is an event in strict form, nor NSON. Rule 1.9.
+#: No accepted input is longer, but for a string form, of which the bytes that it holds are counted; nor is an event in
+#: strict form, nor NSON. Rules 1.9 and 14.3.
 KEZ_MOST: int = 65536
 #: No canonical text is longer. Rule 5.8.
 KEZ_CANONICAL_MOST: int = 3 * KEZ_MOST
+#: No string form is longer that is written or accepted. Rules 14.1 to 14.3.
+KEZ_NOTEPACK_STRING_MOST: int = 9 + (4 * KEZ_MOST + 2) // 3
 #: So many bytes are needed for each element that kez_notepack_elements of the header lists.
 KEZ_ELEMENT_BYTES: int = 16
 #: So many have room for the elements of any record.
@@ -108,10 +112,10 @@ class Both(NamedTuple):
 #: A sentence for each refusal, by its number.
 SENTENCES: Tuple[str, ...] = (
     "Nothing is refused.",
-    "The input is longer than 65,536 bytes.",
+    "The input is longer than 65,536 bytes, or a string form holds more.",
     "The packed event is cut short, or a length in it goes beyond its end.",
     "A varint's tenth byte is neither 00 nor 01.",
-    "The input ends inside a varint.",
+    "The packed event ends inside a varint.",
     "A text is not well-formed UTF-8.",
     "The kind is above 65,535.",
     "The time is above 9,223,372,036,854,775 seconds.",
@@ -127,11 +131,15 @@ SENTENCES: Tuple[str, ...] = (
     "NSON can't carry this event.",
     "Arrays and objects are nested more than 16 deep.",
     "There is no such tag or element.",
+    "The text does not start with notepack_.",
+    "What follows notepack_ is not base64: a character outside its alphabet, a lone last one, "
+    "or leftover bits that are not zero.",
 )
 
 
 class Refused(Exception):
-    """A refusal: its number, the place in the input where the fault was found, and as text a sentence.
+    """A refusal: its number, the place in the input where the fault was found, and as text a sentence. Where
+    kez_notepack_string_read tells one from 2 to 10, the place is in the bytes that its text holds.
 
     It may be pickled, so it comes whole out of a process pool.
 
@@ -174,6 +182,8 @@ _types: Dict[str, Tuple[Any, ...]] = {
     "kez_notepack_tag_len": _bytes + _index,
     "kez_notepack_element": _bytes + _index * 2 + _number * 3,
     "kez_notepack_elements": _bytes + _index + _room,
+    "kez_notepack_string_write": _bytes + _room,
+    "kez_notepack_string_read": _bytes + _room,
     "kez_rivals": _bytes + _bytes,
     "kez_canonical_write": _bytes + _room,
     "kez_nson_write": _bytes + _room,
@@ -399,6 +409,35 @@ def _blocks(data: bytes, block: Any, listed: int) -> Iterator[Element]:
             return
         first += listed
         listed = _listed(data, first, block)
+
+
+def kez_notepack_string_write(packed: Bytes) -> bytes:
+    """The string form of a packed event: notepack_ and its strict form in base64 without padding, as ASCII.
+
+    >>> kez_notepack_string_write(bytes(132))[:20]
+    b'notepack_AAAAAAAAAAA'
+    >>> len(kez_notepack_string_write(bytes(132)))
+    185
+
+    Rules 3.1 to 3.3, 14.1, 14.2, 14.8, 14.9."""
+    return _write("kez_notepack_string_write", packed)
+
+
+def kez_notepack_string_read(text: Bytes) -> bytes:
+    """The packed event that a string form holds, byte for byte; it need not be strict. White space, padding and a line
+    end that was pasted along are refused: strip() takes a line end off.
+
+    >>> text = b"notepack_" + b"A" * 176
+    >>> kez_notepack_string_read(text) == bytes(132)
+    True
+    >>> try:
+    ...     kez_notepack_string_read(text + b" ")
+    ... except Refused as refused:
+    ...     print(refused.number, refused.place)
+    21 185
+
+    Rules 14.1, 14.3 to 14.7."""
+    return _write("kez_notepack_string_read", text)
 
 
 def kez_canonical_write(packed: Bytes) -> bytes:

@@ -18,18 +18,21 @@
 use std::fmt;
 
 /// The version of the library, as in the header.
-pub const KEZ_VERSION: &str = "0.5.0";
-/// No accepted input is longer; nor is an event in strict form, nor NSON (rule 1.9). A strict form is never longer than
-/// what it was read from, so a buffer as long as the packed bytes or the text is always enough (rules 3.7 and 12.3.6).
+pub const KEZ_VERSION: &str = "0.6.0";
+/// No accepted input is longer, but for a string form, of which the bytes that it holds are counted; nor is an event in
+/// strict form, nor NSON (rules 1.9 and 14.3). A strict form is never longer than what it was read from, so a buffer as
+/// long as the packed bytes or the text is always enough (rules 3.7 and 12.3.6).
 pub const KEZ_MOST: usize = 65536;
 /// No canonical text is longer: three bytes for each byte that was packed (rule 5.8).
 pub const KEZ_CANONICAL_MOST: usize = 3 * KEZ_MOST;
+/// No string form is longer that is written or accepted (rules 14.1 to 14.3).
+pub const KEZ_NOTEPACK_STRING_MOST: usize = 9 + (4 * KEZ_MOST).div_ceil(3);
 /// So many bytes are needed for each element that kez_notepack_elements lists.
 pub const KEZ_ELEMENT_BYTES: usize = 16;
 /// A buffer of this length has room for the elements of any record.
 pub const KEZ_ELEMENTS_MOST: usize = KEZ_ELEMENT_BYTES * KEZ_MOST;
 
-/// Refusal 0 and a value, or a refusal from 1 to 19 and its place (rules 12.1.2 to 12.1.4). Rule 10.N is refusal N.
+/// Refusal 0 and a value, or a refusal from 1 to 21 and its place (rules 12.1.2 to 12.1.4). Rule 10.N is refusal N.
 #[repr(C)]
 #[derive(Clone, Copy, Debug, PartialEq, Eq)]
 #[allow(non_camel_case_types)]
@@ -73,6 +76,10 @@ unsafe extern "C" {
         out: *mut u8,
         out_len: usize,
     ) -> kez_answer;
+    /// Rules 3.1 to 3.3, 14.1, 14.2, 14.8, 14.9.
+    pub fn kez_notepack_string_write(packed: *const u8, packed_len: usize, out: *mut u8, out_len: usize) -> kez_answer;
+    /// Rules 14.1, 14.3 to 14.7.
+    pub fn kez_notepack_string_read(text: *const u8, text_len: usize, out: *mut u8, out_len: usize) -> kez_answer;
     /// Rule 12.1.12.
     pub fn kez_version() -> u64;
     /// Rules 8.1 to 8.11.
@@ -101,10 +108,10 @@ unsafe extern "C" {
 pub fn kez_refusal_text(number: u64) -> &'static str {
     match number {
         0 => "Nothing is refused.",
-        1 => "The input is longer than 65,536 bytes.",
+        1 => "The input is longer than 65,536 bytes, or a string form holds more.",
         2 => "The packed event is cut short, or a length in it goes beyond its end.",
         3 => "A varint's tenth byte is neither 00 nor 01.",
-        4 => "The input ends inside a varint.",
+        4 => "The packed event ends inside a varint.",
         5 => "A text is not well-formed UTF-8.",
         6 => "The kind is above 65,535.",
         7 => "The time is above 9,223,372,036,854,775 seconds.",
@@ -123,11 +130,17 @@ pub fn kez_refusal_text(number: u64) -> &'static str {
         17 => "NSON can't carry this event.",
         18 => "Arrays and objects are nested more than 16 deep.",
         19 => "There is no such tag or element.",
+        20 => "The text does not start with notepack_.",
+        21 => {
+            "What follows notepack_ is not base64: a character outside its alphabet, \
+             a lone last one, or leftover bits that are not zero."
+        }
         _ => "There is no refusal with this number.",
     }
 }
 
-/// A refusal from 1 to 19: its number, and the place in the input where the fault was found; with 11 the length needed.
+/// A refusal from 1 to 21: its number, and the place in the input where the fault was found; with 11 the length needed.
+/// Where notepack_string_read tells one from 2 to 10, the place is in the bytes that its text holds.
 #[derive(Clone, Copy, Debug, PartialEq, Eq)]
 pub struct Refused {
     pub number: u64,
@@ -300,6 +313,18 @@ impl Iterator for Elements<'_> {
 }
 
 impl std::iter::FusedIterator for Elements<'_> {}
+
+/// Writes the string form of a packed event, which is ASCII; its length. An `out` of
+/// `9 + (4 * packed.len()).div_ceil(3)` bytes is always enough.
+pub fn notepack_string_write(packed: &[u8], out: &mut [u8]) -> Result<usize, Refused> {
+    write(kez_notepack_string_write, packed, out)
+}
+
+/// Reads a string form, and writes the packed event that it holds, byte for byte; its length. The event need not be
+/// strict. A line end that was pasted along is refused. An `out` as long as `text` is always enough.
+pub fn notepack_string_read(text: &[u8], out: &mut [u8]) -> Result<usize, Refused> {
+    write(kez_notepack_string_read, text, out)
+}
 
 /// The version of the library that is linked: 10,000 for a major one, 100 for a minor one, 1 for a patch.
 pub fn version() -> u64 {

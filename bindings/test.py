@@ -1,6 +1,7 @@
 """The NSON draft's event through the Python binding; then what the binding takes as input, its exceptions, its buffers,
 its descriptions, and how it finds the library. The last line is 'N passed, M failed'."""
 import array
+import base64
 import concurrent.futures
 import copy
 import ctypes
@@ -123,9 +124,47 @@ check("a blank", refusal(kez.kez_read_both, b'{"kind":1}'), (15, 9))
 check("empty", refusal(kez.kez_read_both, b""), (14, 0))
 check("too long for both", refusal(kez.kez_read_both, bytes(65537)), (1, 0))
 
+# The string form, by Python's own base64
+def string_form(data):
+    return b"notepack_" + base64.b64encode(data).rstrip(b"=")
+
+
+string = string_form(form)
+check("string form", kez.kez_notepack_string_write(form), string)
+check("read as a string form", kez.kez_notepack_string_read(string), form)
+with open("samples/record.string", "rb") as file:
+    sample = file.read()
+with open("samples/record.notepack", "rb") as file:
+    check("the draft's string form", kez.kez_notepack_string_read(sample), file.read())
+check("the draft's string form, written", kez.kez_notepack_string_write(kez.kez_notepack_string_read(sample)), sample)
+loose = bytes(128) + bytes.fromhex("8000 00 00 00")
+check("written strict", kez.kez_notepack_string_write(loose), string_form(bytes(132)))
+check("read as it is", kez.kez_notepack_string_read(string_form(loose)), loose)
+for n in range(6):
+    some = bytes(130) + varint(n) + b"\xc3\xbf" * (n // 2) + b"?" * (n % 2) + varint(0)
+    check("string form of %d bytes" % len(some), kez.kez_notepack_string_write(some), string_form(some))
+    check("string form of %d bytes, read" % len(some), kez.kez_notepack_string_read(string_form(some)), some)
+most = bytes(130) + varint(65402) + bytes(65403)
+check("the longest string form", (len(most), len(string_form(most))), (kez.KEZ_MOST, kez.KEZ_NOTEPACK_STRING_MOST))
+check("the longest string form, written", kez.kez_notepack_string_write(most), string_form(most))
+check("the longest string form, read", kez.kez_notepack_string_read(string_form(most)), most)
+for what, data, wanted in (
+        ("nothing", b"", (20, 0)), ("another prefix", b"Notepack_" + string[9:], (20, 0)),
+        ("the prefix", b"notepack_", (2, 0)),
+        ("a line end", string + b"\n", (21, len(string))), ("padding", string + b"=", (21, len(string))),
+        ("a blank", string[:20] + b" " + string[20:], (21, 20)), ("the URL-safe alphabet", b"notepack_AA-A", (21, 11)),
+        ("a lone last character", b"notepack_AAAAA", (21, 14)), ("leftover bits", b"notepack_AB", (21, 11)),
+        ("a fault before an odd length", b"notepack_AAAA-", (21, 13)), ("too much", string_form(bytes(65537)), (1, 0)),
+        ("a fault behind too much", string_form(bytes(66000)) + b"-", (21, 88009)),
+        ("a damaged record", string_form(form[:-1]), (2, form.index(b"wss:") - 1)),
+        ("more than a record", string_form(form + b"\0"), (10, len(form)))):
+    check("a string form: %s" % what, refusal(kez.kez_notepack_string_read, data), wanted)
+check("no event, as a string form", refusal(kez.kez_notepack_string_write, form[:-1]), (2, form.index(b"wss:") - 1))
+check("too long for a string form", refusal(kez.kez_notepack_string_write, bytes(65537)), (1, 0))
+
 # Input: bytes, and what shows itself as bytes. All entries take it by the same way.
 inputs = [name for name in dir(kez) if name.startswith("kez_") and name not in ("kez_refusal_text", "kez_version")]
-check("there are twelve entries", len(inputs), 12)
+check("there are fourteen entries", len(inputs), 14)
 indices = {"kez_notepack_tag_len": (0,), "kez_notepack_element": (0, 0)}
 
 
@@ -152,7 +191,8 @@ def mapped(data):
 
 wide = bytes(b for byte in form for b in (byte, 0))
 for name in inputs:
-    data = text if name in ("kez_nson_read", "kez_json_read", "kez_read_both") else form
+    texts = {"kez_nson_read": text, "kez_json_read": text, "kez_read_both": text, "kez_notepack_string_read": string}
+    data = texts.get(name, form)
     wanted = ask(name, data)
     for same in (bytearray(data), memoryview(data), mapped(data), array.array("B", data), Lying(data),
                  (ctypes.c_char * len(data))(*data), memoryview(b"x" + data + b"x")[1:-1]):
@@ -205,6 +245,8 @@ ctypes.create_string_buffer = lambda *words: made.append(words[0]) or make(*word
 for name, data, rooms in (("kez_notepack_write", form, [len(form)]), ("kez_canonical_write", form, [len(canonical)]),
                           ("kez_nson_write", form, [len(text)]), ("kez_nson_read", text, [len(form)]),
                           ("kez_json_read", text, [len(form)]), ("kez_read_both", text, [len(form)] * 2),
+                          ("kez_notepack_string_write", form, [len(string)]),
+                          ("kez_notepack_string_read", string, [len(form)]), ("kez_notepack_string_read", form, []),
                           ("kez_nson_write", bytes(132), []), ("kez_canonical_write", b"", [])):
     made.clear()
     raised(getattr(kez, name), data)

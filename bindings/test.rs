@@ -39,8 +39,10 @@ fn main() {
     assert!(read.refusal == 0 && first == alone && second == alone);
     safe_functions(&record, &text).expect("nothing here is refused");
     all_elements(&record).expect("nothing here is refused");
-    println!("{KEZ_VERSION} {KEZ_MOST} {KEZ_CANONICAL_MOST} {KEZ_ELEMENT_BYTES} {KEZ_ELEMENTS_MOST}");
-    for number in 0..22 {
+    string_form(&record).expect("nothing here is refused");
+    print!("{KEZ_VERSION} {KEZ_MOST} {KEZ_CANONICAL_MOST} {KEZ_NOTEPACK_STRING_MOST} ");
+    println!("{KEZ_ELEMENT_BYTES} {KEZ_ELEMENTS_MOST}");
+    for number in 0..24 {
         println!("{}", kez_refusal_text(number));
     }
 }
@@ -89,6 +91,41 @@ fn safe_functions(record: &[u8], text: &[u8]) -> Result<(), Box<dyn std::error::
     let any: Box<dyn std::error::Error + Send + Sync> = refused.into();
     assert_eq!(any.to_string(), format!("refused 2 at 204: {}", kez_refusal_text(2)));
     assert_eq!(any.downcast_ref(), Some(&refused));
+    Ok(())
+}
+
+/// The draft's string form, there and back; bytes that are not strict; the longest; refusals, which leave the buffer.
+fn string_form(record: &[u8]) -> Result<(), Refused> {
+    let text = std::fs::read("samples/record.string").expect("run this in the repository's root");
+    assert_eq!(written(notepack_string_write, record)?, text);
+    assert_eq!(written(notepack_string_read, &text)?, record);
+    let loose = [&[0; 128][..], &[0x80, 0, 0, 0, 0]].concat();
+    assert_eq!(written(notepack_string_write, &loose)?, [&b"notepack_"[..], &[b'A'; 176]].concat());
+    let as_it_is = [&b"notepack_"[..], &[b'A'; 170], b"CAAAAAAA"].concat();
+    assert_eq!(written(notepack_string_read, &as_it_is)?, loose);
+    let most = [&[0; 130][..], &[0xfa, 0xfe, 3], &[0; 65403]].concat();
+    let longest = written(notepack_string_write, &most)?;
+    assert_eq!((most.len(), longest.len()), (KEZ_MOST, KEZ_NOTEPACK_STRING_MOST));
+    assert_eq!(written(notepack_string_read, &longest)?, most);
+    let pasted = [&text[..], b"\n"].concat();
+    let url_safe = [&text[..30], b"-", &text[31..]].concat();
+    let too_much = [&longest[..], b"A"].concat();
+    for (bad, number, place) in [
+        (&[][..], 20, 0),
+        (b"notepack", 20, 0),
+        (b"notepack_", 2, 0),
+        (&pasted, 21, text.len()),
+        (&url_safe, 21, 30),
+        (&text[..text.len() - 1], 21, text.len() - 1),
+        (b"notepack_AAAAA", 21, 14),
+        (&too_much, 1, 0),
+        (&text[..193], 2, 134),
+    ] {
+        let mut out = vec![0xa5; KEZ_MOST];
+        assert_eq!(notepack_string_read(bad, &mut out), Err(Refused { number, place: place as u64 }));
+        assert!(out.iter().all(|b| *b == 0xa5));
+    }
+    assert_eq!(notepack_string_write(&record[..200], &mut []), Err(Refused { number: 2, place: 177 }));
     Ok(())
 }
 

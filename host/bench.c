@@ -1,9 +1,9 @@
 /* Nanoseconds for a call of each entry on its records: the library as linked, host/reference by its shared library
  * (first word), a plain memcpy, the JSON parsers of the shared library of host/peers.cc (second word, `-`: none), and
- * a program that takes `--bench ENTRY FILE N` (third word, may be missing). The parsers take the text that
- * kez_json_read takes, and only parse it. The table is gone through several times and the best figure of each kept, so
- * that a busy moment of the machine does not count. It goes to standard output, and its figures line by line to
- * target/host/bench.tsv. */
+ * a program that takes `--bench ENTRY FILE N` (third word, may be missing; NAMES, a sed script, turns an entry's name
+ * into its own). The parsers take the text that kez_json_read takes, and only parse it. The table is gone through
+ * several times and the best figure of each kept, so that a busy moment of the machine does not count. It goes to
+ * standard output, and its figures line by line to target/host/bench.tsv. */
 #define _GNU_SOURCE
 #include "kezubimoryu.h"
 
@@ -17,14 +17,18 @@ enum { PASSES = 12, ROUNDS = 3, ROUND_NS = 1500000, ROOM = KEZ_ELEMENTS_MOST };
 
 /* Records */
 
+/* The forms that an entry can take. */
+typedef enum { PACKED, NSON, STRING, FORMS } form;
+
 typedef struct {
     const char *name;
-    const char *only; /* the one entry that it is for, or NULL */
-    uint8_t packed[69632], text[69632];
-    size_t packed_len, text_len;
+    const char *only; /* the entries that it is for: their names start so; NULL: all */
+    uint64_t refusal; /* what they refuse it with */
+    uint8_t packed[69632], text[69632], string[94208];
+    size_t packed_len, text_len, string_len;
 } __attribute__((aligned(4096))) record;
 
-static record records[8];
+static record records[13];
 
 static void put(record *r, const void *part, size_t len)
 {
@@ -100,6 +104,28 @@ static void make_empty_texts(record *r, const char *name)
     }
 }
 
+/* A record of `size` bytes that is not strict: its time is a byte longer than it need be. */
+static void make_loose(record *r, const char *name, size_t size, size_t tags, const char *text)
+{
+    make(r, name, size - 1, tags, text);
+    memmove(r->packed + 134, r->packed + 133, r->packed_len++ - 133);
+    r->packed[132] |= 0x80;
+    r->packed[133] = 0;
+}
+
+/* The string form of the bytes as they are. */
+static void spell(record *r)
+{
+    static const char alphabet[] = "ABCDEFGHIJKLMNOPQRSTUVWXYZabcdefghijklmnopqrstuvwxyz0123456789+/";
+    memcpy(r->string, "notepack_", 9);
+    r->string_len = 9;
+    for (size_t bit = 0; bit < 8 * r->packed_len; bit += 6) {
+        unsigned next = bit / 8 + 1 < r->packed_len ? r->packed[bit / 8 + 1] : 0;
+        unsigned two = (unsigned)r->packed[bit / 8] << 8 | next;
+        r->string[r->string_len++] = (uint8_t)alphabet[two >> (10 - bit % 8) & 63];
+    }
+}
+
 /* Entries */
 
 typedef enum { READS, ASKS, WRITES, COUNTS, SHOWS, LISTS, BOTH, RIVALS, PARSES, COPIES } shape;
@@ -118,22 +144,24 @@ typedef struct {
     const char *name, *symbol;
     shape shape;
     void *function;
-    int from_text; /* takes the record as NSON, not packed */
+    form takes;
 } entry;
 
 static const entry entries[] = {
-    {"read", "kez_notepack_read", READS, kez_notepack_read, 0},
-    {"strict", "kez_notepack_is_strict", ASKS, kez_notepack_is_strict, 0},
-    {"pack", "kez_notepack_write", WRITES, kez_notepack_write, 0},
-    {"tag_len", "kez_notepack_tag_len", COUNTS, kez_notepack_tag_len, 0},
-    {"element", "kez_notepack_element", SHOWS, kez_notepack_element, 0},
-    {"elements", "kez_notepack_elements", LISTS, kez_notepack_elements, 0},
-    {"canonical", "kez_canonical_write", WRITES, kez_canonical_write, 0},
-    {"nson_write", "kez_nson_write", WRITES, kez_nson_write, 0},
-    {"nson_read", "kez_nson_read", WRITES, kez_nson_read, 1},
-    {"json_read", "kez_json_read", WRITES, kez_json_read, 1},
-    {"read_both", "kez_read_both", BOTH, kez_read_both, 1},
-    {"rivals", "kez_rivals", RIVALS, kez_rivals, 0},
+    {"read", "kez_notepack_read", READS, kez_notepack_read, PACKED},
+    {"strict", "kez_notepack_is_strict", ASKS, kez_notepack_is_strict, PACKED},
+    {"pack", "kez_notepack_write", WRITES, kez_notepack_write, PACKED},
+    {"tag_len", "kez_notepack_tag_len", COUNTS, kez_notepack_tag_len, PACKED},
+    {"element", "kez_notepack_element", SHOWS, kez_notepack_element, PACKED},
+    {"elements", "kez_notepack_elements", LISTS, kez_notepack_elements, PACKED},
+    {"canonical", "kez_canonical_write", WRITES, kez_canonical_write, PACKED},
+    {"nson_write", "kez_nson_write", WRITES, kez_nson_write, PACKED},
+    {"nson_read", "kez_nson_read", WRITES, kez_nson_read, NSON},
+    {"json_read", "kez_json_read", WRITES, kez_json_read, NSON},
+    {"read_both", "kez_read_both", BOTH, kez_read_both, NSON},
+    {"rivals", "kez_rivals", RIVALS, kez_rivals, PACKED},
+    {"string_write", "kez_notepack_string_write", WRITES, kez_notepack_string_write, PACKED},
+    {"string_read", "kez_notepack_string_read", WRITES, kez_notepack_string_read, STRING},
 };
 
 /* Who is measured. The parsers stand beside the JSON reader alone. */
@@ -170,42 +198,43 @@ static double now(void)
     return 1e9 * (double)t.tv_sec + (double)t.tv_nsec;
 }
 
-/* One call; 1 if it refuses. */
-static int call(const entry *e, const uint8_t *in, size_t len)
+/* One call: what it refuses with. */
+static uint64_t call(const entry *e, const uint8_t *in, size_t len)
 {
     uint64_t *n = numbers;
     switch (e->shape) {
-    case READS: return ((reads *)e->function)(in, len, n, n + 1, n + 2, n + 3, n + 4).refusal != 0;
-    case ASKS: return ((asks *)e->function)(in, len).refusal != 0;
-    case WRITES: return ((writes *)e->function)(in, len, out, (size_t)ROOM).refusal != 0;
-    case COUNTS: return ((counts *)e->function)(in, len, 1).refusal != 0;
-    case SHOWS: return ((shows *)e->function)(in, len, 1, 1, n, n + 1, n + 2).refusal != 0;
-    case LISTS: return ((lists *)e->function)(in, len, 0, out, (size_t)ROOM).refusal != 0;
-    case BOTH: return ((both *)e->function)(in, len, out, (size_t)ROOM / 2, out + ROOM / 2, (size_t)ROOM / 2, n).refusal != 0;
-    case RIVALS: return ((rivals *)e->function)(in, len, in, len).refusal != 0;
+    case READS: return ((reads *)e->function)(in, len, n, n + 1, n + 2, n + 3, n + 4).refusal;
+    case ASKS: return ((asks *)e->function)(in, len).refusal;
+    case WRITES: return ((writes *)e->function)(in, len, out, (size_t)ROOM).refusal;
+    case COUNTS: return ((counts *)e->function)(in, len, 1).refusal;
+    case SHOWS: return ((shows *)e->function)(in, len, 1, 1, n, n + 1, n + 2).refusal;
+    case LISTS: return ((lists *)e->function)(in, len, 0, out, (size_t)ROOM).refusal;
+    case BOTH:
+        return ((both *)e->function)(in, len, out, (size_t)ROOM / 2, out + ROOM / 2, (size_t)ROOM / 2, n).refusal;
+    case RIVALS: return ((rivals *)e->function)(in, len, in, len).refusal;
     case PARSES: return !((parses *)e->function)(in, len);
     default: memcpy(out, in, len); return 0;
     }
 }
 
-/* How many of so many calls refuse, so that none is left out. */
-static uint64_t run(const entry *e, const uint8_t *in, size_t len, uint64_t calls)
+/* How many of so many calls refuse with another number, so that none is left out. */
+static uint64_t run(const entry *e, const uint8_t *in, size_t len, uint64_t refusal, uint64_t calls)
 {
     uint64_t sum = 0;
     for (uint64_t i = 0; i < calls; i++) {
-        sum += (uint64_t)call(e, in, len);
+        sum += call(e, in, len) != refusal;
         __asm__ volatile("" : : "r"(out) : "memory");
     }
     return sum;
 }
 
 /* Nanoseconds for a call in one round; `calls` grows until a round is long enough. */
-static double round_of(const entry *e, const uint8_t *in, size_t len, uint64_t *calls)
+static double round_of(const entry *e, const uint8_t *in, size_t len, uint64_t refusal, uint64_t *calls)
 {
     for (;;) {
         double start = now();
-        if (run(e, in, len, *calls)) {
-            printf("%s refuses a record\n", e->name);
+        if (run(e, in, len, refusal, *calls)) {
+            printf("%s answers a record of %zu bytes with another refusal than %d\n", e->name, len, (int)refusal);
             exit(1);
         }
         double took = now() - start;
@@ -230,7 +259,8 @@ static double by_program(const char *program, const char *kind, const uint8_t *i
     FILE *f = fopen(file, "wb");
     if (!f || fwrite(in, 1, len, f) != len || fclose(f))
         return 0;
-    snprintf(command, sizeof command, "'%s' --bench %s %s %llu 2> /dev/null", program, kind, file, (unsigned long long)calls);
+    snprintf(command, sizeof command, "'%s' --bench \"$(echo %s | sed \"$NAMES\")\" %s %llu 2> /dev/null", program,
+             kind, file, (unsigned long long)calls);
     FILE *said = popen(command, "r");
     if (!said || fscanf(said, "%lf", &ns) != 1)
         ns = 0;
@@ -247,14 +277,16 @@ typedef struct {
 
 static void measure(row *best, const entry *e, const record *r, void *reference, void *peers, const char *program)
 {
-    const uint8_t *in = e->from_text ? r->text : r->packed;
+    const uint8_t *const forms[FORMS] = {r->packed, r->text, r->string}, *in = forms[e->takes];
+    const size_t lengths[FORMS] = {r->packed_len, r->text_len, r->string_len};
     uint64_t calls = 16;
-    best->len = e->from_text ? r->text_len : r->packed_len;
+    best->len = lengths[e->takes];
     for (int who = 0; who < PROGRAM; who++) {
         entry o = by(e, who, reference, peers);
+        uint64_t refusal = o.shape == COPIES || o.shape == PARSES ? 0 : r->refusal;
         calls = 16;
         for (int i = 0; i < ROUNDS && o.function; i++)
-            keep_best(&best->ns[who], round_of(&o, in, best->len, &calls));
+            keep_best(&best->ns[who], round_of(&o, in, best->len, refusal, &calls));
     }
     double ns = program ? by_program(program, e->name, in, best->len, calls) : 0;
     if (ns > 0)
@@ -265,7 +297,7 @@ static void measure(row *best, const entry *e, const record *r, void *reference,
 static int is_for(const record *r, const entry *e)
 {
     if (r->only)
-        return !strcmp(r->only, e->name);
+        return !strncmp(r->only, e->name, strlen(r->only));
     return e->shape != LISTS || r->packed_len <= 4000;
 }
 
@@ -279,7 +311,7 @@ static void print(row rows[ENTRIES][RECORDS])
         for (int j = 0; j < RECORDS; j++)
             for (int who = 0; who < ALL; who++)
                 shown[who] |= rows[i][j].ns[who] > 0;
-    printf("nanoseconds for a call\n%-10s  %-12s %6s", "entry", "record", "bytes");
+    printf("nanoseconds for a call\n%-12s  %-12s %6s", "entry", "record", "bytes");
     for (int who = 0; who < ALL; who++)
         if (shown[who])
             printf("  %10s", names[who]);
@@ -291,7 +323,7 @@ static void print(row rows[ENTRIES][RECORDS])
             const row *b = &rows[i][j];
             if (!b->len)
                 continue;
-            printf("%-10s  %-12s %6zu", entries[i].name, records[j].name, b->len);
+            printf("%-12s  %-12s %6zu", entries[i].name, records[j].name, b->len);
             for (int who = 0; who < ALL; who++) {
                 if (b->ns[who] > 0)
                     printf("  %10.1f", b->ns[who]);
@@ -304,6 +336,42 @@ static void print(row rows[ENTRIES][RECORDS])
         }
     if (figures)
         fclose(figures);
+}
+
+/* Records for one entry, or for those of string forms: not strict, and refused as late as can be. */
+static void make_special(void)
+{
+    static const char large[] = "Threshold 42 dB at 1000 Hz, comfort 61 dB; the next visit is in spring.\n";
+    make(&records[4], "plain", 60000, 0, "Threshold 42 dB at 1000 Hz, comfort 61 dB; the next visit is in spring. ");
+    make(&records[5], "lines of 80", 60000, 0,
+         "Threshold 42 dB at 1000 Hz, comfort 61 dB; the next visit is in spring, at ten.\n");
+    make_hex(&records[6], "hex in tags", 1000);
+    for (int j = 4; j < 7; j++)
+        records[j].only = "canonical";
+    make_empty_texts(&records[7], "empty texts");
+    records[7].only = "elements";
+    make_loose(&records[8], "small loose", 300, 2, "A map for the left ear. ");
+    make_loose(&records[9], "middle loose", 4000, 16, "Threshold 42 dB at 1000 Hz, \"comfort\" 61 dB.\n");
+    make_loose(&records[10], "large loose", 60000, 16, large);
+    make(&records[11], "refused late", 59999, 16, large);
+    put(&records[11], "", 1);
+    records[11].refusal = 10;
+    for (int j = 8; j < 12; j++)
+        records[j].only = "string_";
+    make(&records[12], "last outside", 60000, 16, large);
+    records[12].refusal = 21;
+    records[12].only = "string_read";
+}
+
+/* The other forms of each record. */
+static void make_forms(writes *nson_write)
+{
+    for (int j = 0; j < RECORDS; j++) {
+        record *r = &records[j];
+        r->text_len = nson_write(r->packed, r->packed_len, r->text, sizeof r->text).value;
+        spell(r);
+    }
+    records[12].string[records[12].string_len - 1] = '=';
 }
 
 int main(int count, char **words)
@@ -321,17 +389,8 @@ int main(int count, char **words)
     make(&records[1], "middle", 4000, 16, "Threshold 42 dB at 1000 Hz, \"comfort\" 61 dB.\n");
     make(&records[2], "large", 60000, 16, "Threshold 42 dB at 1000 Hz, comfort 61 dB; the next visit is in spring.\n");
     make(&records[3], "not ASCII", 60000, 16, "Порог слышимости 42 дБ при 1000 Гц — 聴力検査の結果は良好です 👂\n");
-    make(&records[4], "plain", 60000, 0, "Threshold 42 dB at 1000 Hz, comfort 61 dB; the next visit is in spring. ");
-    make(&records[5], "lines of 80", 60000, 0, "Threshold 42 dB at 1000 Hz, comfort 61 dB; the next visit is in spring, at ten.\n");
-    make_hex(&records[6], "hex in tags", 1000);
-    for (int j = 4; j < 7; j++)
-        records[j].only = "canonical";
-    make_empty_texts(&records[7], "empty texts");
-    records[7].only = "elements";
-    for (int j = 0; j < RECORDS; j++) {
-        record *r = &records[j];
-        r->text_len = nson_write(r->packed, r->packed_len, r->text, sizeof r->text).value;
-    }
+    make_special();
+    make_forms(nson_write);
     for (int pass = 0; pass < PASSES; pass++)
         for (int i = 0; i < ENTRIES; i++)
             for (int j = 0; j < RECORDS; j++)

@@ -140,7 +140,7 @@ static void check_numbers(int lent, kez_answer a)
 
 static void check_answer(kez_answer a)
 {
-    if (a.refusal > 19)
+    if (a.refusal > 21)
         wrong("has a refusal that does not exist");
 }
 
@@ -375,6 +375,8 @@ static const kind kinds[] = {
     {"nson_write", 2, do_write, kez_nson_write},
     {"nson_read", 2, do_write, kez_nson_read},
     {"json_read", 2, do_write, kez_json_read},
+    {"string_write", 2, do_write, kez_notepack_string_write},
+    {"string_read", 2, do_write, kez_notepack_string_read},
     {"read_both", 2, do_both, NULL},
     {"rivals", 2, do_rivals, NULL},
 };

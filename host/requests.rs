@@ -1,5 +1,5 @@
 //! Requests of the line protocol, always the same for the same words: requests SEED COUNT [KIND..]; without a kind all
-//! of them.
+//! of them. `requests changes` is every change of one character of the vector's string form.
 //!
 //! Three parts: each limit of docs/RULES.md, met and passed; samples cut and changed at every place; then random
 //! inputs. Where COUNT is small the first two are thinned, evenly. The encoders here can also write what no encoder
@@ -17,6 +17,8 @@ mod event;
 mod json;
 #[path = "requests/notepack.rs"]
 mod notepack;
+#[path = "requests/string_form.rs"]
+mod string_form;
 #[path = "requests/texts.rs"]
 mod texts;
 
@@ -26,14 +28,21 @@ use std::io::{self, Write};
 
 fn main() -> io::Result<()> {
     let words: Vec<String> = std::env::args().skip(1).collect();
+    if words == ["changes"] {
+        return print(string_form::changes());
+    }
     let number = |i: usize| words.get(i).and_then(|w| w.parse::<u64>().ok());
     let (Some(seed), Some(count)) = (number(0), number(1)) else {
-        eprintln!("usage: requests SEED COUNT [KIND..]");
+        eprintln!("usage: requests SEED COUNT [KIND..] | requests changes");
         std::process::exit(2);
     };
-    let mut out = io::BufWriter::with_capacity(1 << 20, io::stdout().lock());
     let kinds: Vec<String> = if words.len() > 2 { words[2..].to_vec() } else { ALL.iter().map(|kind| kind.to_string()).collect() };
-    for line in requests(seed, count as usize, &kinds) {
+    print(requests(seed, count as usize, &kinds))
+}
+
+fn print(lines: impl Iterator<Item = String>) -> io::Result<()> {
+    let mut out = io::BufWriter::with_capacity(1 << 20, io::stdout().lock());
+    for line in lines {
         out.write_all(line.as_bytes())?;
         out.write_all(b"\n")?;
     }
@@ -75,14 +84,14 @@ fn thinned(lines: Vec<String>, most: usize) -> Vec<String> {
 }
 
 /// Every kind of request.
-const ALL: [&str; 13] = [
+const ALL: [&str; 15] = [
     "read", "strict", "pack", "content", "element", "elements", "lister", "canonical", "nson_write", "nson_read",
-    "json_read", "rivals", "read_both",
+    "json_read", "string_write", "string_read", "rivals", "read_both",
 ];
 
 /// Kinds whose input is a packed event.
-const PACKED: [&str; 9] =
-    ["read", "strict", "pack", "content", "element", "elements", "lister", "canonical", "nson_write"];
+const PACKED: [&str; 10] =
+    ["read", "strict", "pack", "content", "element", "elements", "lister", "canonical", "nson_write", "string_write"];
 
 struct Requests {
     dice: Dice,
@@ -110,7 +119,7 @@ impl Requests {
             let first = if self.dice.percent(50) { within } else { self.dice.pick(&firsts(e)) };
             format!(" {first} {}", self.dice.pick(&rooms(e)))
         } else if writes(kind) {
-            let need = needed(kind, e);
+            let need = needed(kind, input, e);
             let room = match self.dice.below(16) {
                 0 => 0,
                 1..=3 => need.saturating_sub(1),
@@ -159,7 +168,7 @@ impl Requests {
                     self.line(kind, input, &format!(" {} {}", firsts[i], rooms[(i + turn) % 7]));
                 }
             } else if writes(kind) {
-                let need = needed(kind, e);
+                let need = needed(kind, input, e);
                 for room in [need, need.saturating_sub(1), 0, need + 9] {
                     self.line(kind, input, &format!(" {room}"));
                 }
@@ -187,7 +196,7 @@ impl Requests {
 
 /// Does the kind write into a lent buffer?
 fn writes(kind: &str) -> bool {
-    ["pack", "canonical", "nson_write", "nson_read", "json_read"].contains(&kind)
+    ["pack", "canonical", "nson_write", "nson_read", "json_read", "string_write", "string_read"].contains(&kind)
 }
 
 /// How many texts the tags of this event have together.
@@ -209,9 +218,11 @@ fn rooms(e: &Event) -> [usize; 7] {
     [0, 15, 16, 17, 16 * (all / 2) + 7, 16 * all, 16 * all + 47]
 }
 
-/// The length that the kind writes for this event.
-fn needed(kind: &str, e: &Event) -> usize {
+/// The length that the kind writes for this event. What is decoded need not be strict: its length is the text's affair.
+fn needed(kind: &str, input: &[u8], e: &Event) -> usize {
     match kind {
+        "string_write" => string_form::string_len(notepack::strict(e).len()),
+        "string_read" => string_form::decoded_len(input.len()),
         "canonical" => texts::canonical(e).len(),
         "nson_write" => texts::Nson::of(e).spelled().len(),
         _ => notepack::strict(e).len(),

@@ -11,7 +11,7 @@
 enum { MOST = KEZ_MOST, CALLS = 15 };
 
 typedef struct {
-    uint8_t at[2 * MOST];
+    uint8_t at[1 << 20];
     size_t len;
 } bytes;
 
@@ -52,7 +52,7 @@ static void put_varint(uint64_t n)
 
 /* Times */
 
-static uint8_t out[KEZ_CANONICAL_MOST], beside[MOST];
+static uint8_t out[KEZ_ELEMENTS_MOST], beside[MOST];
 static uint64_t numbers[5];
 static uint64_t tag, element; /* what kez_notepack_element is asked for */
 
@@ -80,7 +80,7 @@ static void measure(const char *entry, call *of, const char *what)
             best = took;
     }
     char said[160];
-    snprintf(said, sizeof said, "%-22s %-44s %6zu bytes %8.1f", entry, what, record.len, best);
+    snprintf(said, sizeof said, "%-25s %-44s %7zu bytes %8.1f", entry, what, record.len, best);
     if (a.refusal)
         printf("%s  refused %d at %d\n", said, (int)a.refusal, (int)a.value);
     else
@@ -213,9 +213,30 @@ static kez_answer show_element(void)
 {
     return kez_notepack_element(record.at, record.len, tag, element, numbers, numbers + 1, numbers + 2);
 }
+static kez_answer show_elements(void)
+{
+    return kez_notepack_elements(record.at, record.len, 0, out, sizeof out);
+}
 static kez_answer rivals(void) { return kez_rivals(record.at, record.len, record.at, record.len); }
+static kez_answer string_write(void) { return kez_notepack_string_write(record.at, record.len, out, sizeof out); }
+static kez_answer string_read(void) { return kez_notepack_string_read(record.at, record.len, out, MOST); }
 
-/* The packed event, and its NSON where there is one. */
+/* The record becomes the string form of its bytes. */
+static void spell(void)
+{
+    static const char alphabet[] = "ABCDEFGHIJKLMNOPQRSTUVWXYZabcdefghijklmnopqrstuvwxyz0123456789+/";
+    static bytes packed;
+    packed = record;
+    record.len = 0;
+    put_text("notepack_");
+    for (size_t bit = 0; bit < 8 * packed.len; bit += 6) {
+        unsigned next = bit / 8 + 1 < packed.len ? packed.at[bit / 8 + 1] : 0;
+        unsigned two = (unsigned)packed.at[bit / 8] << 8 | next;
+        fill((uint8_t)alphabet[two >> (10 - bit % 8) & 63], 1);
+    }
+}
+
+/* The packed event, its string form, and its NSON where there is one. */
 static void packed_is_slow(const char *what)
 {
     measure("kez_notepack_read", pack_read, what);
@@ -225,11 +246,16 @@ static void packed_is_slow(const char *what)
     measure("kez_nson_write", nson_write, what);
     measure("kez_notepack_tag_len", tag_len, what);
     measure("kez_notepack_element", show_element, what);
+    measure("kez_notepack_elements", show_elements, what);
+    measure("kez_notepack_string_write", string_write, what);
     measure("kez_rivals", rivals, what);
     kez_answer a = nson_write();
+    memcpy(beside, out, a.refusal ? 0 : a.value);
+    spell();
+    measure("kez_notepack_string_read", string_read, what);
     if (a.refusal)
         return;
-    memcpy(record.at, out, a.value);
+    memcpy(record.at, beside, a.value);
     record.len = a.value;
     text_is_slow(what);
 }
@@ -292,11 +318,34 @@ static void packed(void)
     packed_tags("tags of d and an empty text", UNIT("\x02""d"), 2);
 }
 
+/* Texts that are no string form, up to a megabyte: their length has no limit, and all of it may have to be seen. */
+static void not_strings(void)
+{
+    static const struct {
+        const char *what;
+        size_t len;
+        char last;
+    } cases[] = {
+        {"the longest, its last character outside", KEZ_NOTEPACK_STRING_MOST, '='},
+        {"a megabyte of A, its last outside", 1 << 20, '='},
+        {"a megabyte of A, bits left over", 1 << 20, 'B'},
+        {"a megabyte of A, too many bytes", 1 << 20, 'A'},
+    };
+    for (size_t i = 0; i < sizeof cases / sizeof *cases; i++) {
+        record.len = 0;
+        put_text("notepack_");
+        fill('A', cases[i].len - 10);
+        fill((uint8_t)cases[i].last, 1);
+        measure("kez_notepack_string_read", string_read, cases[i].what);
+    }
+}
+
 int main(void)
 {
-    printf("%-22s %-44s %12s %8s\n", "entry", "record", "", "us");
+    printf("%-25s %-44s %13s %8s\n", "entry", "record", "", "us");
     texts();
     packed();
+    not_strings();
     printf("slowest: %s\n", slowest_said);
     return 0;
 }

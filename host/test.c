@@ -24,7 +24,7 @@ static int passed, failed;
 /* Bytes that are put together */
 
 typedef struct {
-    uint8_t at[70000];
+    uint8_t at[200100];
     size_t len;
 } bytes;
 
@@ -48,6 +48,18 @@ static void put_varint(bytes *b, uint64_t n)
 }
 
 #define PUT(b, text) put(b, text, sizeof(text) - 1)
+
+/* These bytes as a string form: notepack_ and base64 (rule 14.1), six bits after six bits. */
+static void string_of(bytes *text, const uint8_t *s, size_t len)
+{
+    static const char alphabet[] = "ABCDEFGHIJKLMNOPQRSTUVWXYZabcdefghijklmnopqrstuvwxyz0123456789+/";
+    text->len = 0;
+    PUT(text, "notepack_");
+    for (size_t bit = 0; bit < 8 * len; bit += 6) {
+        unsigned two = (unsigned)s[bit / 8] << 8 | (bit / 8 + 1 < len ? s[bit / 8 + 1] : 0);
+        fill(text, (uint8_t)alphabet[two >> (10 - bit % 8) & 63], 1);
+    }
+}
 
 /* zero id, pubkey and sig */
 static void start(bytes *b)
@@ -76,7 +88,7 @@ static const struct {
     {201, 1, 0}, {202, 1, 1}, {204, 1, 32},               /* the second */
 };
 
-static bytes vector;
+static bytes vector, vector_string;
 
 static void make_vector(void)
 {
@@ -87,11 +99,16 @@ static void make_vector(void)
     fill(&vector, 0xaa, 32);
     PUT(&vector, "\x2ewss://relay.example.com\x02\x02p\x41");
     fill(&vector, 0xbb, 32);
+    PUT(&vector_string,
+        "notepack_AAAAAAAAAAAAAAAAAAAAAAAAAAAAAAAAAAAAAAAAAAARERERERERERERERERERERERERERERERERERERERERESIiIiI"
+        "iIiIiIiIiIiIiIiIiIiIiIiIiIiIiIiIiIiIiIiIiIiIiIiIiIiIiIiIiIiIiIiIiIiIiIiIiIiIiIiKAvJS0BgAFaGVsbG8CAwJ"
+        "lQaqqqqqqqqqqqqqqqqqqqqqqqqqqqqqqqqqqqqqqqqqqLndzczovL3JlbGF5LmV4YW1wbGUuY29tAgJwQbu7u7u7u7u7u7u7u7u"
+        "7u7u7u7u7u7u7u7u7u7u7u7u7");
 }
 
 /* Lent things that must keep what they hold */
 
-static uint8_t room[70000];
+static uint8_t room[90000];
 static uint64_t numbers[5];
 
 static uint8_t mark(size_t i)
@@ -140,9 +157,11 @@ static int is(kez_answer a, uint64_t refusal, uint64_t value)
 
 /* What is asked of many inputs */
 
-/* Every entry refuses the input so, and leaves alone what it was lent. */
+/* Every entry refuses the input so, and leaves alone what it was lent. Of its string form the place is the same. */
 static void refused(const uint8_t *s, size_t len, uint64_t refusal, uint64_t place)
 {
+    static bytes text;
+    string_of(&text, s, len);
     lend();
     kez_answer all[] = {
         read_it(s, len),
@@ -154,6 +173,10 @@ static void refused(const uint8_t *s, size_t len, uint64_t refusal, uint64_t pla
         element_of(s, len, UINT64_MAX, UINT64_MAX),
         kez_notepack_elements(s, len, 0, room, sizeof room),
         kez_notepack_elements(s, len, UINT64_MAX, NULL, 0),
+        kez_notepack_string_write(s, len, room, sizeof room),
+        kez_notepack_string_write(s, len, NULL, 0),
+        kez_notepack_string_read(text.at, text.len, room, sizeof room),
+        kez_notepack_string_read(text.at, text.len, NULL, 0),
     };
     for (size_t i = 0; i < sizeof all / sizeof *all; i++)
         CHECK(is(all[i], refusal, place), "entry %zu on %zu bytes: %d at %d, not %d at %d", i, len, (int)all[i].refusal,
@@ -189,12 +212,18 @@ static void writes(writer *entry, const bytes *b, const bytes *form)
     CHECK(untouched(), "without room something was written");
 }
 
-/* The strict form, and whether the input is that. */
+/* The strict form, and whether the input is that. The string form is the strict form's; that of the input itself is
+ * read as the input. */
 static void strict_form(const bytes *b, const bytes *form)
 {
+    static bytes text;
     uint64_t yes = b->len == form->len && !memcmp(b->at, form->at, b->len);
     CHECK(is(kez_notepack_is_strict(b->at, b->len), 0, yes), "%zu bytes", b->len);
     writes(kez_notepack_write, b, form);
+    string_of(&text, form->at, form->len);
+    writes(kez_notepack_string_write, b, &text);
+    string_of(&text, b->at, b->len);
+    writes(kez_notepack_string_read, &text, b);
 }
 
 /* Element `element` of tag `tag` stands there, with this b. */
@@ -684,6 +713,123 @@ static void json_read(void)
     }
 }
 
+/* The vector's string form, and each place where it can be cut: 20 in the prefix, 21 for a lone character or for bits
+ * left over, which are the first bits of the byte that is missing; else what the bytes are read as. */
+static void string_form(void)
+{
+    static bytes text;
+    CHECK(vector_string.len == 325, "%zu", vector_string.len);
+    writes(kez_notepack_string_write, &vector, &vector_string);
+    writes(kez_notepack_string_read, &vector_string, &vector);
+    text = vector_string;
+    for (size_t len = 0; len < vector_string.len; len++) {
+        text.len = len;
+        size_t chars = len < 9 ? 0 : len - 9, whole = chars * 3 / 4;
+        int bits = chars % 4 == 2 ? vector.at[whole] >> 4 : chars % 4 == 3 ? vector.at[whole] >> 6 : 0;
+        if (len < 9) {
+            refuses(kez_notepack_string_read, &text, 20, 0);
+        } else if (chars % 4 == 1 || bits) {
+            refuses(kez_notepack_string_read, &text, 21, len);
+        } else {
+            kez_answer a = read_it(vector.at, whole);
+            refuses(kez_notepack_string_read, &text, a.refusal, a.value);
+        }
+    }
+}
+
+/* Bytes outside the alphabet, among them all that stand beside its letters and digits, at each place of the vector's
+ * string form; the first of two counts, and it counts before a lone character and bits left over. */
+static void outside_the_alphabet(void)
+{
+    static const char bytes_outside[] = "\0\t\n\r !*,-.:@[_`{~=\x7f\x80\xc1\xff";
+    static bytes text;
+    for (size_t at = 0; at < vector_string.len; at++)
+        for (size_t i = 0; i < sizeof bytes_outside - 1; i++) {
+            text = vector_string;
+            if (text.at[at] == (uint8_t)bytes_outside[i])
+                continue;
+            text.at[at] = (uint8_t)bytes_outside[i];
+            refuses(kez_notepack_string_read, &text, at < 9 ? 20 : 21, at < 9 ? 0 : at);
+        }
+    text = vector_string;
+    text.at[324] = '=';
+    text.at[100] = '-';
+    refuses(kez_notepack_string_read, &text, 21, 100);
+    text = vector_string;
+    PUT(&text, "\n");
+    refuses(kez_notepack_string_read, &text, 21, 325);
+    text.at[0] = 'N';
+    refuses(kez_notepack_string_read, &text, 20, 0);
+    text = vector_string;
+    PUT(&text, "B-");
+    refuses(kez_notepack_string_read, &text, 21, 326);
+    text.len = 326;
+    refuses(kez_notepack_string_read, &text, 21, 326);
+    PUT(&text, "B");
+    refuses(kez_notepack_string_read, &text, 21, 327);
+}
+
+/* Events whose packed bytes are 136, 137 and 138: every value of the bits left over. Only 0 is read. */
+static void left_over(void)
+{
+    static const char alphabet[] = "ABCDEFGHIJKLMNOPQRSTUVWXYZabcdefghijklmnopqrstuvwxyz0123456789+/";
+    static bytes b, text;
+    for (size_t content = 0; content < 3; content++) {
+        start(&b);
+        put_varint(&b, 1000000000);
+        fill(&b, 1, 1);
+        put_varint(&b, content);
+        fill(&b, 'a', content);
+        put_varint(&b, 0);
+        CHECK(b.len == 136 + content, "%zu", b.len);
+        string_of(&text, b.at, b.len);
+        writes(kez_notepack_string_read, &text, &b);
+        size_t values = content == 0 ? 16 : content == 1 ? 4 : 1, last = text.len - 1;
+        size_t zero = (size_t)(strchr(alphabet, text.at[last]) - alphabet);
+        for (size_t bits = 1; bits < values; bits++) {
+            text.at[last] = (uint8_t)alphabet[zero + bits];
+            refuses(kez_notepack_string_read, &text, 21, text.len);
+        }
+    }
+}
+
+/* So many characters A, which are zeros: what is asked about is the decoded bytes, but 21 comes before their number. */
+static void string_limits(void)
+{
+    static bytes b, text;
+    static const size_t chars[] = {0, 1, 2, 3, 4, 5, 87380, 87381, 87382, 87383, 87384, 200000};
+    b.len = 0;
+    fill(&b, 0, 65537);
+    for (size_t i = 0; i < sizeof chars / sizeof *chars; i++) {
+        size_t decoded = chars[i] * 3 / 4;
+        kez_answer a = read_it(b.at, decoded < b.len ? decoded : b.len);
+        text.len = 0;
+        PUT(&text, "notepack_");
+        fill(&text, 'A', chars[i]);
+        if (chars[i] % 4 == 1)
+            refuses(kez_notepack_string_read, &text, 21, text.len);
+        else
+            refuses(kez_notepack_string_read, &text, a.refusal, a.value);
+        fill(&text, '!', 1);
+        refuses(kez_notepack_string_read, &text, 21, text.len - 1);
+        text.at[text.len - 1] = 'B'; /* alone, or with bits left over, or three whole bytes */
+        if ((chars[i] + 1) % 4)
+            refuses(kez_notepack_string_read, &text, 21, text.len);
+        text.at[8] = '-';
+        refuses(kez_notepack_string_read, &text, 20, 0);
+    }
+    /* the longest of all */
+    start(&b);
+    PUT(&b, "\x00\x00");
+    put_varint(&b, KEZ_MOST - 134);
+    fill(&b, 'x', KEZ_MOST - 134);
+    put_varint(&b, 0);
+    string_of(&text, b.at, b.len);
+    CHECK(text.len == KEZ_NOTEPACK_STRING_MOST && text.len == 87391, "%zu", text.len);
+    writes(kez_notepack_string_write, &b, &text);
+    writes(kez_notepack_string_read, &text, &b);
+}
+
 static void rivals(void)
 {
     static bytes a, b;
@@ -717,10 +863,10 @@ static void rivals(void)
 
 static void sentences(void)
 {
-    for (uint64_t i = 0; i <= 20; i++)
+    for (uint64_t i = 0; i <= 22; i++)
         for (uint64_t j = 0; j < i; j++)
             CHECK(strcmp(kez_refusal_text(i), kez_refusal_text(j)), "%d and %d", (int)i, (int)j);
-    CHECK(!strcmp(kez_refusal_text(UINT64_MAX), kez_refusal_text(20)), "no such number");
+    CHECK(!strcmp(kez_refusal_text(UINT64_MAX), kez_refusal_text(22)), "no such number");
 }
 
 /* With length 0 every entry takes a null pointer, one that is not aligned to anything, and one to a page that can't be
@@ -739,6 +885,11 @@ static void nothing_lent(void)
             CHECK(is(kez_notepack_write(vector.at, vector.len, out, 0), 11, vector.len), "%d", j);
             CHECK(is(kez_notepack_elements(in, 0, 0, out, 0), 2, 0), "%d %d", i, j);
             CHECK(is(kez_notepack_elements(vector.at, vector.len, 0, out, 0), 0, 0), "%d", j);
+            CHECK(is(kez_notepack_string_write(in, 0, out, 0), 2, 0), "%d %d", i, j);
+            CHECK(is(kez_notepack_string_write(vector.at, vector.len, out, 0), 11, 325), "%d", j);
+            CHECK(is(kez_notepack_string_read(in, 0, out, 0), 20, 0), "%d %d", i, j);
+            CHECK(is(kez_notepack_string_read(vector_string.at, vector_string.len, out, 0), 11, 237), "%d", j);
+            CHECK(is(kez_notepack_string_read(vector_string.at, 9, out, 0), 2, 0), "%d", j);
             CHECK(is(kez_canonical_write(in, 0, out, 0), 2, 0), "%d %d", i, j);
             CHECK(is(kez_canonical_write(vector.at, vector.len, out, 0), 11, 265), "%d", j);
             CHECK(is(kez_nson_write(in, 0, out, 0), 2, 0), "%d %d", i, j);
@@ -857,6 +1008,10 @@ int main(void)
     nson_read();
     json_read();
     read_both();
+    string_form();
+    outside_the_alphabet();
+    left_over();
+    string_limits();
     rivals();
     printf("%d passed, %d failed\n", passed, failed);
     return failed != 0;

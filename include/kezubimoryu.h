@@ -1,4 +1,4 @@
-/* Kezubimoryu: Nostr events as notepack, canonical text, NSON and plain JSON.
+/* Kezubimoryu: Nostr events as notepack, its string form, canonical text, NSON and plain JSON.
  *
  * The caller lends byte buffers and numbers to each entry for one call and keeps owning them. Any bytes may be passed
  * as input: every entry returns on every input, with a result or with a refusal.
@@ -12,8 +12,9 @@
  * No entry keeps a pointer after it returns, and none has state of its own, so several threads may call at once without
  * a lock.
  *
- * A packed event is notepack without a version byte, at most 65,536 bytes. Places, tags and elements are counted from
- * 0. Lengths are in bytes. Link with `pkg-config --cflags --libs kezubimoryu`.
+ * A packed event is notepack without a version byte, at most 65,536 bytes. Its string form, for a letter or a mail, is
+ * notepack_ and the bytes in base64. Places, tags and elements are counted from 0. Lengths are in bytes. Link with
+ * `pkg-config --cflags --libs kezubimoryu`.
  *
  * This header is C99, and C++ too.
  *
@@ -46,8 +47,8 @@ extern "C" {
 
 /* The version of this header; the tool and the pkg-config file have it from here. As a number: 10,000 for a major
  * version, 100 for a minor one, 1 for a patch. */
-#define KEZ_VERSION "0.5.0"
-#define KEZ_VERSION_NUMBER 500
+#define KEZ_VERSION "0.6.0"
+#define KEZ_VERSION_NUMBER 600
 
 /* The version of the library that runs, as such a number. A host that was compiled with this header and runs with the
  * library of the same version has kez_version() == KEZ_VERSION_NUMBER.
@@ -55,15 +56,21 @@ extern "C" {
 uint64_t kez_version(void);
 
 /* How long an output buffer has to be. An event in strict form is never longer than the packed bytes, the NSON or the
- * JSON it was read from, so a buffer as long as the input is always enough for it. A canonical text is never longer
- * than three times the packed bytes. NSON is never longer than KEZ_MOST. A host that passes buffers of these lengths
- * never gets refusal 11. The two sizes below are enough for every input. Rules 3.7, 5.8, 6.14 and 12.3.6. */
+ * JSON it was read from, so a buffer as long as the input is always enough for it; so it is for what a string form
+ * holds. A canonical text is never longer than three times the packed bytes. NSON is never longer than KEZ_MOST. A
+ * string form has nine bytes, and four for each three of the strict form, rounded up. A host that passes buffers of
+ * these lengths never gets refusal 11. The sizes below are enough for every input. Rules 3.7, 5.8, 6.14, 12.3.6, 14.1
+ * and 14.2. */
 
-/* No accepted input is longer; nor is an event in strict form, nor NSON. Rule 1.9. */
+/* No accepted input is longer, but for a string form, of which the bytes that it holds are counted; nor is an event in
+ * strict form, nor NSON. Rules 1.9, 14.3 and 14.6. */
 #define KEZ_MOST 65536
 
 /* No canonical text is longer: three bytes for each byte that was packed. Rule 5.8. */
 #define KEZ_CANONICAL_MOST (3 * KEZ_MOST)
+
+/* No string form is longer that is written or accepted: 87,391 bytes. Rules 14.1 to 14.3. */
+#define KEZ_NOTEPACK_STRING_MOST (9 + (4 * KEZ_MOST + 2) / 3)
 
 /* Where the three fixed fields of a packed event are, as raw bytes, and their lengths. Every packed event that
  * kez_notepack_read accepts has them there. Rules 1.1, 2.1 and 2.2. */
@@ -76,10 +83,11 @@ uint64_t kez_version(void);
 
 /* What every entry but kez_version answers. Rules 12.1.2 to 12.1.8.
  * Success: refusal is 0, and value is what the entry's comment says.
- * Refusal: refusal is a number from 1 to 19, and value is the place in the input where the fault was found, or the
- * input's length if the fault is at its end. Rule 10.N says when refusal N is given, and its place. Refusals 1, 17 and
- * 19 have no place of their own: value is then 0. With refusal 11, an output buffer that is too short, value is the
- * length needed; 11 is given only if there is no other refusal.
+ * Refusal: refusal is a number from 1 to 21, and value is the place in the input where the fault was found, or the
+ * input's length if the fault is at its end. Rule 10.N says when refusal N is given, and its place. Refusals 1, 17, 19
+ * and 20 have no place of their own: value is then 0. With refusal 11, an output buffer that is too short, value is the
+ * length needed; 11 is given only if there is no other refusal. For kez_notepack_string_read the places of 2 to 10 are
+ * in the bytes that the text holds.
  * So refusal alone tells whether the call succeeded. After a refusal every buffer and number that was passed still
  * holds what it held before the call. After success the bytes behind the written length are unchanged. */
 typedef struct {
@@ -151,6 +159,34 @@ kez_answer kez_notepack_element(const uint8_t *packed, size_t packed_len,
  * Rules 2.10 to 2.12, 4.3, 4.8, 4.12 to 4.15; of the input 2.1 to 2.17. */
 kez_answer kez_notepack_elements(const uint8_t *packed, size_t packed_len, uint64_t first,
                                  uint8_t *out, size_t out_len);
+
+/* Writes the string form of a packed event to out: the nine bytes notepack_, and behind them the event's strict form in
+ * standard base64 (RFC 4648, section 4) without padding. It is one line of ASCII; no line end and no 00 is put behind
+ * it. An out_len of 9 + (4 * packed_len + 2) / 3 is always enough, and so is KEZ_NOTEPACK_STRING_MOST.
+ * Refusals: those of kez_notepack_read; then 11.
+ * value: the length written
+ * Cost: linear in packed_len.
+ * Stack: some 75 KB, since a strict form other than the packed bytes is made there.
+ * Rules 3.1 to 3.3, 14.1, 14.2, 14.8, 14.9; of the input 2.1 to 2.17. */
+kez_answer kez_notepack_string_write(const uint8_t *packed, size_t packed_len,
+                                     uint8_t *out, size_t out_len);
+
+/* Reads a string form and writes the packed event that it holds to out, byte for byte as it was encoded. These bytes
+ * are ones that kez_notepack_read accepts; they need not be strict. No other text that is read holds the same bytes: a
+ * line end or other white space, padding with =, and the characters - and _ are refused, like all that is not A-Z, a-z,
+ * 0-9, + or /. But base64 has no check sum: where a character was changed into another of the alphabet, lost, doubled or
+ * exchanged, the bytes may be another event, and only its id and signature show that. The text may have any length. An
+ * out_len of text_len is always enough, and so is KEZ_MOST.
+ * Refusals: 20 if the text does not start with notepack_; then 21, at the first character outside the alphabet, counted
+ * in the whole text, or if there is none at the text's length, for a lone last character or leftover bits that are not
+ * zero; then 1 if the text holds more than 65,536 bytes; then 2 to 10 as kez_notepack_read gives them, with places in
+ * the bytes that the text holds (2 at 0 with nothing behind the prefix); then 11.
+ * value: the length written
+ * Cost: linear in text_len.
+ * Stack: some 75 KB, since the bytes are held there until no refusal is left.
+ * Rules 14.1, 14.3 to 14.7; of the bytes 2.1 to 2.17. */
+kez_answer kez_notepack_string_read(const uint8_t *text, size_t text_len,
+                                    uint8_t *out, size_t out_len);
 
 /* Which of two packed events is to be kept? Two events are rivals, versions of one record, if both have a key and the
  * keys are equal. The key of kinds 0, 3 and 10000 to 19999 is author and kind; that of kinds 30000 to 39999 is author,
@@ -236,10 +272,10 @@ static inline const char *kez_refusal_text(uint64_t number)
 {
     switch (number) {
     case 0: return "Nothing is refused.";
-    case 1: return "The input is longer than 65,536 bytes."; /* rule 10.1 */
+    case 1: return "The input is longer than 65,536 bytes, or a string form holds more."; /* rule 10.1 */
     case 2: return "The packed event is cut short, or a length in it goes beyond its end."; /* rule 10.2 */
     case 3: return "A varint's tenth byte is neither 00 nor 01."; /* rule 10.3 */
-    case 4: return "The input ends inside a varint."; /* rule 10.4 */
+    case 4: return "The packed event ends inside a varint."; /* rule 10.4 */
     case 5: return "A text is not well-formed UTF-8."; /* rule 10.5 */
     case 6: return "The kind is above 65,535."; /* rule 10.6 */
     case 7: return "The time is above 9,223,372,036,854,775 seconds."; /* rule 10.7 */
@@ -257,6 +293,10 @@ static inline const char *kez_refusal_text(uint64_t number)
     case 17: return "NSON can't carry this event."; /* rule 10.17 */
     case 18: return "Arrays and objects are nested more than 16 deep."; /* rule 10.18 */
     case 19: return "There is no such tag or element."; /* rule 10.19 */
+    case 20: return "The text does not start with notepack_."; /* rule 10.20 */
+    case 21: /* rule 10.21 */
+        return "What follows notepack_ is not base64: a character outside its alphabet, "
+               "a lone last one, or leftover bits that are not zero.";
     default: return "There is no refusal with this number.";
     }
 }

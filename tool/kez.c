@@ -8,6 +8,7 @@
 #include <stdio.h>
 #include <stdlib.h>
 #include <string.h>
+#include <strings.h>
 #include <unistd.h>
 
 enum { ACCEPTED = 0, REFUSED = 1, USAGE = 2 };
@@ -22,6 +23,8 @@ static const char help[] =
     "                --json: all of it as plain JSON on one line, for programs\n"
     "  strict        is a packed event in its strict form? 'strict' or 'not strict'\n"
     "  pack          the strict form of a packed event\n"
+    "  to-letter     the string form, for a letter or a mail: notepack_ and base64, one line\n"
+    "  from-letter   a string form as the packed event that it holds\n"
     "  canonical     the canonical text, over which the id is taken\n"
     "  to-nson       a packed event as NSON\n"
     "  from-nson     NSON, read by its counts, as a packed event\n"
@@ -35,7 +38,7 @@ static const char help[] =
     "Exit status: 0 accepted, 1 refused ('refused N at P: ..' on standard error, with the\n"
     "place), 2 usage, or a file that can't be read or written.\n";
 
-static int hex_in, hex_out, all, json;
+static int hex_in, hex_out, all, json, string_in;
 
 static int usage(const char *what, const char *word)
 {
@@ -43,13 +46,41 @@ static int usage(const char *what, const char *word)
     return USAGE;
 }
 
-/* Bytes that were read. One more than the library takes is kept, so that it can say that there are too many. */
+/* Bytes that were read, in memory that grows with them. */
 typedef struct {
-    uint8_t at[KEZ_MOST + 1];
-    size_t len;
+    uint8_t *at;
+    size_t len, room;
 } bytes;
 
 static bytes first, second;
+
+/* Can more bytes change the answer? One more than the library takes is kept, so that it can say that there are too
+ * many. A string form has no limit: as often as the memory is full, the library is asked whether it has a fault. */
+static int wants_more(const bytes *b)
+{
+    if (!string_in)
+        return b->len <= KEZ_MOST;
+    if (b->len < b->room)
+        return 1;
+    kez_answer a = kez_notepack_string_read(b->at, b->len, NULL, 0);
+    return a.refusal != 20 && (a.refusal != 21 || a.value == b->len);
+}
+
+/* Makes room for one more byte; 0: there is none. */
+static int make_room(bytes *b, const char *name)
+{
+    if (b->len < b->room)
+        return 1;
+    size_t room = b->room ? 2 * b->room : KEZ_MOST + 1;
+    uint8_t *at = room > b->room ? realloc(b->at, room) : NULL;
+    if (!at) {
+        fprintf(stderr, "kez: %s: there is no memory for so much\n", name);
+        return 0;
+    }
+    b->at = at;
+    b->room = room;
+    return 1;
+}
 
 static int digit(int c)
 {
@@ -69,7 +100,9 @@ static int read_hex(bytes *b, FILE *file, const char *name)
 {
     int high = -1;
     uint64_t place = 0;
-    for (int c; (c = getc(file)) != EOF && b->len < sizeof b->at; place++) {
+    for (int c; (c = getc(file)) != EOF && wants_more(b); place++) {
+        if (!make_room(b, name))
+            return 0;
         if (is_space(c))
             continue;
         if (digit(c) < 0) {
@@ -94,6 +127,16 @@ static int read_hex(bytes *b, FILE *file, const char *name)
     return 1;
 }
 
+static int read_raw(bytes *b, FILE *file, const char *name)
+{
+    while (!feof(file) && !ferror(file) && wants_more(b)) {
+        if (!make_room(b, name))
+            return 0;
+        b->len += fread(b->at + b->len, 1, b->room - b->len, file);
+    }
+    return 1;
+}
+
 static int is_standard(const char *file)
 {
     return !strcmp(file, "-");
@@ -106,18 +149,15 @@ static int read_file(bytes *b, const char *name)
     if (standard) {
         name = "standard input";
         if (isatty(0))
-            fprintf(stderr, "kez: reads standard input; end it with control-D\n");
+            fprintf(stderr, string_in ? "kez: reads standard input, at most 4,095 characters from a terminal; "
+                                        "end it with control-D twice, not with a line end\n"
+                                      : "kez: reads standard input; end it with control-D\n");
     }
     if (!file) {
         fprintf(stderr, "kez: %s: %s\n", name, strerror(errno));
         return 0;
     }
-    int good = 1;
-    b->len = 0;
-    if (hex_in)
-        good = read_hex(b, file, name);
-    else
-        b->len = fread(b->at, 1, sizeof b->at, file);
+    int good = make_room(b, name) && (hex_in ? read_hex : read_raw)(b, file, name);
     if (ferror(file)) {
         fprintf(stderr, "kez: %s: %s\n", name, strerror(errno));
         good = 0;
@@ -185,15 +225,27 @@ static void put_output(const uint8_t *at, size_t len, int is_text)
     }
 }
 
+/* The character of UTF-8 that starts here, of two bytes or more; 0: none does. */
+static unsigned character(const uint8_t *at, size_t len)
+{
+    static const unsigned least[] = {0, 0, 0x80, 0x800, 0x10000};
+    unsigned width = *at >> 5 == 6 ? 2 : *at >> 4 == 14 ? 3 : *at >> 3 == 30 ? 4 : 0;
+    unsigned c = *at & (0x7fu >> width);
+    if (!width || len < width)
+        return 0;
+    for (unsigned i = 1; i < width; i++) {
+        if (at[i] >> 6 != 2)
+            return 0;
+        c = c << 6 | (at[i] & 63u);
+    }
+    return c >= least[width] ? c : 0;
+}
+
 /* The character of two or three bytes that starts here, if a terminal does something else than to show it: a control
  * above 7f, a line or paragraph separator, or what turns the direction of writing. Otherwise 0. */
 static unsigned hidden(const uint8_t *at, size_t len)
 {
-    unsigned c = 0;
-    if (len >= 2 && at[0] >> 5 == 6)
-        c = (at[0] & 31u) << 6 | (at[1] & 63u);
-    else if (len >= 3 && at[0] >> 4 == 14)
-        c = (at[0] & 15u) << 12 | (at[1] & 63u) << 6 | (at[2] & 63u);
+    unsigned c = character(at, len);
     return (c >= 0x80 && c <= 0x9f) || c == 0x61c || c == 0x200e || c == 0x200f || (c >= 0x2028 && c <= 0x202e) ||
            (c >= 0x2066 && c <= 0x2069) ? c : 0;
 }
@@ -218,13 +270,14 @@ static void put_quoted(const uint8_t *at, size_t len)
     put_byte('"');
 }
 
-/* Refusals. What the input is decides how its place is shown. */
-enum { PACKED, NSON, JSON };
+/* Refusals. What the input is decides how its place is shown. HELD is what a string form holds. */
+enum { PACKED, NSON, JSON, STRING, HELD };
 
 /* What can be done about it, where the sentence alone does not say. */
 static const char *advice(uint64_t refusal, int input)
 {
     switch (refusal) {
+    case 1: return input == STRING ? "A string form has at most 87,391 characters." : NULL;
     case 2:
     case 4: return "Was the whole record read? Hexadecimal digits need --hex.";
     case 10:
@@ -254,7 +307,7 @@ enum { FIELDS = sizeof fields / sizeof *fields };
 
 static kez_answer ask(const bytes *b, uint64_t place, const char *more)
 {
-    static uint8_t text[sizeof b->at + 32], event[sizeof text];
+    static uint8_t text[KEZ_MOST + 1 + 32], event[sizeof text];
     size_t len = strlen(more);
     memcpy(text, b->at, place);
     memcpy(text + place, more, len);
@@ -410,11 +463,175 @@ static void tell_piece(uint64_t place)
         fprintf(stderr, "     Expected here: a descriptor, in lowercase hexadecimal digits\n");
 }
 
+/* A string form: why it does not start with its prefix, which character does not belong there, what is wrong at its
+ * end. */
+
+static const char prefix[] = "notepack_";
+enum { PREFIX = sizeof prefix - 1 };
+
+static int starts(const uint8_t *at, size_t len)
+{
+    return len >= PREFIX && !memcmp(at, prefix, PREFIX);
+}
+
+/* How much of the prefix is needed in front to make the text a string form that the library reads? 0: none does. White
+ * space behind it is left out. */
+static int part_missing(const bytes *b)
+{
+    static uint8_t event[KEZ_MOST];
+    size_t len = b->len;
+    uint8_t *text = malloc(PREFIX + len);
+    int found = 0;
+    while (len && is_space(b->at[len - 1]))
+        len--;
+    for (int i = 1; text && !found && i <= PREFIX; i++) {
+        memcpy(text, prefix, i);
+        memcpy(text + i, b->at, len);
+        found = kez_notepack_string_read(text, i + len, event, sizeof event).refusal ? 0 : i;
+    }
+    free(text);
+    return found;
+}
+
+static int is_packed(const bytes *b)
+{
+    uint64_t n[5];
+    return !kez_notepack_read(b->at, b->len, &n[0], &n[1], &n[2], &n[3], &n[4]).refusal;
+}
+
+/* The prefix stands further behind: in which line and column, both from 1 on. */
+static void tell_later(const bytes *b, size_t place)
+{
+    size_t line = 1, column = 1;
+    for (size_t i = 0; i < place; i++) {
+        line += b->at[i] == '\n';
+        column = b->at[i] == '\n' ? 1 : column + (b->at[i] >> 6 != 2);
+    }
+    fprintf(stderr, "     notepack_ stands in line %zu, column %zu. Cut off what is in front: tail -c +%zu FILE\n",
+            line, column, place + 1);
+}
+
+static void tell_prefix(const bytes *b)
+{
+    const uint8_t *later = memmem(b->at, b->len, prefix, PREFIX);
+    int part;
+    if (later)
+        tell_later(b, later - b->at);
+    else if (b->len < PREFIX && !memcmp(b->at, prefix, b->len))
+        fprintf(stderr, "     The text ends inside notepack_: was all of it copied?\n");
+    else if (b->len >= PREFIX && !strncasecmp((const char *)b->at, prefix, PREFIX))
+        fprintf(stderr, "     Capitals were changed on the way, perhaps in all of the text: ask for it anew.\n");
+    else if ((part = part_missing(b)))
+        fprintf(stderr, "     Its start was not copied along: with '%.*s' in front it is read.\n", part, prefix);
+    else if (is_packed(b))
+        fprintf(stderr, "     These are packed bytes, and no text: the other commands read them.\n");
+    else if (memmem(b->at, b->len, "n\0o\0t\0e\0p", 9))
+        fprintf(stderr, "     The text is in UTF-16, with 00 between its characters: save it as UTF-8.\n");
+    else
+        fprintf(stderr, "     A string form is notepack_ and base64, with nothing in front.\n");
+}
+
+static int is_line_end(int c)
+{
+    return c == '\n' || c == '\r';
+}
+
+/* Does a screen show nothing there? Spaces that are not ASCII, the soft hyphen, marks of width and direction. */
+static int is_unseen(unsigned c)
+{
+    return c == 0xa0 || c == 0xad || c == 0x61c || (c >= 0x2000 && c <= 0x200f) || (c >= 0x2028 && c <= 0x202f) ||
+           (c >= 0x205f && c <= 0x206f) || c == 0x3000 || c == 0xfeff;
+}
+
+/* Names the character at this place, which is in line 1: a line end in front of it would be outside the alphabet. */
+static void tell_character(const bytes *b, size_t place)
+{
+    const uint8_t *at = b->at + place;
+    size_t len = b->len - place;
+    unsigned c = character(at, len);
+    fprintf(stderr, "     In column %zu stands ", place + 1);
+    if (is_line_end(*at))
+        fprintf(stderr, "a line end (%s)", *at == '\n' ? "LF" : len > 1 && at[1] == '\n' ? "CR LF" : "CR");
+    else if (*at == ' ' || *at == '\t')
+        fprintf(stderr, *at == ' ' ? "a blank" : "a tab");
+    else if (*at > 0x20 && *at < 0x7f)
+        fprintf(stderr, "'%c'", *at);
+    else if (c)
+        fprintf(stderr, "the character U+%04X%s", c, is_unseen(c) ? ", which a screen does not show" : "");
+    else
+        fprintf(stderr, "the byte %02x", *at);
+    fprintf(stderr, ".\n");
+}
+
+/* No character is outside the alphabet, but the last ones hold no whole byte. */
+static void tell_end(const bytes *b)
+{
+    size_t count = b->len - PREFIX;
+    if (count % 4 == 1)
+        fprintf(stderr, "     Behind notepack_ stand %zu characters, and base64 never has so many.\n", count);
+    else
+        fprintf(stderr, "     The last character, '%c', has bits left over that are not zero.\n", b->at[b->len - 1]);
+}
+
+/* The place behind white space and, where it may be there, padding. */
+static size_t behind_space(const bytes *b, size_t place, int padding)
+{
+    while (place < b->len && (is_space(b->at[place]) || (padding && b->at[place] == '=')))
+        place++;
+    return place;
+}
+
+/* Does a second text start here, behind white space or at the end of its prefix? */
+static int is_second(const bytes *b, size_t place)
+{
+    size_t behind = behind_space(b, place, 0);
+    return starts(b->at + behind, b->len - behind) ||
+           (place >= 2 * PREFIX - 1 && starts(b->at + place - (PREFIX - 1), PREFIX));
+}
+
+/* What can be done about refusal 21. */
+static const char *string_advice(const bytes *b, size_t place)
+{
+    int c = place < b->len ? b->at[place] : EOF;
+    if (c == EOF)
+        return "A character was lost, added or changed, or the end is missing: ask for the text anew.";
+    if (is_second(b, place))
+        return "A second text starts there: put them to from-letter one by one.";
+    if (is_line_end(c))
+        return behind_space(b, place, 0) == b->len
+                   ? "It was pasted along behind the text. Cut it off: tr -d '[:space:]' < FILE | kez from-letter"
+                   : "It was pasted along inside the text. Join the lines: tr -d '[:space:]' < FILE | kez from-letter";
+    if (is_space(c))
+        return "White space was pasted along. Take it out: tr -d '[:space:]' < FILE | kez from-letter";
+    if (c == '=' && behind_space(b, place, 1) == b->len)
+        return "This form has no padding. Take it off: tr -d '=[:space:]' < FILE | kez from-letter";
+    if (c == '-' || c == '_')
+        return "If the sender used the URL-safe alphabet, write + for - and / for _ behind notepack_.";
+    return "Base64 has A-Z, a-z, 0-9, + and / alone. Was something pasted along, or a character changed?";
+}
+
+/* Where in the text a byte that it holds starts: a character has six bits. */
+static void tell_column(const bytes *held, uint64_t place)
+{
+    fprintf(stderr, "     These are the bytes that the text holds");
+    if (place < held->len)
+        fprintf(stderr, "; byte %" PRIu64 " starts in column %" PRIu64, place, PREFIX + 8 * place / 6 + 1);
+    fprintf(stderr, ".\n");
+}
+
 static void tell_lack(const bytes *b, kez_answer a, int input)
 {
     const char *name;
     if (a.refusal == 12 && input == NSON)
         tell_piece(a.value);
+    if (input == HELD)
+        tell_column(b, a.value);
+    if (a.refusal == 20)
+        tell_prefix(b);
+    if (a.refusal == 21 && a.value < b->len)
+        tell_character(b, a.value);
+    if (a.refusal == 21 && a.value == b->len)
+        tell_end(b);
     if (input != JSON)
         return;
     if (a.refusal == 12 && (name = name_before(b, a.value)))
@@ -452,12 +669,25 @@ static void show_place(const bytes *b, uint64_t place, int is_text)
     fprintf(stderr, "     %*s%s byte %" PRIu64 " of %zu\n", mark, "", is_text ? "^" : "^^", place, b->len);
 }
 
+static const char *what_to_do(const bytes *b, kez_answer a, int input)
+{
+    if (input == HELD)
+        return b->len ? "The text is base64, but the record in it is damaged: characters are missing, added or "
+                        "changed. Ask for it anew."
+                      : "Nothing stands behind notepack_: was all of the text copied?";
+    if (!b->len)
+        return "The input is empty: is it the right file?";
+    if (input != STRING && starts(b->at, b->len))
+        return "It starts with notepack_, as a string form does: from-letter reads these.";
+    return a.refusal == 21 ? string_advice(b, (size_t)a.value) : advice(a.refusal, input);
+}
+
 static int refused(const bytes *b, kez_answer a, int input)
 {
-    const char *what = b->len ? advice(a.refusal, input) : "The input is empty: is it the right file?";
+    const char *what = what_to_do(b, a, input);
     fprintf(stderr, "refused %" PRIu64 " at %" PRIu64 ": %s\n", a.refusal, a.value, kez_refusal_text(a.refusal));
     if (has_place(a.refusal) && a.value <= b->len)
-        show_place(b, a.value, input != PACKED);
+        show_place(b, a.value, input != PACKED && input != HELD);
     if (b->len)
         tell_lack(b, a, input);
     if (what)
@@ -583,7 +813,36 @@ static int do_write(writer *entry, int input, int to_text)
     return ACCEPTED;
 }
 
+/* The bytes that base64 without a fault holds; their number. */
+static size_t decode(const uint8_t *at, size_t len, uint8_t *to)
+{
+    static const char digits[] = "ABCDEFGHIJKLMNOPQRSTUVWXYZabcdefghijklmnopqrstuvwxyz0123456789+/";
+    uint32_t bits = 0;
+    size_t count = 0;
+    for (size_t i = 0; i < len; i++) {
+        bits = bits << 6 | (uint32_t)(strchr(digits, at[i]) - digits);
+        if (i % 4)
+            to[count++] = (uint8_t)(bits >> (6 - 2 * (i % 4)));
+    }
+    return count;
+}
+
+/* Refusals 2 to 10 are of the bytes that the text holds, and their places are in these. */
+static int do_from_string(void)
+{
+    kez_answer a = kez_notepack_string_read(first.at, first.len, out, sizeof out);
+    if (a.refusal >= 2 && a.refusal <= 10) {
+        bytes held = {out, decode(first.at + PREFIX, first.len - PREFIX, out), sizeof out};
+        return refused(&held, a, HELD);
+    }
+    if (a.refusal)
+        return refused(&first, a, STRING);
+    put_output(out, a.value, 0);
+    return ACCEPTED;
+}
+
 static int do_pack(void) { return do_write(kez_notepack_write, PACKED, 0); }
+static int do_to_string(void) { return do_write(kez_notepack_string_write, PACKED, 1); }
 static int do_canonical(void) { return do_write(kez_canonical_write, PACKED, 1); }
 static int do_to_nson(void) { return do_write(kez_nson_write, PACKED, 1); }
 static int do_from_nson(void) { return do_write(kez_nson_read, NSON, 0); }
@@ -628,9 +887,10 @@ typedef struct {
 
 /* one file may be named, or none; with keep two must be */
 static const command commands[] = {
-    {"list", 1, do_list},         {"strict", 1, do_strict},       {"pack", 1, do_pack},
-    {"canonical", 1, do_canonical}, {"to-nson", 1, do_to_nson},   {"from-nson", 1, do_from_nson},
-    {"from-json", 1, do_from_json}, {"both", 1, do_both},         {"keep", 2, do_keep},
+    {"list", 1, do_list},           {"strict", 1, do_strict},           {"pack", 1, do_pack},
+    {"to-letter", 1, do_to_string}, {"from-letter", 1, do_from_string}, {"canonical", 1, do_canonical},
+    {"to-nson", 1, do_to_nson},     {"from-nson", 1, do_from_nson},     {"from-json", 1, do_from_json},
+    {"both", 1, do_both},           {"keep", 2, do_keep},
 };
 
 static const command *find(const char *name)
@@ -693,6 +953,7 @@ int main(int count, char **words)
         return usage("two files are needed, the first and the second record", NULL);
     if (c->files == 2 && is_standard(files[0]) && is_standard(files[1]))
         return usage("standard input can be one of the two records only", NULL);
+    string_in = c->run == do_from_string;
     if (!read_file(&first, files[0]) || (c->files == 2 && !read_file(&second, files[1])))
         return USAGE;
     return finish(c->run());

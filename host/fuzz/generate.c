@@ -149,6 +149,29 @@ static void put_packed(input *to, const record *r)
     }
 }
 
+/* Three bytes, or those that are left, as base64; now and then with bits left over that are not zero. */
+static void put_base64(input *to, const uint8_t *at, size_t len)
+{
+    static const char alphabet[] = "ABCDEFGHIJKLMNOPQRSTUVWXYZabcdefghijklmnopqrstuvwxyz0123456789+/";
+    uint32_t bits = (uint32_t)at[0] << 16 | (len > 1 ? (uint32_t)at[1] << 8 : 0) | (len > 2 ? at[2] : 0);
+    if (len < 3 && percent(10))
+        bits |= (uint32_t)draw(256) << (len == 1 ? 8 : 0);
+    for (size_t i = 0; i <= len; i++)
+        put_byte(to, alphabet[bits >> (18 - 6 * i) & 63]);
+}
+
+static void put_string(input *to, const record *r)
+{
+    static input packed;
+    packed.len = 0;
+    put_packed(&packed, r);
+    put_words(to, percent(98) ? "notepack_" : "notepack-");
+    for (size_t i = 0; i < packed.len; i += 3)
+        put_base64(to, packed.at + i, packed.len - i < 3 ? packed.len - i : 3);
+    if (percent(5))
+        put_words(to, percent(50) ? "\n" : "==");
+}
+
 /* Texts. In NSON three bytes have escapes; in JSON all that the RFC has may be used. */
 
 static void put_hex(input *to, const uint8_t *at, size_t len)
@@ -338,7 +361,8 @@ static void insert_at(input *to, size_t at, const uint8_t *part, size_t len)
 
 static void damage(input *to)
 {
-    static const uint8_t telling[] = {0, 1, 0x7f, 0x80, 0xff, '"', '\\', ',', '[', ']', '{', '}', ':', '0', '9', 'a', ' ', '\n'};
+    static const uint8_t telling[] = {0, 1, 0x7f, 0x80, 0xff, '"', '\\', ',', '[', ']', '{', '}', ':', '0', '9', 'a',
+                                      ' ', '\n', '='};
     uint8_t byte = percent(60) ? telling[draw(sizeof telling)] : (uint8_t)draw(256), part[64];
     size_t at = to->len ? draw(to->len) : 0, len = to->len ? 1 + draw(to->len - at < 64 ? to->len - at : 64) : 0;
     switch (to->len ? draw(8) : 1) {
@@ -366,9 +390,10 @@ static void make_long(record *r)
 static void spell(input *to, const record *r)
 {
     to->len = 0;
-    switch (draw(4)) {
+    switch (draw(5)) {
     case 0: put_nson(to, r); break;
     case 1: put_json(to, r); break;
+    case 2: put_string(to, r); break;
     default: put_packed(to, r); break;
     }
     if (percent(60))

@@ -1,8 +1,8 @@
-/* Random inputs: records as packed bytes, NSON and JSON, true and damaged. */
+/* Random inputs: records as packed bytes, string forms, NSON and JSON, true and damaged. */
 #include <stddef.h>
 #include <stdint.h>
 
-enum { LONGEST = 70000 };
+enum { LONGEST = 90000 };
 
 typedef struct {
     uint8_t at[LONGEST];

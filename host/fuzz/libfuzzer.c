@@ -7,12 +7,12 @@
 
 enum { PLACES = 1024 };
 
-__attribute__((section("__libfuzzer_extra_counters"))) static uint8_t counters[ENTRIES * 20 * PLACES];
+__attribute__((section("__libfuzzer_extra_counters"))) static uint8_t counters[ENTRIES * (REFUSALS + 1) * PLACES];
 
 static void guide(int entry, uint64_t refusal, uint64_t value)
 {
-    if (refusal < 20)
-        counters[((uint64_t)entry * 20 + refusal) * PLACES + value % PLACES] = 1;
+    if (refusal <= REFUSALS)
+        counters[((uint64_t)entry * (REFUSALS + 1) + refusal) * PLACES + value % PLACES] = 1;
 }
 
 int LLVMFuzzerTestOneInput(const uint8_t *data, size_t len);

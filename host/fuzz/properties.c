@@ -13,12 +13,15 @@
 #include <sys/mman.h>
 #include <unistd.h>
 
-enum { READ, STRICT, PACK, TAG_LEN, ELEMENT, ELEMENTS, CANONICAL, NSON_WRITE, NSON_READ, JSON_READ, READ_BOTH, RIVALS };
+enum {
+    READ, STRICT, PACK, TAG_LEN, ELEMENT, ELEMENTS, CANONICAL, NSON_WRITE, NSON_READ, JSON_READ, READ_BOTH, RIVALS,
+    STRING_WRITE, STRING_READ
+};
 
 const char *const entry_names[ENTRIES] = {
     "kez_notepack_read", "kez_notepack_is_strict", "kez_notepack_write", "kez_notepack_tag_len", "kez_notepack_element",
     "kez_notepack_elements", "kez_canonical_write", "kez_nson_write", "kez_nson_read", "kez_json_read", "kez_read_both",
-    "kez_rivals",
+    "kez_rivals", "kez_notepack_string_write", "kez_notepack_string_read",
 };
 
 void (*answered)(int entry, uint64_t refusal, uint64_t value);
@@ -137,13 +140,21 @@ static const uint32_t allowed[ENTRIES] = {
     [JSON_READ] = 1 << 1 | 0x7e0 | 1 << 12 | 1 << 14 | 1 << 15 | 1 << 16 | 1 << 18 | ROOM,
     [READ_BOTH] = 1 << 1 | 0x7e0 | 1 << 12 | 1 << 14 | 1 << 15 | 1 << 16 | 1 << 18 | ROOM,
     [RIVALS] = PACKED_ONES,
+    [STRING_WRITE] = PACKED_ONES | ROOM,
+    [STRING_READ] = 1 << 20 | 1 << 21 | PACKED_ONES | ROOM,
 };
+
+/* No entry needs more room than this. */
+static size_t most_of(int entry)
+{
+    return entry == CANONICAL ? KEZ_CANONICAL_MOST : entry == STRING_WRITE ? KEZ_NOTEPACK_STRING_MOST : KEZ_MOST;
+}
 
 /* What holds of every answer. */
 static kez_answer checked(kez_answer a)
 {
     unchanged(&in_first, 0, "changes its input");
-    must(a.refusal <= 19, "has a refusal that does not exist");
+    must(a.refusal <= REFUSALS, "has a refusal that does not exist");
     must(!a.refusal || (allowed[current] >> a.refusal & 1), "has a refusal of another entry");
     size_t longest = current == RIVALS && in_second.len > in_first.len ? in_second.len : in_first.len;
     must(!a.refusal || a.refusal == 11 || a.value <= longest, "has a place that is not in the input");
@@ -203,7 +214,7 @@ static void write_with(result *r, int entry, writer *call)
         return;
     }
     size_t need = none.value;
-    must(need <= KEZ_CANONICAL_MOST && (entry == CANONICAL || need <= KEZ_MOST), "needs more than it can");
+    must(need <= most_of(entry), "needs more than it can");
     must(same(in_room(entry, call, need - 1), none), "answers otherwise with a byte too little");
     must(same(in_room(entry, call, roll(need)), none), "answers otherwise with less room");
     accepted(in_room(entry, call, need + 1 + roll(40)), need, "does not write with more room");
@@ -339,10 +350,127 @@ static void listed_elements(kez_answer read, uint64_t tags)
     accepted(list_from(0, roll(KEZ_ELEMENT_BYTES)), 0, "lists an element where there is no room for one");
 }
 
+/* String forms */
+
+static const char prefix[] = "notepack_";
+static const char alphabet[] = "ABCDEFGHIJKLMNOPQRSTUVWXYZabcdefghijklmnopqrstuvwxyz0123456789+/";
+enum { PREFIX = sizeof prefix - 1 };
+
+/* A text or bytes of the harness's own. */
+typedef struct {
+    uint8_t at[SIZE];
+    size_t len;
+} own;
+
+/* The string form of these bytes: a bit at a time. */
+static void spell(own *text, const uint8_t *bytes, size_t len)
+{
+    size_t bits = 8 * len;
+    memcpy(text->at, prefix, PREFIX);
+    text->len = PREFIX;
+    for (size_t at = 0; at < bits; at += 6) {
+        int six = 0;
+        for (size_t bit = at; bit < at + 6; bit++)
+            six = 2 * six + (bit < bits ? bytes[bit / 8] >> (7 - bit % 8) & 1 : 0);
+        text->at[text->len++] = (uint8_t)alphabet[six];
+    }
+}
+
+static int six_bits(uint8_t c)
+{
+    const char *at = c ? strchr(alphabet, c) : NULL;
+    return at ? (int)(at - alphabet) : -1;
+}
+
+/* The bytes that a text spells. Refusal 20, 21 or 1 if there are none, or more than may be. */
+static kez_answer despell(own *bytes, const uint8_t *text, size_t len)
+{
+    uint32_t bits = 0, count = 0;
+    bytes->len = 0;
+    if (len < PREFIX || memcmp(text, prefix, PREFIX))
+        return (kez_answer){20, 0};
+    for (size_t i = PREFIX; i < len; i++) {
+        int six = six_bits(text[i]);
+        if (six < 0)
+            return (kez_answer){21, i};
+        bits = bits << 6 | (uint32_t)six;
+        count += 6;
+        if (count >= 8) {
+            count -= 8;
+            bytes->at[bytes->len++] = (uint8_t)(bits >> count);
+            bits &= (1u << count) - 1;
+        }
+    }
+    if (count == 6 || bits)
+        return (kez_answer){21, len};
+    return bytes->len > KEZ_MOST ? (kez_answer){1, 0} : (kez_answer){0, bytes->len};
+}
+
+/* Any text, put to the reader of string forms: it does what spelling and the reader of packed events say, and an
+ * accepted text is the one that its bytes are spelled by. */
+static void read_string(const uint8_t *text, size_t len)
+{
+    static own bytes, back;
+    static result left;
+    kez_answer wanted = despell(&bytes, text, len);
+    if (!wanted.refusal) {
+        lend_input(&in_first, bytes.at, bytes.len, first_copy);
+        kez_answer read = read_numbers();
+        wanted = read.refusal ? read : wanted;
+    }
+    lend_input(&in_first, text, len, first_copy);
+    write_with(&left, STRING_READ, kez_notepack_string_read);
+    must(same(left.answer, wanted), "answers otherwise than the text is spelled");
+    if (left.answer.refusal)
+        return;
+    must(leaves(&left, bytes.at, bytes.len), "leaves other bytes than are spelled");
+    spell(&back, left.bytes, left.answer.value);
+    must(back.len == len && !memcmp(back.at, text, len), "accepts a second text for the same bytes");
+}
+
+/* One character of a text lost, doubled or changed, or one more at its end. */
+static void change(own *text)
+{
+    static const char likely[] = "=-_\n\r +/A";
+    size_t at = roll(4) ? roll(text->len) : text->len - 1;
+    uint8_t c = roll(2) ? (uint8_t)likely[roll(sizeof likely)] : (uint8_t)roll(256);
+    switch (roll(4)) {
+    case 0: memmove(text->at + at, text->at + at + 1, --text->len - at); break;
+    case 1: text->at[text->len++] = c; break;
+    case 2: memmove(text->at + at + 1, text->at + at, text->len++ - at); break;
+    default: text->at[at] = c; break;
+    }
+}
+
+/* The string form of any bytes is read as the bytes are, and leaves them; then it is damaged. */
+static void as_string_of(const uint8_t *data, size_t len, kez_answer read)
+{
+    static own text;
+    static result left;
+    spell(&text, data, len);
+    lend_input(&in_first, text.at, text.len, first_copy);
+    write_with(&left, STRING_READ, kez_notepack_string_read);
+    must(read.refusal ? same(left.answer, read) : leaves(&left, data, len), "disagrees with kez_notepack_read");
+    change(&text);
+    read_string(text.at, text.len);
+}
+
 /* One input as a packed event */
 
 static result strict_form, again;
 static result canonical_text, by_nson, by_json;
+
+/* What the writer wrote of the input is the string form of its strict form, and is read as that. */
+static void string_written(const result *string)
+{
+    static own text;
+    current = STRING_WRITE;
+    spell(&text, strict_form.bytes, strict_form.answer.value);
+    must(leaves(string, text.at, text.len), "does not spell the strict form");
+    lend_input(&in_first, string->bytes, string->answer.value, first_copy);
+    write_with(&again, STRING_READ, kez_notepack_string_read);
+    must(leaves(&again, strict_form.bytes, strict_form.answer.value), "does not read what the writer wrote");
+}
 
 static int is_strict(void)
 {
@@ -368,9 +496,12 @@ static void as_packed(const uint8_t *data, size_t len)
     write_with(&canonical_text, CANONICAL, kez_canonical_write);
     must(!read.refusal || same(read, canonical_text.answer), "refuses otherwise than the reader");
     must(read.refusal || canonical_text.answer.value <= 3 * len, "writes more than three times what was packed");
-    static result text;
+    static result text, string;
     write_with(&text, NSON_WRITE, kez_nson_write);
     must(!read.refusal || same(read, text.answer), "refuses otherwise than the reader");
+    write_with(&string, STRING_WRITE, kez_notepack_string_write);
+    must(!read.refusal || same(read, string.answer), "refuses otherwise than the reader");
+    as_string_of(data, len, read);
     current = PACK;
     if (read.refusal) {
         must(same(read, strict_form.answer), "refuses otherwise than the reader");
@@ -393,6 +524,7 @@ static void as_packed(const uint8_t *data, size_t len)
     must(leaves(&again, strict_form.bytes, strict_form.answer.value), "does not leave strict bytes as they are");
     write_with(&again, CANONICAL, kez_canonical_write);
     must(leaves(&again, canonical_text.bytes, canonical_text.answer.value), "has another text for the strict form");
+    string_written(&string);
     if (text.answer.refusal)
         return;
     lend_input(&in_first, text.bytes, text.answer.value, first_copy);
@@ -496,5 +628,6 @@ void properties(const uint8_t *data, size_t len, const uint8_t *other, size_t ot
     given_len = len;
     as_packed(data, len);
     as_text(data, len);
+    read_string(data, len);
     as_rivals(data, len, other, other_len);
 }

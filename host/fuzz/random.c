@@ -12,7 +12,7 @@
 #include <time.h>
 #include <unistd.h>
 
-static uint64_t calls[ENTRIES], accepted_calls[ENTRIES], seen[ENTRIES][20];
+static uint64_t calls[ENTRIES], accepted_calls[ENTRIES], seen[ENTRIES][REFUSALS + 1];
 static uint64_t started_with;
 
 static void count(int entry, uint64_t refusal, uint64_t value)
@@ -74,13 +74,13 @@ int main(int words, char **word)
     }
     alarm(0);
     uint64_t sum = 0;
-    printf("%-24s %12s %12s  refusals seen\n", "entry", "calls", "accepted");
+    printf("%-26s %12s %12s  refusals seen\n", "entry", "calls", "accepted");
     for (int i = 0; i < ENTRIES; i++) {
         sum += calls[i];
         if (!calls[i])
             continue;
-        printf("%-24s %12" PRIu64 " %12" PRIu64 " ", entry_names[i], calls[i], accepted_calls[i]);
-        for (int j = 1; j < 20; j++)
+        printf("%-26s %12" PRIu64 " %12" PRIu64 " ", entry_names[i], calls[i], accepted_calls[i]);
+        for (int j = 1; j <= REFUSALS; j++)
             if (seen[i][j])
                 printf(" %d", j);
         printf("\n");

@@ -103,6 +103,39 @@ kez_answer __wrap_kez_notepack_elements(const uint8_t *in, size_t in_len, uint64
         out[written] ^= 1;
     return a;
 }
+#elif PLANTED >= 14 && PLANTED <= 16 /* of a string form: another character, a byte behind it, its last one lost */
+WRITER(kez_notepack_string_write)
+{
+    kez_answer a = __real_kez_notepack_string_write(in, in_len, out, out_len);
+    if (a.refusal || !shows(in, in_len))
+        return a;
+    if (PLANTED == 14)
+        out[a.value / 2] ^= 1;
+    if (PLANTED == 15 && a.value < out_len)
+        out[a.value] ^= 1;
+    if (PLANTED == 16)
+        a.value--;
+    return a;
+}
+#elif PLANTED >= 17 && PLANTED <= 21 /* of a string form that is read, see host/fuzz/planted */
+WRITER(kez_notepack_string_read)
+{
+    int shown = shows(in, in_len), last = in_len > 9 ? in[in_len - 1] : 'A';
+    /* a line end, a space or = at the end is cut off: the text without it may be accepted */
+    if (PLANTED == 20 && shown && (last == '\n' || last == ' ' || last == '='))
+        in_len--;
+    kez_answer a = __real_kez_notepack_string_read(in, in_len, out, out_len);
+    if (PLANTED == 17 && a.refusal && out_len && shown)
+        out[0] ^= 1;
+    if (PLANTED == 18 && !a.refusal && shown)
+        out[a.value - 1] ^= 1;
+    /* the place is the text's, not that of the bytes */
+    if (PLANTED == 19 && a.refusal > 1 && a.refusal < 11 && shown)
+        a.value += 9;
+    if (PLANTED == 21 && a.refusal == 21 && shown)
+        a.refusal = 20;
+    return a;
+}
 #elif PLANTED >= 9 /* a refusal of both readers is told as success; the length of what was written is one too many */
 typedef kez_answer both(const uint8_t *in, size_t in_len, uint8_t *first, size_t first_len, uint8_t *second, size_t second_len, uint64_t *written);
 both __real_kez_read_both, __wrap_kez_read_both;

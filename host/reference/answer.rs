@@ -27,6 +27,8 @@ pub const TWICE: u8 = 16;
 pub const NOT_CARRIED: u8 = 17;
 pub const TOO_DEEP: u8 = 18;
 pub const NO_SUCH: u8 = 19;
+pub const NOT_A_STRING_FORM: u8 = 20;
+pub const NOT_BASE64: u8 = 21;
 
 #[cold]
 pub fn refuse<T>(number: u8, place: usize) -> Answer<T> {

@@ -2,7 +2,7 @@
 
 use crate::answer::{Answer, Refusal};
 use crate::rivals::Choice;
-use crate::{both, canonical, json, notepack, nson, rivals};
+use crate::{both, canonical, json, notepack, nson, rivals, string_form};
 
 #[repr(C)]
 pub struct KezAnswer {
@@ -10,10 +10,10 @@ pub struct KezAnswer {
     value: u64,
 }
 
-/// 0.5.0: 10,000 for a major version, 100 for a minor one, 1 for a patch.
+/// 0.6.0: 10,000 for a major version, 100 for a minor one, 1 for a patch.
 #[no_mangle]
 pub extern "C" fn kez_version() -> u64 {
-    500
+    600
 }
 
 fn told(answer: Answer<u64>) -> KezAnswer {
@@ -121,6 +121,8 @@ writing!(kez_canonical_write, canonical::write);
 writing!(kez_nson_write, nson::write);
 writing!(kez_nson_read, nson::read);
 writing!(kez_json_read, json::read);
+writing!(kez_notepack_string_write, string_form::write);
+writing!(kez_notepack_string_read, string_form::read);
 
 #[no_mangle]
 pub unsafe extern "C" fn kez_rivals(first: *const u8, first_len: usize, second: *const u8, second_len: usize) -> KezAnswer {

@@ -11,3 +11,4 @@ pub mod json;
 pub mod notepack;
 pub mod nson;
 pub mod rivals;
+pub mod string_form;

@@ -5,7 +5,7 @@
 
 use reference::answer::{Answer, Refusal};
 use reference::rivals::{Choice, Which};
-use reference::{both, canonical, json, notepack, nson, rivals};
+use reference::{both, canonical, json, notepack, nson, rivals, string_form};
 use std::io::{self, BufRead, Write};
 
 mod selftest;
@@ -90,6 +90,8 @@ fn writing(entry: &str) -> Option<Writing> {
         "nson_write" => nson::write,
         "nson_read" => nson::read,
         "json_read" => json::read,
+        "string_write" => string_form::write,
+        "string_read" => string_form::read,
         _ => return None,
     })
 }

@@ -2,6 +2,7 @@
 
 use crate::answer::*;
 use crate::bytes::*;
+use std::borrow::Cow;
 
 pub const LIMIT: usize = 65_536;
 pub const MAX_CREATED_AT: u64 = 9_223_372_036_854_775;
@@ -122,8 +123,9 @@ pub fn is_strict(bytes: &[u8]) -> Answer<bool> {
     Ok(strict)
 }
 
-/// The strict form into the lent buffer; its length.
-pub fn write(bytes: &[u8], out: &mut [u8]) -> Answer<usize> {
+/// The event, the length of its strict form, and whether the bytes are that form already.
+#[inline(always)]
+fn measured(bytes: &[u8]) -> Answer<(Packed<'_>, usize, bool)> {
     let (mut needed, mut as_it_is) = (128, true);
     let packed = walk(bytes, |seen| match seen {
         Seen::Number(value, spelled) => {
@@ -138,25 +140,31 @@ pub fn write(bytes: &[u8], out: &mut [u8]) -> Answer<usize> {
         }
     })?;
     needed += packed.content_len;
+    Ok((packed, needed, as_it_is))
+}
+
+/// The strict form into the lent buffer; its length.
+pub fn write(bytes: &[u8], out: &mut [u8]) -> Answer<usize> {
+    let (packed, needed, as_it_is) = measured(bytes)?;
     let mut out = room(out, needed)?;
     if as_it_is {
         out.put(bytes);
-        return Ok(needed);
-    }
-    out.put(&bytes[..128]);
-    put_varint(&mut out, packed.created_at);
-    put_varint(&mut out, packed.kind);
-    put_varint(&mut out, packed.content_len as u64);
-    out.put(packed.content());
-    put_varint(&mut out, packed.tag_count);
-    for item in packed.items() {
-        match item {
-            Item::Tag(count) => put_varint(&mut out, count),
-            Item::Text(text) => text.put_strict(&mut out),
-        }
+    } else {
+        packed.put_strict(&mut out);
     }
     assert!(out.full());
     Ok(needed)
+}
+
+/// The strict form: the bytes themselves, where they are that.
+pub fn strict(bytes: &[u8]) -> Answer<Cow<'_, [u8]>> {
+    let (packed, needed, as_it_is) = measured(bytes)?;
+    if as_it_is {
+        return Ok(Cow::Borrowed(bytes));
+    }
+    let mut strict = vec![0; needed];
+    packed.put_strict(&mut room(&mut strict, needed)?);
+    Ok(Cow::Owned(strict))
 }
 
 impl<'a> Text<'a> {
@@ -244,6 +252,21 @@ impl<'a> Packed<'a> {
     /// Tags and their texts in order. The bytes were read before, so nothing can be refused here.
     pub fn items(&self) -> Items<'a> {
         Items { bytes: self.bytes, at: self.tags_at, texts_left: 0, tags_left: self.tag_count }
+    }
+
+    fn put_strict(&self, out: &mut Out) {
+        out.put(&self.bytes[..128]);
+        put_varint(out, self.created_at);
+        put_varint(out, self.kind);
+        put_varint(out, self.content_len as u64);
+        out.put(self.content());
+        put_varint(out, self.tag_count);
+        for item in self.items() {
+            match item {
+                Item::Tag(count) => put_varint(out, count),
+                Item::Text(text) => text.put_strict(out),
+            }
+        }
     }
 
     /// The texts of all tags in order, each with the number of its tag.

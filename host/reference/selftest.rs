@@ -30,6 +30,14 @@ const NSON: &str = concat!(
     "[\"p\",\"c26f7b252cea77a5b94f42b1a4771021be07d4df766407e47738605f7e3ab774\",\"\",\"wss://relay.damus.io\"]]}",
 );
 
+/// The string form of the vector, as section 9.1 has it.
+const STRING: &str = concat!(
+    "notepack_AAAAAAAAAAAAAAAAAAAAAAAAAAAAAAAAAAAAAAAAAAARERERERERERERERERERERERERERERERERERERERERESIiIiI",
+    "iIiIiIiIiIiIiIiIiIiIiIiIiIiIiIiIiIiIiIiIiIiIiIiIiIiIiIiIiIiIiIiIiIiIiIiIiIiIiIiKAvJS0BgAFaGVsbG8CAwJ",
+    "lQaqqqqqqqqqqqqqqqqqqqqqqqqqqqqqqqqqqqqqqqqqqLndzczovL3JlbGF5LmV4YW1wbGUuY29tAgJwQbu7u7u7u7u7u7u7u7u",
+    "7u7u7u7u7u7u7u7u7u7u7u7u7",
+);
+
 /// An event with zero id, pubkey and sig.
 fn packed(created_at: &[u8], rest: &[u8]) -> Vec<u8> {
     [&[0; 128], created_at, rest].concat()
@@ -67,9 +75,6 @@ pub fn run() -> bool {
             println!("{what}: {got}, not {wanted}");
         }
     };
-    let ask = |request: String| answer(&request).unwrap_or_default();
-    let room = |entry: &str, s: &[u8]| ask(format!("{entry} {} 70000", hex(s)));
-    let left = |s: &[u8]| format!("ok {} {}", s.len(), hex(s));
 
     for (n, value, spelled) in
         [(1, 0, &b"\0"[..]), (2, 127, b"\x7f"), (3, 128, b"\x80\x01"), (4, 1_720_000_000, b"\x80\xbc\x94\xb4\x06")]
@@ -150,12 +155,80 @@ pub fn run() -> bool {
             same(&what, written, "refused 17 0".into());
         }
     }
+    string_forms(&mut same);
     let lister = |s: &[u8]| ask(format!("lister {}", hex(s)));
     same("lister", lister(&packed(b"", &[0; 4])), "created_at 0\\nkind 0\\ncontent 0\\ntags 0\\n".into());
     same("lister, empty", lister(b""), "refused 2 at 0\\n".into());
     same("lister, cut", lister(&packed(b"\x80", b"")), "refused 4 at 128\\n".into());
     println!("{passed} passed, {failed} failed");
     failed == 0
+}
+
+/// The vector's string form, what differs from one, and the limit. Part 14.
+fn string_forms(same: &mut impl FnMut(&str, String, String)) {
+    let (v, string) = (vector(), STRING.as_bytes());
+    same("string form, length", STRING.len().to_string(), "325".into());
+    same("string form, written", room("string_write", &v), left(string));
+    same("string form, read", room("string_read", string), left(&v));
+    for (entry, input, most) in [("string_write", &v[..], 325), ("string_read", string, 237)] {
+        for room in [0, most - 1] {
+            let got = ask(format!("{entry} {} {room}", hex(input)));
+            same(&format!("{entry} in {room}"), got, format!("refused 11 {most}"));
+        }
+    }
+    let (loose, strict) = (packed(b"\x80\0", b"\0\0\0"), packed(b"\0", b"\0\0\0"));
+    same("string form of a padded number", room("string_write", &loose), room("string_write", &strict));
+    let of_loose = format!("notepack_{}C{}", "A".repeat(170), "A".repeat(7));
+    same("a padded number by its string form", room("string_read", of_loose.as_bytes()), left(&loose));
+    for (text, wanted) in [
+        ("", "refused 20 0"),
+        ("notepack", "refused 20 0"),
+        ("Notepack_AAAA", "refused 20 0"),
+        ("notepack_", "refused 2 0"),
+        ("notepack_AAAA", "refused 2 0"),
+        ("notepack_A", "refused 21 10"),
+        ("notepack_AAAAA", "refused 21 14"),
+        ("notepack_AAAA-", "refused 21 13"),
+        ("notepack_AAAA=", "refused 21 13"),
+        ("notepack_\nAAA", "refused 21 9"),
+        ("notepack_AAAAAB", "refused 21 15"),
+        ("notepack_AAAAAQ", "refused 2 0"),
+        ("notepack_AAAAAAB", "refused 21 16"),
+        ("notepack_AAAAAAE", "refused 2 0"),
+    ] {
+        same(&format!("string form {text:?}"), room("string_read", text.as_bytes()), wanted.into());
+    }
+    // so many characters A are so many zeros, and those are what the notepack reader is asked about
+    for (chars, zeros) in [(87_380, 65_535), (87_382, 65_536), (87_383, 65_537), (87_384, 65_538), (200_000, 150_000)] {
+        let text = [&b"notepack_"[..], &vec![b'A'; chars]].concat();
+        let wanted = ask(format!("read {}", hex(&vec![0; zeros])));
+        same(&format!("string form of {zeros} zeros"), room("string_read", &text), wanted);
+        let outside = [&text[..], b"!"].concat();
+        let wanted = format!("refused 21 {}", text.len());
+        same(&format!("string form of {zeros} zeros and !"), room("string_read", &outside), wanted);
+    }
+    let lone = [&b"notepack_"[..], &[b'A'; 87_381]].concat();
+    same("string form of 87,381 characters", room("string_read", &lone), "refused 21 87390".into());
+    let mut longest = packed(b"\0", b"\0\xfa\xfe\x03");
+    longest.resize(65_535, b'x');
+    longest.push(0);
+    let string = answer_bytes(&ask(format!("string_write {} 87391", hex(&longest))));
+    same("the longest string form", string.len().to_string(), "87391".into());
+    same("the longest string form, read", ask(format!("string_read {} 65536", hex(&string))), left(&longest));
+}
+
+fn ask(request: String) -> String {
+    answer(&request).unwrap_or_default()
+}
+
+/// The answer with room for every event.
+fn room(entry: &str, s: &[u8]) -> String {
+    ask(format!("{entry} {} 70000", hex(s)))
+}
+
+/// The answer of an entry that leaves these bytes.
+fn left(s: &[u8]) -> String {
+    format!("ok {} {}", s.len(), hex(s))
 }
 
 /// The bytes of an answer `ok LENGTH BYTES`.

@@ -3,6 +3,7 @@
 use crate::event::*;
 use crate::json::*;
 use crate::notepack::*;
+use crate::string_form::*;
 use crate::texts::*;
 use crate::{firsts, rooms, Requests, PACKED};
 
@@ -13,6 +14,7 @@ pub fn all(g: &mut Requests) {
     carry_boundaries(g);
     nson_boundaries(g);
     json_boundaries(g);
+    string_boundaries(g);
     rival_boundaries(g);
 }
 
@@ -418,6 +420,91 @@ fn json_boundaries(g: &mut Requests) {
         ask(g, &spaced.join(space));
         let place = g.dice.below(spaced.len());
         ask(g, &[spaced[..place].concat(), space.to_vec(), spaced[place..].concat()].concat());
+    }
+}
+
+/// String forms: prefixes, the last characters, the order of faults, sizes.
+fn string_boundaries(g: &mut Requests) {
+    if !g.has("string_read") {
+        return;
+    }
+    let ask = |g: &mut Requests, text: &[u8], e: &Event| g.all(&["string_read"], text, e);
+    for e in [small(), carried(), vector(), mixed()] {
+        let loose = loose(&mut g.dice, &e);
+        for packed in [strict(&e), loose] {
+            ask(g, &string_of(&packed), &e);
+            for prefix in ODD_PREFIXES {
+                ask(g, &[prefix, &base64(&packed, 0)].concat(), &e);
+            }
+        }
+    }
+    for at in 0..PREFIX.len() {
+        ask(g, &PREFIX[..at], &small());
+        let mut other = string_of(&strict(&small()));
+        other[at] ^= 0x20;
+        ask(g, &other, &small());
+    }
+    for content in ["", "a", "ab"] {
+        last_characters(g, &Event { content: content.into(), ..carried() });
+    }
+    for chars in (0..=13).chain(165..=190) {
+        for c in [b'A', b'/'] {
+            ask(g, &[PREFIX, &vec![c; chars]].concat(), &small());
+        }
+    }
+    string_sizes(g);
+}
+
+/// Of an event whose packed bytes leave 0, 1 or 2 after division by 3: each byte as one of the last four characters,
+/// each number in the bits left over, and faults that come together.
+fn last_characters(g: &mut Requests, e: &Event) {
+    let packed = strict(e);
+    let text = string_of(&packed);
+    for from_end in 1..=4 {
+        for b in 0..=255 {
+            let mut changed = text.clone();
+            changed[text.len() - from_end] = b;
+            g.one("string_read", &changed, e);
+        }
+    }
+    for leftover in 0..16 {
+        let text = [PREFIX, &base64(&packed, leftover)].concat();
+        g.one("string_read", &text, e);
+        for (place, b) in [(PREFIX.len(), b'!'), (100, b'='), (text.len() - 1, b'-'), (0, b'N')] {
+            let mut changed = text.clone();
+            changed[place] = b;
+            g.one("string_read", &changed, e);
+            changed[text.len() / 2] = b'?';
+            g.one("string_read", &changed, e);
+        }
+    }
+    for more in ["A", "B", "AA", "AB", "AAA", "AAB", "=", "==", "\n", "\r\n", " ", "A=", "A\n"] {
+        g.all(&["string_read"], &[&text, more.as_bytes()].concat(), e);
+        g.one("string_read", &[&text[..text.len() - 1], more.as_bytes()].concat(), e);
+    }
+}
+
+/// About 65,536 decoded bytes, and far more characters than that takes.
+fn string_sizes(g: &mut Requests) {
+    let e = small();
+    for size in [65_534, 65_535, 65_536, 65_537, 65_538] {
+        let content = vec![b'x'; size - strict(&e).len() - 2];
+        let packed = strict(&Event { content, ..small() });
+        g.all(&["string_read"], &string_of(&packed), &e);
+        // refused at the end: a tag that is not there, and something behind the end
+        let cut = [&packed[..packed.len() - 1], &[1]].concat();
+        g.one("string_read", &string_of(&cut), &e);
+        g.one("string_read", &string_of(&[&packed[..], &[0]].concat()), &e);
+        g.one("string_read", &[&string_of(&packed)[..], b"\n"].concat(), &e);
+    }
+    for chars in (87_379..=87_385).chain([199_999, 200_000, 200_001, 200_002]) {
+        let text = [PREFIX, &vec![b'A'; chars]].concat();
+        let last = text.len() - 1;
+        for (place, b) in [(9, b'A'), (last, b'B'), (last, b'!'), (9, b'\n'), (8, b'-'), (last.min(90_000), b'=')] {
+            let mut changed = text.clone();
+            changed[place] = b;
+            g.one("string_read", &changed, &e);
+        }
     }
 }
 

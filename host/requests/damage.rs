@@ -4,6 +4,7 @@ use crate::dice::Dice;
 use crate::event::*;
 use crate::json::*;
 use crate::notepack::*;
+use crate::string_form::*;
 use crate::texts::*;
 use crate::{Requests, PACKED};
 
@@ -13,13 +14,15 @@ pub fn everywhere(g: &mut Requests) {
     for e in &samples {
         let loose = loose(&mut g.dice, e);
         for bytes in [strict(e), loose] {
-            damaged(g, &PACKED, &bytes, e);
+            damaged(g, &PACKED, &bytes, e, &ODD_BYTES);
+            damaged(g, &["string_read"], &string_of(&bytes), e, &ODD_CHARS);
+            damaged_inside(g, &bytes, e);
         }
         let nson = Nson::of(e).spelled();
-        damaged(g, &["nson_read", "json_read"], &nson, e);
+        damaged(g, &["nson_read", "json_read"], &nson, e, &ODD_BYTES);
         let tokens = json_tokens(&mut g.dice, e);
         let json = joined(&mut g.dice, &tokens);
-        damaged(g, &["json_read"], &json, e);
+        damaged(g, &["json_read"], &json, e, &ODD_BYTES);
     }
     if g.has("rivals") {
         let (a, b) = (strict(&Event { kind: 3, ..mixed() }), strict(&Event { kind: 3, ..mixed() }));
@@ -34,24 +37,38 @@ pub fn everywhere(g: &mut Requests) {
     }
 }
 
-fn damaged(g: &mut Requests, kinds: &[&str], bytes: &[u8], e: &Event) {
+fn damaged(g: &mut Requests, kinds: &[&str], bytes: &[u8], e: &Event, odd: &[u8]) {
     for place in 0..bytes.len() {
-        let mut changes = vec![bytes[..place].to_vec()];
-        for odd in [bytes[place] ^ 1, bytes[place] ^ 0x80, bytes[place].wrapping_add(1), g.dice.pick(&ODD_BYTES)] {
-            let mut changed = bytes.to_vec();
-            changed[place] = odd;
-            changes.push(changed);
-        }
-        let mut less = bytes.to_vec();
-        less.remove(place);
-        changes.push(less);
-        let mut more = bytes.to_vec();
-        more.insert(place, g.dice.pick(&ODD_BYTES));
-        changes.push(more);
-        for changed in changes {
+        for changed in changes_at(&mut g.dice, bytes, place, odd) {
             g.any(kinds, &changed, e);
         }
     }
+}
+
+/// String forms of bytes that are damaged.
+fn damaged_inside(g: &mut Requests, bytes: &[u8], e: &Event) {
+    for place in 0..bytes.len() {
+        for changed in changes_at(&mut g.dice, bytes, place, &ODD_BYTES) {
+            g.any(&["string_read"], &string_of(&changed), e);
+        }
+    }
+}
+
+/// Cut at this place; the byte there changed, taken out, or another put in.
+fn changes_at(d: &mut Dice, bytes: &[u8], place: usize, odd: &[u8]) -> Vec<Vec<u8>> {
+    let mut changes = vec![bytes[..place].to_vec()];
+    for b in [bytes[place] ^ 1, bytes[place] ^ 0x80, bytes[place].wrapping_add(1), d.pick(odd)] {
+        let mut changed = bytes.to_vec();
+        changed[place] = b;
+        changes.push(changed);
+    }
+    let mut less = bytes.to_vec();
+    less.remove(place);
+    changes.push(less);
+    let mut more = bytes.to_vec();
+    more.insert(place, d.pick(odd));
+    changes.push(more);
+    changes
 }
 
 const ODD_BYTES: [u8; 28] = [
@@ -103,6 +120,10 @@ pub fn random(g: &mut Requests) {
         "json_read" => {
             let text = random_json(&mut g.dice, &e);
             g.any(&["json_read"], &text, &e);
+        }
+        "string_read" => {
+            let text = random_string(&mut g.dice, &e);
+            g.one("string_read", &text, &e);
         }
         _ => {
             if kind == "nson_write" && g.dice.percent(70) {
@@ -186,6 +207,18 @@ fn random_json(d: &mut Dice, e: &Event) -> Vec<u8> {
             bytes
         }
     }
+}
+
+/// The string form of bytes that may be wrong, with up to three things that happened to it.
+fn random_string(d: &mut Dice, e: &Event) -> Vec<u8> {
+    let mut text = string_of(&random_packed(d, e));
+    let spoils = d.pick(&[0, 0, 0, 1, 1, 1, 1, 2, 3]);
+    for _ in 0..spoils {
+        if text.len() > PREFIX.len() + 3 {
+            spoil_string(d, &mut text);
+        }
+    }
+    text
 }
 
 /// Two events that are near to each other.

@@ -52,6 +52,13 @@ ends {d} {vs} {d′} {r} w =
     let f : d′ ≡ vs ++ drop (length vs) d = ap (λ (c : Buffer). c .0) (w .is ∙ puts-fit d vs fit) in
     record { most = omega (arith, e); full = λ h. omega (arith, e); place = λ h. e; stands = λ h. rw (f, e) (take-front vs (drop (length vs) d)) })
 
+-- a text that fits stands from the start
+pub stands-whole : {d vs d′ : List ℕ} {r : ℕ} → length vs ≤ length d → Wrote d 0 vs d′ r → take r d′ ≡ vs
+stands-whole {d} {vs} {d′} {r} h w =
+    let e : r ≡ length vs = ap (λ (c : Buffer). c .1) (w .is ∙ puts-fit d vs h) in
+    let f : d′ ≡ vs ++ drop (length vs) d = ap (λ (c : Buffer). c .0) (w .is ∙ puts-fit d vs h) in
+    rw (f, e) (take-front vs (drop (length vs) d))
+
 -- a writer with room ends behind its text
 pub ends-behind : {d : List ℕ} {at : ℕ} {vs d′ : List ℕ} {r : ℕ} → at + length vs ≤ length d → Wrote d at vs d′ r → r ≡ at + length vs
 ends-behind {d} {at} {vs} h w = ap (λ (b : Buffer). b .1) (w .is ∙ puts-eq d at vs h)

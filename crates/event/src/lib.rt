@@ -53,6 +53,10 @@ pub const NOT_CARRIED: u8 = 17;
 pub const TOO_DEEP: u8 = 18;
 // no such tag or element
 pub const NO_SUCH: u8 = 19;
+// string form: another prefix
+pub const NO_PREFIX: u8 = 20;
+// string form: a byte outside the alphabet of base64, or an end that base64 does not have
+pub const NO_BASE64: u8 = 21;
 
 // The limits.
 

@@ -6,17 +6,12 @@ use mathlib.Core.Bool.{true}
 use mathlib.Core.Logic.{dite}
 use native.Mathlib.Omega.{arith}
 use native.Mathlib.Decide.{decLt}
-use lib.Dec.{leb}
-use borrow.Author.Tests.{lt-ltb, le-ltb, le-leb, lt-leb, leb-true}
+use borrow.Author.Tests.{lt-ltb, le-ltb, le-leb, lt-leb}
 use Rattle.scan.specs.Place.{within}
-use Rattle.scan.proofs.Step.{pick-true, pick-by}
+use Rattle.scan.proofs.PlaceLaws.{within-bounds}
+use Rattle.scan.proofs.Step.{pick-by}
 use Rattle.hex.specs.Hex.{valueOf, digitOf}
 use Rattle.hex.specs.inner.LowerHex.{number, letter, LowerHex}
-
--- what passes the test of a range is in it
-pub in-range : (low high b : ℕ) → within low high b ≡ true → (low ≤ b) × (b ≤ high)
-unfolding within
-in-range low high b h = let t = pick-true (leb low b) (leb b high) h in (leb-true low b (t .0), leb-true b high (t .1))
 
 -- the value of 0-9
 value-number : (b : ℕ) → 48 ≤ b → b ≤ 57 → valueOf b ≡ b - 48
@@ -32,8 +27,8 @@ value-letter b l h = simp (le-leb 48 b (omega arith), lt-leb b 57 (omega arith),
 pub value-most : (b : ℕ) → valueOf b ≤ 16
 unfolding valueOf
 value-most b =
-    pick-by (λ (v : ℕ). v ≤ 16) (within 48 57 b) (λ t. let r = in-range 48 57 b t in omega arith)
-    (λ f. pick-by (λ (v : ℕ). v ≤ 16) (within 97 102 b) (λ t. let r = in-range 97 102 b t in omega arith) (λ g. omega arith))
+    pick-by (λ (v : ℕ). v ≤ 16) (within 48 57 b) (λ t. let r = within-bounds 48 57 b t in omega arith)
+    (λ f. pick-by (λ (v : ℕ). v ≤ 16) (within 97 102 b) (λ t. let r = within-bounds 97 102 b t in omega arith) (λ g. omega arith))
 
 -- a digit has a value below 16
 pub digit-value : {b : ℕ} → LowerHex b → valueOf b < 16
@@ -44,9 +39,9 @@ digit-value {b} (letter l h) = omega (arith, value-letter b l h)
 pub value-digit : (b : ℕ) → valueOf b < 16 → LowerHex b
 unfolding valueOf
 value-digit b =
-    pick-by (λ (v : ℕ). v < 16 → LowerHex b) (within 48 57 b) (λ t h. let r = in-range 48 57 b t in number (r .0) (r .1))
+    pick-by (λ (v : ℕ). v < 16 → LowerHex b) (within 48 57 b) (λ t h. let r = within-bounds 48 57 b t in number (r .0) (r .1))
     (λ f.
-    pick-by (λ (v : ℕ). v < 16 → LowerHex b) (within 97 102 b) (λ t h. let r = in-range 97 102 b t in letter (r .0) (r .1))
+    pick-by (λ (v : ℕ). v < 16 → LowerHex b) (within 97 102 b) (λ t h. let r = within-bounds 97 102 b t in letter (r .0) (r .1))
     (λ g h. absurd (omega arith)))
 
 -- the digit of a value below 16 is a digit

@@ -2,23 +2,16 @@
 -- The text from i on is its bytes at i and the text behind them.
 use Prim.Native.Nat.{ℕ, _+_, _*_, _-_, _/_, _%_, _<_, _≤_}
 use mathlib.Core.Path.{_≡_, refl, sym, ap, _∙_}
-use mathlib.Core.Bool.{Bool, true}
 use mathlib.Core.List.{List, [], _∷_, _++_}
 use native.Mathlib.Omega.{arith}
 use lib.ListN.{length, getD, set, take, drop, length-set, length-take, length-drop, length-append, take-append-drop}
 use lib.Seq.{take-append-le, append-snoc}
-use Rattle.scan.specs.Place.{within}
 use Rattle.scan.proofs.Step.{rest-more}
 use Rattle.buffer.specs.inner.Store.{Wrote}
 use Rattle.buffer.proofs.Laws.{then}
 use Rattle.buffer.proofs.Places.{past}
 use Rattle.hex.specs.Hex.{valueOf, digitOf, hexes, unhex}
-use Rattle.hex.proofs.Digits.{in-range}
 use Rattle.hex.proofs.Texts.{hexes-append, length-hexes, unhex-append, length-unhex}
-
--- a byte that passed the test of a range is at least its lower end
-pub low-enough : (low high b : ℕ) {t : Bool} → t ≡ within low high b → t ≡ true → low ≤ b
-low-enough low high b e k = in-range low high b (sym e ∙ k) .0
 
 -- ---- too little room
 

@@ -19,7 +19,7 @@ use Rattle.scan.proofs.SpanLaws.{join, bite, span-length, part-of-span}
 use Rattle.scan.proofs.Reading.{Reads, reads, fails, pick-reads, then-reads, from-reads}
 use Rattle.utf8.specs.Utf8.{Utf8}
 use Rattle.hex.specs.Hex.{hexes, unhex, allDigits}
-use Rattle.hex.proofs.Digits.{in-range}
+use Rattle.scan.proofs.PlaceLaws.{within-bounds}
 use Rattle.hex.proofs.Texts.{hexes-unhex, pass-digits, length-unhex, unhex-bytes}
 use Rattle.decimal.specs.Decimal.{DecimalDigit, digit, numberOf, isDigit}
 use Rattle.event.specs.Event.{Text, Tag, Bytes, ValidTag}
@@ -88,7 +88,7 @@ unfolding digitsOnly
 only-digits [] h = span.none
 only-digits (b ∷ l) h =
     let t = pick-true (isDigit b) (digitsOnly l) h in
-    let r = in-range 48 57 b (t .0) in
+    let r = within-bounds 48 57 b (t .0) in
     span.also (digit (r .0) (r .1)) (only-digits l (t .1))
 
 -- the bytes of a span, taken from the input by its two places

@@ -15,7 +15,7 @@ use Rattle.scan.proofs.Step.{pick-true}
 use Rattle.utf8.specs.Utf8 as utf8
 use Rattle.hex.specs.Hex.{hexes}
 use Rattle.hex.specs.inner.LowerHex as hex
-use Rattle.hex.proofs.Digits.{in-range}
+use Rattle.scan.proofs.PlaceLaws.{within-bounds}
 use Rattle.hex.proofs.Texts.{hexes-digits}
 use Rattle.decimal.specs.Decimal.{DecimalDigit, digit, decimal}
 use Rattle.decimal.proofs.Spelling.{decimal-last, length-some, decimal-digits, decimal-first}
@@ -104,7 +104,7 @@ pub name-chars : (l : List ℕ) → letters l ≡ true → json.Chars l l
 name-chars [] h = json.no-char
 name-chars (b ∷ l) h =
     let t = pick-true (within 0x5D 0x7F b) (letters l) h in
-    let r = in-range 0x5D 0x7F b (t .0) in
+    let r = within-bounds 0x5D 0x7F b (t .0) in
     one-char (json.to-7F (utf8.octet (r .0) (r .1))) (name-chars l (t .1))
 
 -- ---- numbers

@@ -18,9 +18,10 @@ use Rattle.scan.proofs.SpanLaws.{join, cut-at, nth, seen, span-fits}
 use Rattle.utf8.specs.Utf8.{octet}
 use Rattle.utf8.specs.Encode.{Scalar, below, above, encode}
 use Rattle.utf8.proofs.EncodeLaws.{encode-one, encode-length}
+use Rattle.scan.proofs.PlaceLaws.{within-bounds}
 use Rattle.hex.specs.Hex.{valueOf}
 use Rattle.hex.specs.inner.LowerHex.{number, letter, LowerHex}
-use Rattle.hex.proofs.Digits.{in-range, value-digit, value-of-digit}
+use Rattle.hex.proofs.Digits.{value-digit, value-of-digit}
 use Rattle.jsontext.specs.declared.Escape.{Escape}
 use Rattle.jsontext.specs.Grammar as json
 use Rattle.jsontext.specs.inner.Escape.{hexValue, unitOf, unitAt, escape, noEscape, unescapedLetter, letterEscape, pairOf, unicodeAt, escapeAt}
@@ -48,7 +49,7 @@ digit-value (json.HexDigit.small {b = b} l h) = (simp (le-leb 0x41 b (omega arit
 value-hex : (b : ℕ) → hexValue b < 16 → json.HexDigit b (hexValue b)
 unfolding hexValue
 value-hex b =
-    pick-by (λ (v : ℕ). v < 16 → json.HexDigit b v) (within 0x41 0x46 b) (λ t h. let r = in-range 0x41 0x46 b t in json.HexDigit.capital (r .0) (r .1))
+    pick-by (λ (v : ℕ). v < 16 → json.HexDigit b v) (within 0x41 0x46 b) (λ t h. let r = within-bounds 0x41 0x46 b t in json.HexDigit.capital (r .0) (r .1))
     (λ f h. lower (value-digit b h))
   where
     lower : LowerHex b → json.HexDigit b (valueOf b)

@@ -15,9 +15,8 @@ use Rattle.scan.specs.Bytes.{also}
 use Rattle.scan.specs.inner.Span.{here, step, Span}
 use Rattle.scan.proofs.Step.{pick-by}
 use Rattle.scan.proofs.SpanLaws.{join, cut, bite, seen, span-length, span-fits}
-use Rattle.scan.proofs.PlaceLaws.{run-again, run-span, span-run, span-stands, stands-span}
+use Rattle.scan.proofs.PlaceLaws.{within-bounds, run-again, run-span, span-run, span-stands, stands-span}
 use Rattle.scan.proofs.Reading.{Reads, reads, fails, pick-reads}
-use Rattle.hex.proofs.Digits.{in-range}
 use Rattle.jsontext.specs.Grammar as json
 use Rattle.jsontext.specs.Token.{Done, done, past, isSpace, spaceAt, wordAt, digitsOr, minusAt, signAt, intAt, fracAt, isE, expAt, numberFrom, unsignedFrom, skipNumber}
 use Rattle.decimal.specs.Decimal.{DecimalDigit, digit, isDigit}
@@ -90,7 +89,7 @@ word-accepts {w} {s} {a} {c} r = rw (span-stands r, ← span-length r)
 -- ---- digits
 
 to-digit : (b : ℕ) → isDigit b ≡ true → DecimalDigit b
-to-digit b t = let r = in-range 0x30 0x39 b t in digit (r .0) (r .1)
+to-digit b t = let r = within-bounds 0x30 0x39 b t in digit (r .0) (r .1)
 
 of-digit : (b : ℕ) → DecimalDigit b → isDigit b ≡ true
 unfolding within
@@ -113,7 +112,7 @@ digits-accept {s} {a = a} other (json.digits {b = b} g m) (step h e r) n =
 
 -- a digit is none of the marks
 digit-range : (b : ℕ) → isDigit b ≡ true → (0x30 ≤ b) × (b ≤ 0x39)
-digit-range b t = in-range 0x30 0x39 b t
+digit-range b t = within-bounds 0x30 0x39 b t
 
 -- ---- the parts of a number, consumed
 

@@ -20,6 +20,8 @@ use Rattle.notepack.specs.Strict.{pack}
 use Rattle.notepack.proofs.Telling.{packed-tells, unpack-tells, numbers-tells, texts-tells, element-of-tells}
 use Rattle.elements.specs.Elements.{rows, listed, elementsTold, elementsLeft}
 use Rattle.strict.proofs.Telling.{strict-tells}
+use Rattle.stringform.specs.StringForm.{eventString, readString, itself}
+use Rattle.stringform.proofs.Telling.{string-tells}
 use Rattle.canonical.specs.Canonical.{canonical}
 use Rattle.nson.specs.Nson.{nson}
 use Rattle.nson.specs.inner.Decision.{carries}
@@ -92,7 +94,7 @@ kept : (text d : List ℕ) → leb (length text) (length d) ≡ false → filled
 unfolding filled
 kept text d h = rw h refl
 
-write-keeps : (text : Event → List ℕ) (a : Answer Event) (d : List ℕ) (n p : ℕ) → writes text a d ≡ refused n p → leaves text a d ≡ d
+write-keeps : {A : Type 0} (text : A → List ℕ) (a : Answer A) (d : List ℕ) (n p : ℕ) → writes text a d ≡ refused n p → leaves text a d ≡ d
 unfolding written
 write-keeps text (shown x) d n p = go (leb (length (text x)) (length d)) refl
   where
@@ -144,6 +146,8 @@ entries-refuse =
       notepack-tag-len = λ i s. asked s (texts-tells s i);
       notepack-element = λ i j s. told s (λ p. 0) (element-of-tells s i j);
       notepack-elements = λ i s d. told s (λ p. length (listed i d p)) (packed-tells s);
+      string-write = λ s d. fills s eventString (unpack s) d (unpack-tells s);
+      string-read = λ t d. fills t itself (readString t) d (string-tells t);
       canonical-write = λ s d. fills s canonical (unpack s) d (unpack-tells s);
       nson-write = λ s d. fills s nson (carried (unpack s)) d (carried-tells s);
       nson-read = λ s d. fills s pack (readNson s) d (nson-tells s);
@@ -151,9 +155,11 @@ entries-refuse =
       read-both = both-fills;
       which-is-kept = rivals-tells;
       write-keeps = write-keeps;
+      string-keeps = λ t d. write-keeps itself (readString t) d;
       elements-keep = elements-keep;
       both-keeps = both-keeps;
       packed-not-0 = refl;
+      string-not-0 = refl;
       view-not-0 = refl;
       nson-not-0 = refl;
       json-not-0 = refl;

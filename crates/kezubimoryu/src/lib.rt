@@ -18,6 +18,7 @@ ghost use Rattle.notepack.specs.Unpack.{unpack};
 ghost use Rattle.notepack.specs.Views.{numbersOf, textsIn, elementOf};
 ghost use Rattle.elements.specs.Elements.{elementsTold, elementsLeft};
 ghost use Rattle.strict.specs.Strict.{strict};
+ghost use Rattle.stringform.specs.StringForm.{eventString, readString, itself};
 ghost use Rattle.canonical.specs.Canonical.{canonical};
 ghost use Rattle.nson.specs.Entries.{nsonReads, nsonLeaves, nsonWrites, writerLeaves};
 ghost use Rattle.json.specs.Entries.{jsonReads, jsonLeaves};
@@ -152,6 +153,22 @@ pub extern "C" fn kez_notepack_element(
 }
 
 #[no_mangle]
+pub extern "C" fn kez_notepack_string_write(packed: &[u8], out: &mut [u8]) -> KezAnswer
+    ensures { λ a. ⌜ (a .refusal, a .value) ≡ twoNumbers (writes eventString (unpack (now (packed .entry))) (now (out .entry))) ⌝ }
+    ensures { λ _. ⌜ now (out .exit) ≡ leaves eventString (unpack (now (packed .entry))) (now (out .entry)) ⌝ }
+{
+    written(stringform::write_string(packed, out))
+}
+
+#[no_mangle]
+pub extern "C" fn kez_notepack_string_read(text: &[u8], out: &mut [u8]) -> KezAnswer
+    ensures { λ a. ⌜ (a .refusal, a .value) ≡ twoNumbers (writes itself (readString (now (text .entry))) (now (out .entry))) ⌝ }
+    ensures { λ _. ⌜ now (out .exit) ≡ leaves itself (readString (now (text .entry))) (now (out .entry)) ⌝ }
+{
+    written(stringform::read_string(text, out))
+}
+
+#[no_mangle]
 pub extern "C" fn kez_canonical_write(packed: &[u8], out: &mut [u8]) -> KezAnswer
     ensures { λ a. ⌜ (a .refusal, a .value) ≡ twoNumbers (writes canonical (unpack (now (packed .entry))) (now (out .entry))) ⌝ }
     ensures { λ _. ⌜ now (out .exit) ≡ leaves canonical (unpack (now (packed .entry))) (now (out .entry)) ⌝ }
@@ -244,7 +261,7 @@ pub extern "C" fn kez_rivals(first: &[u8], second: &[u8]) -> KezAnswer
 // The version as one number: 10,000 for a major one, 100 for a minor one, 1 for a patch.
 #[no_mangle]
 pub extern "C" fn kez_version() -> u64
-    ensures { λ r. ⌜ r ≡ 500 ⌝ }
+    ensures { λ r. ⌜ r ≡ 600 ⌝ }
 {
-    500
+    600
 }

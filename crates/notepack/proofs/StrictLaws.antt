@@ -10,10 +10,13 @@ use lib.ListN.{length, length-append}
 use Rattle.scan.specs.Choice.{pick, Answer, shown}
 use Rattle.scan.specs.Bytes.{All, IsBytes}
 use Rattle.scan.proofs.Step.{pick-by}
+use Rattle.scan.proofs.AllLaws.{all-append}
 use Rattle.varint.specs.Uleb.{Spells, uleb}
-use Rattle.varint.proofs.UlebLaws.{uleb-spells}
+use Rattle.varint.proofs.UlebLaws.{uleb-spells, uleb-bytes}
 use Rattle.hex.specs.Hex.{hexes, unhex, goesAsBytes}
 use Rattle.hex.proofs.Texts.{hexes-unhex, unhex-bytes, go-digits, length-unhex}
+use Rattle.utf8.specs.Utf8.{Utf8}
+use Rattle.utf8.proofs.Laws.{utf8-bytes}
 use Rattle.event.specs.Event.{Text, Tag, Event, ValidTag, Valid}
 use Rattle.notepack.specs.Layout.{Element, as-text, as-bytes, Elements, TagLays, Tags, Lays}
 use Rattle.notepack.specs.Strict.{packElement, packElements, packTag, packTags, pack}
@@ -79,6 +82,36 @@ pack-lays e v h =
     (uleb-spells (length (e .content)) (omega arith))
     (uleb-spells (length (e .tags)) (omega (arith, v .few)))
     (tags-lay (v .each) (tail-short (uleb (length (e .tags))) _ n))
+
+-- ---- the strict form is bytes
+
+element-bytes : (t : Text) → Utf8 t → IsBytes (packElement t)
+unfolding packElement
+element-bytes t u =
+    pick-by IsBytes (goesAsBytes t) (λ g. all-append (uleb-bytes (2 * length (unhex t) + 1)) (unhex-bytes t))
+    (λ f. all-append (uleb-bytes (2 * length t)) (utf8-bytes u))
+
+elements-bytes : {ts : Tag} → All Utf8 ts → IsBytes (packElements ts)
+elements-bytes All.none = All.none
+elements-bytes (All.also {b = t} u w) = all-append (element-bytes t u) (elements-bytes w)
+
+tags-bytes : {ts : List Tag} → All ValidTag ts → IsBytes (packTags ts)
+unfolding packTag
+tags-bytes All.none = All.none
+tags-bytes (All.also {b = t} v w) = all-append (all-append (uleb-bytes (length t)) (elements-bytes (v .texts))) (tags-bytes w)
+
+pub pack-bytes : (e : Event) → Valid e → IsBytes (pack e)
+unfolding pack
+pack-bytes e v =
+    all-append (v .id32 .each)
+    (all-append (v .pubkey32 .each)
+    (all-append (v .sig64 .each)
+    (all-append (uleb-bytes (e .createdAt))
+    (all-append (uleb-bytes (e .kind))
+    (all-append (uleb-bytes (length (e .content)))
+    (all-append (utf8-bytes (v .text)) (all-append (uleb-bytes (length (e .tags))) (tags-bytes (v .each)))))))))
+
+-- ---- it is read back
 
 -- The strict form of a valid event, if it is no longer than an input may be, is read as that event.
 pub reads-back : (e : Event) → Valid e → length (pack e) ≤ 65_536 → unpack (pack e) ≡ shown e

@@ -15,7 +15,7 @@ use Rattle.scan.specs.inner.Span.{Span}
 use Rattle.scan.proofs.SpanLaws.{join, cut-at, span-length}
 use Rattle.scan.proofs.Many.{after, pick-shown, shown-same, many-shown, many-accepts}
 use Rattle.hex.specs.Hex.{hexes}
-use Rattle.hex.proofs.Digits.{in-range}
+use Rattle.scan.proofs.PlaceLaws.{within-bounds}
 use Rattle.hex.proofs.Texts.{hexes-append}
 use Rattle.nson.specs.Nson.{Counts, word, words, tagCounts}
 use Rattle.nson.specs.Read.{byteCountAt, wordCountAt, kindCountAt, itemCountAt, tagCountsAt}
@@ -49,7 +49,7 @@ kind-count-shown end s at v e =
     (λ n p e₁.
     let t = pick-shown _ _ 13 at v e₁ in
     let f : n ≡ v = shown-same (t .1) in
-    let k = in-range 1 5 (n .value) (t .0) in
+    let k = within-bounds 1 5 (n .value) (t .0) in
     rw (sym f) (byte-count-shown end s at n p .0, k .0, k .1))
 
 pub kind-count-accepts : (end : ℕ) (s : List ℕ) (k at p : ℕ) → p ≤ end → 1 ≤ k → k ≤ 5 → Span s at (hexes (k ∷ [])) p → kindCountAt end s at ≡ read k p

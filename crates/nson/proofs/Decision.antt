@@ -12,7 +12,7 @@ use Rattle.scan.specs.Choice.{pick}
 use Rattle.scan.specs.Place.{within}
 use Rattle.scan.specs.Bytes.{All, none, also}
 use Rattle.scan.proofs.Step.{pick-true}
-use Rattle.hex.proofs.Digits.{in-range}
+use Rattle.scan.proofs.PlaceLaws.{within-bounds}
 use Rattle.escape.specs.inner.Controls.{nsonText}
 use Rattle.escape.proofs.QuotedLaws.{nson-text}
 use Rattle.event.specs.Event.{Text, Tag, Event}
@@ -67,7 +67,7 @@ carries-exactly e = (says, said)
         let b = pick-true (fits (e .content)) tags (a .1) in
         let c = pick-true (tagsFit (e .tags)) size (b .1) in
         let d = pick-true (leb (4 + tagBytes (e .tags)) 127) (leb (length (nson e)) 65_536) (c .1) in
-        let time = in-range 1_000_000_000 9_999_999_999 (e .createdAt) (a .0) in
+        let time = within-bounds 1_000_000_000 9_999_999_999 (e .createdAt) (a .0) in
         record {
           early = time .0;
           late = time .1;

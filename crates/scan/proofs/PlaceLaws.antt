@@ -1,7 +1,8 @@
--- A fixed byte string stands at a place exactly where it is a span, and a run is the longest span of bytes that pass.
+-- A range is its bounds; a fixed byte string stands at a place exactly where it is a span; a run is the longest span of
+-- bytes that pass.
 -- The loops of the code cite the laws of each turn and the ruleset `runs`; a grammar cites the four laws that speak of
 -- `Span`.
-use Prim.Native.Nat.{ℕ, _+_, _-_, _<_, _≤_}
+use Prim.Native.Nat.{ℕ, zero, suc, _+_, _-_, _<_, _≤_}
 use mathlib.Core.Path.{_≡_, refl, sym, ap, _∙_}
 use mathlib.Core.Bool.{Bool, true, false}
 use mathlib.Core.List.{List, [], _∷_, _++_}
@@ -9,13 +10,24 @@ use mathlib.Core.Logic.{dite}
 use native.Mathlib.Omega.{arith}
 use native.Mathlib.Decide.{decLt}
 use lib.ListN.{length, getD, drop, length-drop}
-use lib.Dec.{eqb}
-use borrow.Author.Tests.{eq-eqb, ne-eqb, eqb-true}
-use Rattle.scan.specs.Place.{begins, standsAt, run, runAt}
+use lib.Dec.{leb, eqb}
+use borrow.Author.Tests.{leb-true, eq-eqb, ne-eqb, eqb-true}
+use Rattle.scan.specs.Place.{begins, standsAt, within, run, runAt}
 use Rattle.scan.specs.Bytes.{All, none, also}
 use Rattle.scan.specs.inner.Span.{here, step, Span}
 use Rattle.scan.proofs.Step.{rest-none, rest-more, pick-by, pick-true, false-true}
 use Rattle.scan.proofs.SpanLaws.{from-span, to-span, place, span-fits}
+
+-- ---- a range
+
+-- what passes the test of a range is in it
+pub within-bounds : (low high b : ℕ) → within low high b ≡ true → (low ≤ b) × (b ≤ high)
+unfolding within
+within-bounds low high b h = let t = pick-true (leb low b) (leb b high) h in (leb-true low b (t .0), leb-true b high (t .1))
+
+-- a byte that passed the code's test is at least its lower end
+pub low-enough : (low high b : ℕ) {t : Bool} → t ≡ within low high b → t ≡ true → low ≤ b
+low-enough low high b e k = within-bounds low high b (sym e ∙ k) .0
 
 -- ---- a fixed byte string: where the loop stands
 
@@ -88,6 +100,13 @@ module _ (p : ℕ → Bool) (s : List ℕ) (at i : ℕ) where
   pub run-broke : (t : Bool) → runAt p s at ≡ runAt p s i → i < length s → t ≡ p (getD s i 0) → t ≡ false → i ≡ runAt p s at
   unfolding runAt run
   run-broke t v h e k = sym (v ∙ rw (rest-more s i, ← e, k))
+
+-- a block of bytes that pass
+pub run-over : (p : ℕ → Bool) (s : List ℕ) (n i e : ℕ) → e ≡ i + n → e ≤ length s → ((k : ℕ) → i ≤ k → k < e → p (getD s k 0) ≡ true) → runAt p s i ≡ runAt p s e
+run-over p s zero i e q h f = let z : i ≡ e = omega arith in ap (runAt p s) z
+run-over p s (suc n) i e q h f =
+    run-again p s i i true refl (omega arith) (sym (f i (omega arith) (omega arith))) refl
+    ∙ run-over p s n (i + 1) e (omega arith) h (λ k l m. f k (omega arith) m)
 
 pub ruleset runs = (run-again, run-left, run-broke)
 

@@ -30,7 +30,7 @@ use Rattle.notepack.proofs.Lengths.{tag-form}
 use Rattle.notepack.proofs.Walking.{walk-refuses}
 use Rattle.notepack.proofs.Again.{texts-count, tags-count, Accepted}
 use Rattle.strict.specs.Strict.{strict}
-use Rattle.strict.specs.inner.Copy.{packedHead}
+use Rattle.strict.specs.inner.Copy.{packedHead, packedPieces}
 
 -- ---- the strict question
 
@@ -66,8 +66,8 @@ tag-more s n at {l = l} e =
 
 module _ (s : List ℕ) (w : Walked) (g : Accepted s w) where
   -- what stands in front of the tags and the tags make the strict form
-  pack-written : packedHead s (w .head) ++ packTags (tagsAgain (w .head .«tag_count») s (w .head .«tags_at»)) ≡ pack (eventAgain s (w .head))
-  unfolding packedHead pack eventAgain
+  pub pack-written : packedPieces s (w .head) ≡ pack (eventAgain s (w .head))
+  unfolding packedPieces packedHead pack eventAgain
   pack-written = rw (ids s, tags-count s (w .head .«tag_count») (w .head .«tags_at»), g .size, g .plain) (simp append-assoc)
 
   module _ {d d′ : List ℕ} {r : ℕ} where
@@ -76,8 +76,7 @@ module _ (s : List ℕ) (w : Walked) (g : Accepted s w) where
     copied-whole n k v = subst (λ (l : List ℕ). Wrote d 0 l d′ r) (g .piece .same (sym (g .len) ∙ n) k) v
 
     -- what stands in front of the tags, and then the tags
-    pub copied-pieces : Wrote d 0 (packedHead s (w .head) ++ packTags (tagsAgain (w .head .«tag_count») s (w .head .«tags_at»))) d′ r
-        → Wrote d 0 (pack (eventAgain s (w .head))) d′ r
+    pub copied-pieces : Wrote d 0 (packedPieces s (w .head)) d′ r → Wrote d 0 (pack (eventAgain s (w .head))) d′ r
     copied-pieces v = subst (λ (l : List ℕ). Wrote d 0 l d′ r) pack-written v
 
   -- ---- the entry: its answer and what it leaves

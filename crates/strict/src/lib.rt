@@ -16,7 +16,7 @@ ghost use Rattle.notepack.specs.Unpack.{textOf, unpack};
 ghost use Rattle.notepack.specs.inner.Again.{textsAgain, textsEnd, tagsAgain, eventAgain};
 ghost use Rattle.notepack.specs.inner.Answers.{walkAt};
 ghost use Rattle.strict.specs.Strict.{strict};
-ghost use Rattle.strict.specs.inner.Copy.{packedHead};
+ghost use Rattle.strict.specs.inner.Copy.{packedHead, packedPieces};
 ghost use Rattle.strict.specs.inner.Answers.{strictRead};
 
 pub enum StrictRead {
@@ -129,6 +129,14 @@ fn put_packed_head(out: &mut [u8], at: usize, s: &[u8], h: Head) -> usize
     varint::put_varint(out, e, h.tag_count)
 }
 
+// The strict form of a walked event, piece by piece.
+pub fn put_packed(out: &mut [u8], at: usize, s: &[u8], h: Head) -> usize
+    ensures { λ r. ⌜ Wrote (now (out .entry)) at (packedPieces (now (s .entry)) h) (now (out .exit)) r ⌝ }
+{
+    let o = put_packed_head(out, at, s, h);
+    copy_tags(out, o, s, h.tags_at, h.tag_count)
+}
+
 // A walked event into a buffer that has room for its strict form. Bytes that are strict already are copied whole.
 fn copy_packed(out: &mut [u8], s: &[u8], h: Head, t: Tally) -> usize
     requires { ⌜ walkAt (now s) ≡ shown (record { head = h; tally = t }) ⌝ }
@@ -139,8 +147,7 @@ fn copy_packed(out: &mut [u8], s: &[u8], h: Head, t: Tally) -> usize
             return buffer::put_bytes(out, 0, s);
         }
     }
-    let o = put_packed_head(out, 0, s, h);
-    copy_tags(out, o, s, h.tags_at, h.tag_count)
+    put_packed(out, 0, s, h)
 }
 
 // The strict form of a packed event: the reader's refusals, then 11 with the length needed; else written from the

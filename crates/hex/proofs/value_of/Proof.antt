@@ -3,7 +3,7 @@
 use borrow.Author.Needs.{needs}
 use native.Mathlib.Omega.{arith}
 use Rattle.hex.specs.Hex.{valueOf}
-use Rattle.hex.proofs.Turn.{low-enough}
+use Rattle.scan.proofs.PlaceLaws.{low-enough}
 use Rattle.hex.proofs.value_of.Statement.{statement}
 use Rattle.hex.proofs.value_of.Tie as tie
 

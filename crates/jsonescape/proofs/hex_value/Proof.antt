@@ -2,7 +2,7 @@
 -- A byte of the range A-F is at least its lower end, so that no difference falls below 0.
 use borrow.Author.Needs.{needs}
 use native.Mathlib.Omega.{arith}
-use Rattle.hex.proofs.Turn.{low-enough}
+use Rattle.scan.proofs.PlaceLaws.{low-enough}
 use Rattle.jsontext.specs.inner.Escape.{hexValue}
 use Rattle.jsonescape.proofs.hex_value.Statement.{statement}
 use Rattle.jsonescape.proofs.hex_value.Tie as tie

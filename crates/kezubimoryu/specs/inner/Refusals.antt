@@ -16,6 +16,8 @@ use Rattle.notepack.specs.Strict.{pack}
 use Rattle.notepack.specs.Views.{numbersOf, textsIn, elementOf}
 use Rattle.elements.specs.Elements.{elementsTold, elementsLeft}
 use Rattle.strict.specs.Strict.{strict}
+use Rattle.stringform.specs.StringForm.{eventString, readString, itself}
+use Rattle.stringform.specs.inner.Numbers.{stringNumbers}
 use Rattle.canonical.specs.Canonical.{canonical}
 use Rattle.nson.specs.inner.Numbers.{nsonNumbers}
 use Rattle.nson.specs.Entries.{nsonReads, nsonWrites}
@@ -54,6 +56,8 @@ pub record Refusals : Type 0 where
   pub notepack-tag-len : (i : ℕ) (s : List ℕ) → Asks viewNumbers s (textsIn i s)
   pub notepack-element : (i j : ℕ) (s : List ℕ) → Asks viewNumbers s (ok (elementOf i j s))
   pub notepack-elements : (i : ℕ) (s d : List ℕ) → Asks packedNumbers s (elementsTold i s d)
+  pub string-write : (s d : List ℕ) → Fills packedNumbers s d (writes eventString (unpack s) d)
+  pub string-read : (t d : List ℕ) → Fills stringNumbers t d (writes itself (readString t) d)
   pub canonical-write : (s d : List ℕ) → Fills packedNumbers s d (writes canonical (unpack s) d)
   pub nson-write : (s d : List ℕ) → Fills writerNumbers s d (nsonWrites s d)
   pub nson-read : (s d : List ℕ) → Fills nsonNumbers s d (nsonReads s d)
@@ -64,10 +68,12 @@ pub record Refusals : Type 0 where
   -- after a refusal a lent buffer is as it was (rule 12.1.5): of an entry that writes the text of an event, and of both
   -- readers over one text
   pub write-keeps : (text : Event → List ℕ) (a : Answer Event) (d : List ℕ) (n p : ℕ) → writes text a d ≡ refused n p → leaves text a d ≡ d
+  pub string-keeps : (t d : List ℕ) (n p : ℕ) → writes itself (readString t) d ≡ refused n p → leaves itself (readString t) d ≡ d
   pub elements-keep : (i : ℕ) (s d : List ℕ) (n p : ℕ) → elementsTold i s d ≡ refused n p → elementsLeft i s d ≡ d
   pub both-keeps : (s d₁ d₂ : List ℕ) (n p : ℕ) → both s d₁ d₂ ≡ refused n p → (bothFirst s d₁ d₂ ≡ d₁) × (bothSecond s d₁ d₂ ≡ d₂)
   -- no number is 0
   pub packed-not-0 : among writerNumbers 0 ≡ false
+  pub string-not-0 : among stringNumbers 0 ≡ false
   pub view-not-0 : among viewNumbers 0 ≡ false
   pub nson-not-0 : among nsonNumbers 0 ≡ false
   pub json-not-0 : among jsonNumbers 0 ≡ false

@@ -5,7 +5,6 @@ use native.Mathlib.Omega.{arith}
 use borrow.Author.Needs.{needs}
 use borrow.Author.Tests.{not-true}
 use Rattle.scan.proofs.AllLaws.{all-places}
-use Rattle.buffer.proofs.Laws.{then}
 use Rattle.notepack.proofs.Again.{accepted}
 use Rattle.strict.proofs.Laws.{copied-whole, copied-pieces}
 use Rattle.strict.proofs.copy_packed.Statement.{statement}
@@ -23,12 +22,11 @@ whole c =
 
 pieces : tie.Need-returns-2
 pieces c =
-    let head = c .before .before .before .before .before .before in
-    let known = head .before .before .before .before in
+    let known = c .before .before .before .before .before .before in
     let start = known .before .before in
     let s = start .args .s .now in
     let bytes = all-places s (λ i. omega (arith, known .shared-slice-known .given i)) in
-    copied-pieces s _ (accepted s bytes _ _ refl (start .pre)) (then (head .put-packed-head .ensures) (c .before .before .copy-tags .ensures))
+    copied-pieces s _ (accepted s bytes _ _ refl (start .pre)) (c .before .before .put-packed .ensures)
 
 pub copy-packed-spec : {M : Type 1} → statement M
 copy-packed-spec =
@@ -37,7 +35,6 @@ copy-packed-spec =
     (λ c κs. search needs)
     (λ c. search needs)
     whole
-    (λ c κs. search needs)
     (λ c κs. search needs)
     (λ c. search needs)
     pieces)

@@ -1,0 +1,4 @@
+mod Below
+pub mod Alphabet
+pub mod Texts
+mod Turns

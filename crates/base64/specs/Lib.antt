@@ -1,0 +1,2 @@
+pub mod Base64
+pub mod inner

@@ -1,0 +1,2 @@
+pub mod StringForm
+pub mod inner
