@@ -1,0 +1,3 @@
+pub mod Prints
+pub mod Known
+pub mod Plan
