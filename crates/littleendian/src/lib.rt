@@ -1,5 +1,5 @@
 // Numbers of fixed width, the lowest byte first.
-ghost use Prim.Native.Nat.{_<_, _^_, _%_};
+ghost use Prim.Native.Nat.{_+_, _*_, _<_, _^_};
 ghost use mathlib.Core.Path.{_≡_};
 ghost use lib.ListN.{take};
 ghost use Rattle.buffer.specs.inner.Store.{Wrote};
