@@ -34,7 +34,9 @@ ephemeral-keyless e h =
     let t = pick-true (leb 20_000 (e .kind)) (leb (e .kind) 29_999) h in
     let a = leb-true 20_000 (e .kind) (t .0) in
     let b = leb-true (e .kind) 29_999 (t .1) in
-    rw (ne-eqb (e .kind) 0 (λ q. omega arith), ne-eqb (e .kind) 3 (λ q. omega arith), le-leb 10_000 (e .kind) (omega arith), lt-leb (e .kind) 19_999 (omega arith), lt-leb 30_000 (e .kind) (omega arith))
+    let m = ne-eqb (e .kind) 0 (λ q. omega arith) in
+    let n = ne-eqb (e .kind) 3 (λ q. omega arith) in
+    rw (m, n, le-leb 10_000 (e .kind) (omega arith), lt-leb (e .kind) 19_999 (omega arith), lt-leb 30_000 (e .kind) (omega arith))
 
 -- Of valid events, the same ones are equal.
 pub same-event : (d e : Event) → Valid d → Valid e → length (pack d) ≤ 65_536 → (sameEvent d e ≡ true) ↔ (d ≡ e)

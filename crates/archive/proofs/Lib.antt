@@ -1,2 +1,4 @@
 pub mod Lookup
 pub mod Laws
+pub mod Run
+pub mod Current
