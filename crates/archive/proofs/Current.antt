@@ -1,9 +1,9 @@
 -- After any offers in any order, none refused, each key has the latest created_at, and of those the lowest id.
 -- One offer keeps that, whatever was offered before; and of the same events only one can be the current one.
-use Prim.Native.Nat.{ℕ, _≤_}
+use Prim.Native.Nat.{ℕ}
 use native.Mathlib.Omega.{arith}
-use mathlib.Core.Path.{_≡_, refl, sym, ap, subst, _∙_}
-use mathlib.Core.Bool.{Bool, true, false}
+use mathlib.Core.Path.{_≡_, refl, sym, ap, _∙_}
+use mathlib.Core.Bool.{true}
 use mathlib.Core.List.{List}
 use mathlib.Core.Logic.{inl, inr}
 use Rattle.scan.specs.Compare.{lower}

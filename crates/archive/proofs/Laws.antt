@@ -1,7 +1,7 @@
 -- What each outcome of an offer says of the table, by the tests that lead to it; that ephemeral kinds have no key; and
 -- that two events are found to be the same exactly where they are equal, by the strict form being an event's alone.
 use Prim.Native.Nat.{ℕ, _≤_}
-use mathlib.Core.Path.{_≡_, refl, sym, ap, subst, _∙_}
+use mathlib.Core.Path.{_≡_, refl, subst}
 use mathlib.Core.Bool.{Bool, true, false}
 use mathlib.Core.List.{List}
 use mathlib.Core.Logic.{_↔_}

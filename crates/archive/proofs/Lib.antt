@@ -2,3 +2,4 @@ pub mod Lookup
 pub mod Laws
 pub mod Run
 pub mod Current
+pub mod Distinct

@@ -1,6 +1,5 @@
 -- What is found under a name after a table changed: the event that was stored under its own name, and what was there
 -- before under every other. Slot by slot, by whether two names are the same.
-use Prim.Native.Nat.{ℕ}
 use mathlib.Core.Path.{_≡_, refl, sym, ap, _∙_}
 use mathlib.Core.Bool.{Bool, true, false}
 use mathlib.Core.List.{List, [], _∷_}

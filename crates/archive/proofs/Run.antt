@@ -6,7 +6,7 @@ use mathlib.Core.List.{List, [], _∷_}
 use mathlib.Core.Logic.{_⊎_, inl, inr}
 use Rattle.event.specs.Event.{Event}
 use Rattle.archive.specs.declared.Outcome.{Outcome}
-use Rattle.archive.specs.Archive.{Name, Entry, free, Found, none, lookup, fits, act}
+use Rattle.archive.specs.Archive.{Name, Entry, Found, none, lookup, fits, act}
 use Rattle.archive.specs.Current.{Among, here, there, Emptied, end, more, Took, stop, next}
 use Rattle.archive.proofs.Laws.{Says, says, taken}
 
