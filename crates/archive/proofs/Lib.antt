@@ -3,3 +3,4 @@ pub mod Laws
 pub mod Run
 pub mod Current
 pub mod Distinct
+pub mod Places

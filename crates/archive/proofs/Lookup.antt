@@ -76,6 +76,16 @@ found-here n d s e = rw (e, name-self (nameOf d))
 pub found-past : (n : Name) (d : Event) (s : List Entry) → sameName n (nameOf d) ≡ false → lookup n (held d ∷ s) ≡ lookup n s
 found-past n d s h = rw h
 
+-- what is found has the name
+pub found-name : (n : Name) (s : List Entry) {d : Event} → lookup n s ≡ one d → nameOf d ≡ n
+found-name n [] q = absurd (one-none (sym q))
+found-name n (free ∷ s) q = found-name n s q
+found-name n (held c ∷ s) {d} q = go (λ r. found-name n s r) (decide n (nameOf c))
+  where
+    go : (lookup n s ≡ one d → nameOf d ≡ n) → Same n (nameOf c) → nameOf d ≡ n
+    go ih (same p) = let h = found-here n c s p in let e : c ≡ d = cc in sym (p ∙ ap nameOf e)
+    go ih (other p) = ih (sym (found-past n c s p) ∙ q)
+
 -- ---- what is found after a change
 
 -- the event under its name, and all else as it was

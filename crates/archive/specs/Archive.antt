@@ -67,6 +67,18 @@ swap e [] = []
 swap e (free ∷ s) = free ∷ swap e s
 swap e (held d ∷ s) = pick (sameName (nameOf e) (nameOf d)) (held e ∷ s) (held d ∷ swap e s)
 
+-- how many slots stand before the first free one
+abbrev pub firstFree : List Entry → ℕ
+firstFree [] = zero
+firstFree (free ∷ s) = zero
+firstFree (held d ∷ s) = suc (firstFree s)
+
+-- how many slots stand before the first whose event has the name
+abbrev pub placeOf : Name → List Entry → ℕ
+placeOf n [] = zero
+placeOf n (free ∷ s) = suc (placeOf n s)
+placeOf n (held d ∷ s) = pick (sameName n (nameOf d)) zero (suc (placeOf n s))
+
 -- ---- an offer
 
 -- kinds 20000 to 29999 are not kept
