@@ -92,10 +92,10 @@ offer k P s e r v f c = by r v f
     by Held (repeated q t) f = unrelated P e (under k) (keyless-name e k t) c
     by Held (equal {d = d} q l) f = stays P e (under k) (lookup (under k) s) d (there-too q) l c
     by Loses (worse {d = d} q l) f = stays P e (under k) (lookup (under k) s) d (there-too q) l c
-    by New (fresh q) f =
+    by New (fresh t q) f =
         rw (fill-found e s (under k) f q)
         (stored P e (under k) (lookup (under k) s) (λ h. alone-now P e (under k) h (rw (there-too q h) at c)) c)
-    by Replaced (better {d = d} q t l) f =
+    by Replaced (better {d = d} t q l) f =
         rw (swap-found e s (under k) q)
         (stored P e (under k) (lookup (under k) s) (λ h. better-now P e (under k) d h l (rw (there-too q h) at c)) c)
 

