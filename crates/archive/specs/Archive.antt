@@ -73,7 +73,7 @@ firstFree [] = zero
 firstFree (free ∷ s) = zero
 firstFree (held d ∷ s) = suc (firstFree s)
 
--- how many slots stand before the first that holds an event with that name
+-- how many slots stand before the first whose event has the name
 abbrev pub placeOf : Name → List Entry → ℕ
 placeOf n [] = zero
 placeOf n (free ∷ s) = suc (placeOf n s)

@@ -1,6 +1,6 @@
 -- Which event is the current one under a name (rules 15): of all that were offered the latest, and of those the one
 -- with the lowest id. Assumes nothing.
-use Prim.Native.Nat.{ℕ, _≤_}
+use Prim.Native.Nat.{_≤_}
 use mathlib.Core.Path.{_≡_}
 use mathlib.Core.Bool.{false}
 use mathlib.Core.List.{List, [], _∷_}
