@@ -21,19 +21,19 @@ use Rattle.notepack.specs.inner.Answers.{Walked, walkAt}
 use Rattle.strict.specs.inner.Copy.{packedPieces}
 use Rattle.buffer.specs.inner.Store.{puts}
 use Rattle.table.specs.Cells.{cellStart}
-use Rattle.keeping.specs.declared.Offering.the-variants.{Told}
-use Rattle.keeping.specs.declared.Decision.{Decision}
-use Rattle.keeping.specs.Decision.{decision}
-use Rattle.keeping.specs.declared.Stored.{Stored}
-use Rattle.keeping.specs.declared.Known.{Known}
-use Rattle.keeping.specs.declared.Lowest.{Lowest}
-use Rattle.keeping.specs.declared.Lowest.the-variants as lowest
-use Rattle.keeping.specs.declared.Finding.{Finding}
-use Rattle.keeping.specs.declared.Finding.the-variants as finding
-use Rattle.keeping.specs.declared.Plan.{Plan}
-use Rattle.keeping.specs.declared.Plan.the-variants.{Put, Stays, Full}
-use Rattle.keeping.specs.inner.Prints.{printOf}
-use Rattle.keeping.specs.inner.Known.{nameThere, storedBytes, findFrom, freeFrom}
+use Rattle.tableoffer.specs.declared.Offering.the-variants.{Told}
+use Rattle.tableoffer.specs.declared.Decision.{Decision}
+use Rattle.tableoffer.specs.Decision.{decision}
+use Rattle.tableread.specs.declared.Stored.{Stored}
+use Rattle.tableread.specs.declared.Known.{Known}
+use Rattle.tableread.specs.declared.Lowest.{Lowest}
+use Rattle.tableread.specs.declared.Lowest.the-variants as lowest
+use Rattle.tableread.specs.declared.Finding.{Finding}
+use Rattle.tableread.specs.declared.Finding.the-variants as finding
+use Rattle.tableoffer.specs.declared.Plan.{Plan}
+use Rattle.tableoffer.specs.declared.Plan.the-variants.{Put, Stays, Full}
+use Rattle.tableread.specs.inner.Prints.{printOf}
+use Rattle.tableread.specs.inner.Known.{nameThere, storedBytes, findFrom, freeFrom}
 
 -- the event s beside the one that slot i holds under its name
 unfoldable pub besideStored : List ℕ → ℕ → Stored → List ℕ → ℕ → KeyRead → List ℕ → Plan

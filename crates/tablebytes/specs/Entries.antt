@@ -10,10 +10,10 @@ use Rattle.notepack.specs.Strict.{pack}
 use Rattle.notepack.specs.Views.{nth}
 use Rattle.slots.specs.Slots.{usedSlot}
 use Rattle.archive.specs.Archive.{Entry, free, held}
 use Rattle.table.specs.Cells.{cellStart, laidOver}
 use Rattle.table.specs.Table.{entriesOf}
 use Rattle.table.specs.Offer.{Offer, offer, Place, nowhere, slot, placeIn}
-use Rattle.table.specs.SlotBytes.{slotsIn, slotBytes}
+use Rattle.slotbytes.specs.SlotBytes.{slotsIn, slotBytes}
 
 -- the entries of a lent table
 unfoldable pub tableEntries : List ℕ → List ℕ → Answer (List Entry)

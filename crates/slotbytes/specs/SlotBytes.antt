@@ -19,3 +19,7 @@ slotsIn (suc n) b = slotOf (take 16 b) ∷ slotsIn n (drop 16 b)
 -- the 16 bytes of a slot
 unfoldable pub slotBytes : Slot → List ℕ
 slotBytes s = s .mark ∷ (lowFirst 7 (s .spare) ++ lowFirst 8 (s .len))
+
+abbrev pub slotsBytes : List Slot → List ℕ
+slotsBytes [] = []
+slotsBytes (s ∷ l) = slotBytes s ++ slotsBytes l

@@ -9,9 +9,9 @@ use Rattle.notepack.specs.Strict.{pack}
 use Rattle.slots.specs.declared.Slot.{Slot}
 use Rattle.slots.specs.Slots.{freeSlot, usedSlot}
 use Rattle.table.specs.Offer.{Offer, offer, Place, nowhere, slot, placeIn}
-use Rattle.keeping.specs.declared.Offering.{Offering}
-use Rattle.keeping.specs.declared.Offering.the-variants as offering-by
-use Rattle.keeping.specs.declared.Decision.{Decision}
+use Rattle.tableoffer.specs.declared.Offering.{Offering}
+use Rattle.tableoffer.specs.declared.Offering.the-variants as offering-by
+use Rattle.tableoffer.specs.declared.Decision.{Decision}
 
 -- an offer to a table of n slots, which are those of t where there are 64
 unfoldable pub lentOffer : ℕ → List Slot → List ℕ → List ℕ → Answer Offer

@@ -13,14 +13,14 @@ use Rattle.keys.specs.inner.Place.{keyAt, keyThere}
 use Rattle.slots.specs.declared.Slot.{Slot}
 use Rattle.archive.specs.Archive.{Name, nameBy, sameName, isEphemeral}
 use Rattle.table.specs.Cells.{cellStart}
-use Rattle.keeping.specs.declared.Stored.{Stored}
-use Rattle.keeping.specs.declared.Known.{Known}
-use Rattle.keeping.specs.declared.Known.the-variants.{Free, Bad, Good}
-use Rattle.keeping.specs.declared.Lowest.{Lowest}
-use Rattle.keeping.specs.declared.Lowest.the-variants as lowest
-use Rattle.keeping.specs.declared.Finding.{Finding}
-use Rattle.keeping.specs.declared.Finding.the-variants as finding
-use Rattle.keeping.specs.inner.Prints.{printOf}
+use Rattle.tableread.specs.declared.Stored.{Stored}
+use Rattle.tableread.specs.declared.Known.{Known}
+use Rattle.tableread.specs.declared.Known.the-variants.{Free, Bad, Good}
+use Rattle.tableread.specs.declared.Lowest.{Lowest}
+use Rattle.tableread.specs.declared.Lowest.the-variants as lowest
+use Rattle.tableread.specs.declared.Finding.{Finding}
+use Rattle.tableread.specs.declared.Finding.the-variants as finding
+use Rattle.tableread.specs.inner.Prints.{printOf}
 
 -- the name of a packed event that has this key
 abbrev pub nameThere : List ℕ → KeyRead → Name
