@@ -184,7 +184,7 @@ fn holds_name(cells: &[u8], k: Known, s: &[u8], key: KeyRead, print: u64) -> boo
         Known::Good(a) => {
             if a.print == print {
                 let own = a.key;
-                return same_name(scan::part(cells, a.at, a.len), own, s, key);
+                return same_name(s, key, scan::part(cells, a.at, a.len), own);
             }
             false
         }

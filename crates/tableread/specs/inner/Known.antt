@@ -55,7 +55,7 @@ knownFrom cells i (s ∷ l) = knownAt cells i s ∷ knownFrom cells (suc i) l
 unfoldable pub holdsName : List ℕ → List ℕ → KeyRead → ℕ → Known → Bool
 holdsName cells s key print Free = false
 holdsName cells s key print Bad = false
-holdsName cells s key print (Good a) = pick (eqb (a .print) print) (sameName (nameThere (storedBytes cells a) (a .key)) (nameThere s key)) false
+holdsName cells s key print (Good a) = pick (eqb (a .print) print) (sameName (nameThere s key) (nameThere (storedBytes cells a) (a .key))) false
 
 -- whether one of the slots does
 unfoldable pub someHolds : List ℕ → List ℕ → KeyRead → ℕ → List Known → Bool
