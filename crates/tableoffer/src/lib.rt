@@ -14,6 +14,7 @@ ghost use Prim.Native.Nat.{_<_};
 ghost use mathlib.Core.Path.{_≡_};
 ghost use lib.ListN.{length};
 ghost use Rattle.scan.specs.Choice.{refused};
+ghost use Rattle.archive.specs.Archive.{isSecond};
 ghost use Rattle.table.specs.Offer.{cellsAfter};
 ghost use Rattle.tableoffer.specs.Decision.{lentOffer, decision};
 ghost use Rattle.tableoffer.specs.inner.Plan.{besideStored, planFor, placeNumber, decisionBy, cellsBy, goodDecision, goodCells};
@@ -40,6 +41,16 @@ pub struct Decision {
 
 // ---- what an offer does
 
+fn is_second(k: Kept) -> bool
+    ensures { λ r. ⌜ r ≡ isSecond k ⌝ }
+{
+    match k {
+        Kept::First => false,
+        Kept::Second => true,
+        Kept::NotRivals => false,
+    }
+}
+
 // The event s beside the one that slot i holds under its name; b is its strict form.
 fn beside(cells: &[u8], i: usize, a: Stored, s: &[u8], created_at: u64, key: KeyRead, b: &[u8]) -> Plan
     ensures { λ r. ⌜ r ≡ besideStored (now (cells .entry)) i a (now (s .entry)) «created_at» key (now (b .entry)) ⌝ }
@@ -48,16 +59,13 @@ fn beside(cells: &[u8], i: usize, a: Stored, s: &[u8], created_at: u64, key: Key
         KeyRead::Keyless => Plan::Stays(Outcome::Held),
         KeyRead::Keyed(_) => {
             let own = scan::part(cells, a.at, a.len);
-            let kept = rivals::kept_of(own, a.created_at, s, created_at);
-            match kept {
-                Kept::Second => Plan::Put(i, Outcome::Replaced),
-                Kept::First | Kept::NotRivals => {
-                    if scan::same_bytes(own, b) {
-                        return Plan::Stays(Outcome::Held);
-                    }
-                    Plan::Stays(Outcome::Loses)
-                }
+            if is_second(rivals::kept_of(own, a.created_at, s, created_at)) {
+                return Plan::Put(i, Outcome::Replaced);
             }
+            if scan::same_bytes(own, b) {
+                return Plan::Stays(Outcome::Held);
+            }
+            Plan::Stays(Outcome::Loses)
         }
     }
 }
