@@ -1,2 +1,3 @@
 pub mod Planning
 pub mod Carrying
+pub mod Deciding
