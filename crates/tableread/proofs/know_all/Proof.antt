@@ -52,7 +52,7 @@ loop-less c = search needs
 
 -- src/lib.rt:168:5
 loop-again : tie.Need-loop-again Inv-loop μ-loop
-loop-again c = 
+loop-again c =
     let start = c .before .before .before .before .before in
     let x = start .args in
     let size : length (x .t2) ≡ 64 = omega (arith, start .good) in
@@ -61,7 +61,7 @@ loop-again c =
 
 -- src/lib.rt:163:1
 returns : tie.Need-returns Inv-loop μ-loop
-returns c = 
+returns c =
     let start = c .before .before .before in
     let x = start .args in
     let size : length (x .t2) ≡ 64 = omega (arith, start .good) in
