@@ -12,9 +12,9 @@ use Rattle.scan.specs.Bytes.{IsBytes}
 use Rattle.event.specs.Event.{Event}
 use Rattle.keys.specs.declared.KeyRead.{KeyRead}
 use Rattle.slots.specs.declared.Slot.{Slot}
-use Rattle.archive.specs.Archive.{Name, nameOf, sameName, Entry, free, held, one}
+use Rattle.archive.specs.Archive.{Name, nameOf, sameName, Entry, free, held}
 use Rattle.archive.proofs.Lookup.{Same, same, other, decide}
-use Rattle.table.specs.Table.{Holds, nothing, bad, good, hasName, entriesFrom, slotsHold}
+use Rattle.table.specs.Table.{Holds, good, hasName, entriesFrom, slotsHold}
 use Rattle.tableread.specs.declared.Stored.{Stored}
 use Rattle.tableread.specs.declared.Known.{Known}
 use Rattle.tableread.specs.declared.Known.the-variants.{Free, Good}

@@ -1,6 +1,6 @@
--- What is known of a slot is what the slot holds: nothing, something bad, or an event, which stands where `Stored` says.
--- By what the walk over its bytes says of them (`notepack/proofs/Again.accepted`).
-use Prim.Native.Nat.{ℕ, suc, _≤_, _<_}
+-- What is known of a slot is what the slot holds: nothing, something bad, or an event, which stands where `Stored`
+-- says. By what the walk over its bytes says of them (`notepack/proofs/Again.accepted`).
+use Prim.Native.Nat.{ℕ, suc, _≤_}
 use mathlib.Core.Path.{_≡_, refl, sym, ap, _∙_}
 use mathlib.Core.Bool.{Bool, true, false, not}
 use mathlib.Core.List.{List, [], _∷_, map}
@@ -21,7 +21,6 @@ use Rattle.notepack.specs.inner.Answers.{Walked, walkAt}
 use Rattle.notepack.proofs.Piece.{piece-decides}
 use Rattle.notepack.proofs.Walking.{walk-refuses}
 use Rattle.notepack.proofs.Again.{Accepted, accepted}
-use Rattle.keys.specs.inner.Place.{keyAt}
 use Rattle.keys.proofs.Keys.{key-there}
 use Rattle.slots.specs.declared.Slot.{Slot}
 use Rattle.archive.specs.Archive.{nameBy, nameOf, isEphemeral}

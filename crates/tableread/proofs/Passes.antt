@@ -1,14 +1,13 @@
 -- The turns of the loops over what the slots hold: the definition from the start is the definition from here.
 -- The premises of a law are what its loop knows.
-use Prim.Native.Nat.{ℕ, zero, suc, _+_, _≤_, _<_}
-use mathlib.Core.Path.{_≡_, refl, sym, ap, _∙_}
+use Prim.Native.Nat.{ℕ, suc, _+_, _≤_, _<_}
+use mathlib.Core.Path.{_≡_, refl, sym, _∙_}
 use mathlib.Core.Bool.{Bool, true, false}
 use mathlib.Core.List.{List, [], _∷_}
 use native.Mathlib.Omega.{arith}
 use native.Mathlib.Numerals.{add-one}
-use lib.ListN.{length, getD, take, drop, drop-of-length-le}
+use lib.ListN.{length, getD, drop, drop-of-length-le}
 use lib.Seq.{drop-cons}
-use Rattle.scan.proofs.Step.{false-true}
 use Rattle.keys.specs.declared.KeyRead.{KeyRead}
 use Rattle.tableread.specs.declared.Stored.{Stored}
 use Rattle.tableread.specs.declared.Known.{Known}

@@ -1,5 +1,5 @@
--- What is looked for among the known slots is what the definitions say of the entries: what is kept under a name, and in
--- which slot; the first free slot. Slot by slot.
+-- What is looked for among the known slots is what the definitions say of the entries: what is kept under a name, and
+-- in which slot; the first free slot. Slot by slot.
 use Prim.Native.Nat.{ℕ, suc, _+_}
 use mathlib.Core.Path.{_≡_, refl, _∙_, subst}
 use mathlib.Core.Bool.{Bool, true, false}
