@@ -1,12 +1,12 @@
 -- The laws of slots as bytes: 16 bytes and a slot determine each other, and to change one slot is to change its 16
 -- bytes. By induction on the number of slots, 16 bytes at a time.
-use Prim.Native.Nat.{ℕ, zero, suc, _+_, _*_, _-_, _<_, _≤_, _^_}
+use Prim.Native.Nat.{ℕ, zero, suc, _+_, _*_, _<_, _^_}
 use mathlib.Core.Path.{_≡_, refl, sym, ap, _∙_}
 use mathlib.Core.List.{List, [], _∷_, _++_, append-assoc}
 use native.Mathlib.Omega.{arith}
-use lib.ListN.{length, getD, take, drop, set, replicate, length-append, length-take, length-drop, take-append-drop, replicate-append-replicate}
+use lib.ListN.{length, getD, take, drop, set, replicate, length-append, length-drop, take-append-drop, replicate-append-replicate}
 use lib.Seq.{take-all, take-at, drop-at, take-add, drop-drop, length-take-le}
-use Rattle.scan.specs.Bytes.{none, also, IsBytes}
+use Rattle.scan.specs.Bytes.{also, IsBytes}
 use Rattle.scan.proofs.AllLaws.{all-append, all-take, all-drop}
 use Rattle.littleendian.specs.LittleEndian.{numberOf, lowFirst}
 use Rattle.littleendian.proofs.Laws.{length-low, low-bytes, bytes-back, number-back}

@@ -1,20 +1,18 @@
 -- Bytes laid over the cell of one slot: that slot reads them, and every other reads as before, since cells do not
 -- overlap. What stands before, at and behind a place is cut out of the list; then slot by slot.
-use Prim.Native.Nat.{ℕ, zero, suc, _+_, _*_, _-_, _<_, _≤_}
+use Prim.Native.Nat.{ℕ, zero, suc, _+_, _-_, _<_, _≤_}
 use mathlib.Core.Path.{_≡_, refl, sym, ap, _∙_}
 use mathlib.Core.Bool.{Bool, true, false}
 use mathlib.Core.List.{List, [], _∷_, _++_, append-assoc}
-use mathlib.Core.Logic.{dite}
 use native.Mathlib.Omega.{arith}
-use native.Mathlib.Decide.{decLt}
-use lib.ListN.{length, take, drop, set, replicate, length-append, length-take, length-drop, take-append-drop}
-use lib.Seq.{length-take-le, take-all, take-at, take-append-le, drop-at, drop-append-le, drop-append-add, drop-drop}
+use lib.ListN.{length, take, drop, set, length-append, length-drop, take-append-drop}
+use lib.Seq.{length-take-le, take-at, take-append-le, drop-at, drop-append-le, drop-append-add, drop-drop}
 use lib.Dec.{eqb, leb}
 use borrow.Author.Tests.{le-leb, leb-true}
 use Rattle.scan.specs.Choice.{pick}
 use Rattle.slots.specs.declared.Slot.{Slot}
-use Rattle.slots.specs.Slots.{freeSlot, usedSlot}
-use Rattle.table.specs.Cells.{cellStart, Cell, empty, past, bytes, cellAt, cellsFrom, laidOver}
+use Rattle.slots.specs.Slots.{usedSlot}
+use Rattle.table.specs.Cells.{cellStart, empty, past, bytes, cellAt, cellsFrom, laidOver}
 
 -- ---- bytes laid over others
 
@@ -107,9 +105,3 @@ cells-set b cells slots i h k m l = upon b cells h i (omega arith) 0 i slots (om
 -- The cells keep their length.
 pub cells-length : (b cells : List ℕ) (i : ℕ) → length b ≤ 1_024 → length cells ≡ 65_536 → i < 64 → length (laidOver (cellStart i) b cells) ≡ 65_536
 cells-length b cells i h k m = laid-length (cellStart i) b cells (omega arith) ∙ k
-
--- Free slots name nothing.
-pub cells-free : (n : ℕ) (cells : List ℕ) (i : ℕ) → cellsFrom cells i (replicate n freeSlot) ≡ replicate n empty
-unfolding cellAt
-cells-free zero cells i = refl
-cells-free (suc n) cells i = ap (λ (l : List Cell). empty ∷ l) (cells-free n cells (suc i))

@@ -1,1 +1,4 @@
 pub mod Cells
+pub mod Entries
+pub mod Good
+pub mod Offers

@@ -1,9 +1,8 @@
 -- `put_slots` writes the bytes of each slot. The invariant: what is left to write is that of the slots from i on.
 -- Each turn is `bytes-turn`, the end `bytes-end`.
 use Prim.Native.Nat.{_-_}
-use mathlib.Core.Path.{_≡_}
 use native.Mathlib.Omega.{arith}
-use lib.ListN.{length, drop}
+use lib.ListN.{drop}
 use borrow.Author.Needs.{needs}
 use Rattle.buffer.proofs.Laws.{Left, start, part, done, also, same}
 use Rattle.slots.specs.Slots.{freeSlot}

@@ -1,8 +1,7 @@
 -- `slots_in` tells the 64 slots of a buffer. The invariant: the table has 64 slots, and its first i are the buffer's.
 -- Each turn is `table-turn`, the end `table-end`.
-use Prim.Native.Nat.{_-_, _≤_}
+use Prim.Native.Nat.{_-_}
 use mathlib.Core.Path.{_≡_, refl, _∙_}
-use native.Mathlib.Omega.{arith}
 use lib.ListN.{length, take, length-set}
 use borrow.Author.Needs.{needs}
 use Rattle.slotbytes.specs.SlotBytes.{slotsIn}
