@@ -4,6 +4,7 @@ use Prim.Native.Nat.{ℕ, _<_, _≤_}
 use mathlib.Core.Path.{_≡_, sym, ap, _∙_, subst}
 use mathlib.Core.Bool.{true, false}
 use mathlib.Core.List.{List}
+use native.Mathlib.Omega.{arith}
 use lib.ListN.{length, set}
 use lib.Dec.{leb}
 use borrow.Author.Tests.{leb-true}
@@ -25,8 +26,8 @@ use Rattle.archive.proofs.Places.{firstFree-within, fill-set, placeOf-within, s
 use Rattle.archive.proofs.Distinct.{act-distinct}
 use Rattle.table.specs.Cells.{cellStart, laidOver}
 use Rattle.table.specs.Table.{entriesOf}
-use Rattle.table.specs.Offer.{offeredEvent, Offer, offer, placeBy, slotsWith, cellsWith, slotsAfter, cellsAfter}
-use Rattle.table.proofs.Good.{Good, table-good, good-shown, laid-good}
+use Rattle.table.specs.Offer.{offeredEvent, Offer, offer, Place, nowhere, slot, placeBy, placeIn, slotsWith, cellsWith, slotsAfter, cellsAfter}
+use Rattle.table.proofs.Good.{Good, table-good, good-shown, good-many, laid-good}
 
 -- ---- an offer, taken apart
 
@@ -59,6 +60,31 @@ offer-apart slots cells packed o q =
     let k : record { entries = s; event = e; outcome = r } ≡ o = shown-same q₃ in
     subst (Offered slots cells packed) k (record { entries = p; event = u .0; small = u .1; outcome = h }))))
 
+-- ---- the slot that takes the event
+
+-- one of the 64, if one does
+pub data Within : Place → Type 0 where
+  untouched : Within nowhere
+  touched : {i : ℕ} → i < 64 → Within (slot i)
+
+place-within : (s : List Entry) (e : Event) → length s ≡ 64 → (r : Outcome) → fits s r ≡ true → Says s e r → Within (placeBy r s e)
+place-within s e n New f (fresh k q) = touched {i = firstFree s} (omega (arith, firstFree-within s f))
+place-within s e n Replaced f (better k q l) = touched {i = placeOf (nameOf e) s} (omega (arith, placeOf-within (nameOf e) s q))
+place-within s e n Loses f (worse q l) = untouched
+place-within s e n Held f (repeated q k) = untouched
+place-within s e n Held f (equal q l) = untouched
+place-within s e n NotKept f (ephemeral t) = untouched
+
+-- what the outcome says, and that there is room for it
+pub offer-says : (s : List Entry) (e : Event) (r : Outcome) → offered s e ≡ shown r → (wanted s e ≡ r) × (fits s r ≡ true) × Says s e r
+offer-says s e r q = let t = taken s e r q in (t .0, t .1, subst (Says s e) (t .0) (says s e))
+
+pub offer-within : (slots : List Slot) (cells packed : List ℕ) (o : Offer) → offer slots cells packed ≡ shown o → Within (placeIn o)
+offer-within slots cells packed o q =
+    let u = offer-apart slots cells packed o q in
+    let t = offer-says (o .entries) (o .event) (o .outcome) (u .outcome) in
+    place-within (o .entries) (o .event) (good-many (table-good slots cells (o .entries) (u .entries))) (o .outcome) (t .1) (t .2)
+
 -- ---- its effect
 
 module _ {slots : List Slot} {cells : List ℕ} {s : List Entry} (g : Good slots cells s) (e : Event) (reads : unpack (pack e) ≡ shown e) (small : length (pack e) ≤ 1_024) where
@@ -80,7 +106,7 @@ pub offer-kept : (slots : List Slot) (cells packed : List ℕ) (o : Offer) → I
     → entriesOf (slotsAfter (shown o) slots) (cellsAfter (shown o) cells) ≡ shown (act (o .outcome) (o .event) (o .entries))
 offer-kept slots cells packed o y q =
     let u = offer-apart slots cells packed o q in
-    let t = taken (o .entries) (o .event) (o .outcome) (u .outcome) in
+    let t = offer-says (o .entries) (o .event) (o .outcome) (u .outcome) in
     good-shown
     (outcome-good (table-good slots cells (o .entries) (u .entries)) (o .event) (reads-again packed (o .event) (u .event) y) (u .small) (o .outcome) (t .0) (t .1)
-    (subst (Says (o .entries) (o .event)) (t .0) (says (o .entries) (o .event))))
+    (t .2))
