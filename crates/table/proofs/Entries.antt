@@ -44,7 +44,7 @@ absent-none n (full {e = e} {l = l} {s = s} a) h = by (sameName n (nameOf e)) (a
     by true ih h = absurd (false-true (sym h))
     by false ih h = ih h
 
-none-absent : (n : Name) {l : List Holds} {s : List Entry} → Alike l s → lookup n s ≡ none → hasName n l ≡ false
+pub none-absent : (n : Name) {l : List Holds} {s : List Entry} → Alike l s → lookup n s ≡ none → hasName n l ≡ false
 none-absent n over h = refl
 none-absent n (empty a) h = none-absent n a h
 none-absent n (full {e = e} {l = l} {s = s} a) h = by (sameName n (nameOf e)) (none-absent n a) h

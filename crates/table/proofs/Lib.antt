@@ -2,3 +2,4 @@ pub mod Cells
 pub mod Entries
 pub mod Good
 pub mod Offers
+pub mod Lowest
