@@ -60,6 +60,10 @@ offer-apart slots cells packed o q =
     let k : record { entries = s; event = e; outcome = r } ≡ o = shown-same q₃ in
     subst (Offered slots cells packed) k (record { entries = p; event = u .0; small = u .1; outcome = h }))))
 
+-- its entries are the table's
+pub offer-entries : (slots : List Slot) (cells packed : List ℕ) (o : Offer) (s : List Entry) → offer slots cells packed ≡ shown o → entriesOf slots cells ≡ shown s → o .entries ≡ s
+offer-entries slots cells packed o s q h = shown-same (sym (offer-apart slots cells packed o q .entries) ∙ h)
+
 -- ---- the slot that takes the event
 
 -- one of the 64, if one does

@@ -9,7 +9,7 @@ use lib.Dec.{eqb}
 use borrow.Author.Tests.{eq-eqb, eqb-true}
 use Rattle.scan.specs.Choice.{shown}
 use Rattle.scan.specs.Bytes.{IsBytes}
-use Rattle.scan.proofs.Many.{pick-shown, shown-same}
+use Rattle.scan.proofs.Many.{pick-shown}
 use Rattle.event.specs.Event.{Event}
 use Rattle.notepack.specs.Strict.{pack}
 use Rattle.slots.specs.declared.Slot.{Slot}
@@ -26,7 +26,7 @@ use Rattle.table.specs.Table.{entriesOf}
 use Rattle.table.specs.Offer.{Offer, offer, Place, slotsWith}
 use Rattle.table.proofs.Cells.{laid-length}
 use Rattle.table.proofs.Good.{good-free}
-use Rattle.table.proofs.Offers.{Within, untouched, touched, offer-apart, offer-within, offer-kept}
+use Rattle.table.proofs.Offers.{Within, untouched, touched, offer-apart, offer-entries, offer-within, offer-kept}
 use Rattle.tablebytes.specs.Entries.{tableEntries, tableOffer, bytesWith}
 use Rattle.tablebytes.specs.Runs.{Lent, emptied, after, Ran, stop, next, keptUnder, ShowsOffered, NeverBad, HoldsCurrent, AnyOrder}
 
@@ -96,7 +96,7 @@ took s w stop = (s, current.stop, w)
 took s w (next {t = t} {p = p} {es = es} {o = o} y q r) =
     let b = offer-bytes (t .slots) (t .cells) p o q in
     let u = offer-apart (slotsIn 64 (t .slots)) (t .cells) p o (b .1) in
-    let e : o .entries ≡ s = shown-same (sym (u .entries) ∙ w .entries) in
+    let e = offer-entries (slotsIn 64 (t .slots)) (t .cells) p o s (b .1) (w .entries) in
     let k = took (act (o .outcome) (o .event) (o .entries)) (after-stands t p o y q) r in
     (k .0, subst (λ (x : List Entry). Took x (o .event ∷ es) (k .0)) e (current.next (o .outcome) (u .outcome) (k .1)), k .2)
 
