@@ -1,57 +1,28 @@
 -- A run of calls on the two lent buffers is a run of offers to what they hold, so the theorems over entries hold of
--- the bytes. One call: its slots read as the slots with one changed (`slots-over`), and a good table stays good.
-use Prim.Native.Nat.{ℕ, zero, suc, _+_, _*_, _≤_}
-use mathlib.Core.Path.{_≡_, refl, sym, ap, _∙_, subst}
-use mathlib.Core.List.{List, _∷_, _++_}
-use native.Mathlib.Omega.{arith}
-use lib.ListN.{length, take, drop, replicate, length-replicate}
-use lib.Dec.{eqb}
-use borrow.Author.Tests.{eq-eqb, eqb-true}
+-- the bytes. One call: its slots read as the slots with one changed (`slots-with`), and a good table stays good.
+use Prim.Native.Nat.{ℕ, zero, suc}
+use mathlib.Core.Path.{_≡_, sym, ap, _∙_, subst}
+use mathlib.Core.List.{List, _∷_}
+use lib.ListN.{length, replicate, length-replicate}
+use borrow.Author.Tests.{eq-eqb}
 use Rattle.scan.specs.Choice.{shown}
 use Rattle.scan.specs.Bytes.{IsBytes}
-use Rattle.scan.proofs.Many.{pick-shown}
 use Rattle.event.specs.Event.{Event}
-use Rattle.notepack.specs.Strict.{pack}
 use Rattle.slots.specs.declared.Slot.{Slot}
-use Rattle.slots.specs.Slots.{usedSlot}
-use Rattle.slotbytes.specs.SlotBytes.{slotsIn, slotBytes}
-use Rattle.slotbytes.proofs.Laws.{length-slot, slots-over, slots-zero}
+use Rattle.slotbytes.specs.SlotBytes.{slotsIn}
+use Rattle.slotbytes.proofs.Laws.{slots-zero}
 use Rattle.archive.specs.Archive.{Name, under, alone, Entry, free, lookup, act}
 use Rattle.archive.specs.Current.{Emptied, Took}
 use Rattle.archive.specs.Current as current
 use Rattle.archive.proofs.Current.{keeps-current, any-order}
 use Rattle.archive.proofs.Alone.{any-order-alone}
-use Rattle.table.specs.Cells.{laidOver}
 use Rattle.table.specs.Table.{entriesOf}
-use Rattle.table.specs.Offer.{Offer, offer, Place, slotsWith}
-use Rattle.table.proofs.Cells.{laid-length}
+use Rattle.table.specs.Offer.{Offer}
 use Rattle.table.proofs.Good.{good-free}
-use Rattle.table.proofs.Offers.{Within, untouched, touched, offer-apart, offer-entries, offer-within, offer-kept}
-use Rattle.tablebytes.specs.Entries.{tableEntries, tableOffer, bytesWith}
+use Rattle.table.proofs.Offers.{offer-apart, offer-entries, offer-within, offer-kept}
+use Rattle.tablebytes.specs.Entries.{tableEntries, tableOffer}
+use Rattle.tablebytes.proofs.Slots.{offer-bytes, slots-with, length-with}
 use Rattle.tablebytes.specs.Runs.{Lent, emptied, after, Ran, stop, next, keptUnder, ShowsOffered, NeverBad, HoldsCurrent, AnyOrder}
-
--- ---- the bytes of the slots
-
--- an offer's sizes, and the offer to its slots
-pub offer-bytes : (slots cells p : List ℕ) (o : Offer) → tableOffer slots cells p ≡ shown o → (length slots ≡ 1_024) × (offer (slotsIn 64 slots) cells p ≡ shown o)
-unfolding tableOffer
-offer-bytes slots cells p o q = let t = pick-shown (eqb (length slots) 1_024) _ 34 0 o q in (eqb-true (length slots) 1_024 (t .0), t .1)
-
--- one slot's bytes laid over are one slot changed, and the length stays
-module _ (e : Event) (small : length (pack e) ≤ 1_024) (d : List ℕ) (n : length d ≡ 1_024) where
-  abbrev new : Slot
-  new = usedSlot (length (pack e))
-
-  slots-with : {x : Place} → Within x → slotsIn 64 (bytesWith x e d) ≡ slotsWith x e (slotsIn 64 d)
-  unfolding laidOver
-  slots-with untouched = refl
-  slots-with (touched {i = i} h) =
-      ap (λ (m : ℕ). slotsIn 64 (take (16 * i) d ++ slotBytes new ++ drop (16 * i + m) d)) (length-slot new)
-      ∙ slots-over 64 d i new (omega arith) (omega (arith, small)) n h
-
-  length-with : {x : Place} → Within x → length (bytesWith x e d) ≡ 1_024
-  length-with untouched = n
-  length-with (touched {i = i} h) = laid-length (16 * i) (slotBytes new) d (omega (arith, length-slot new, n)) ∙ n
 
 -- ---- what the buffers hold
 
