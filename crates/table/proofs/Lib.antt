@@ -1,0 +1,5 @@
+pub mod Cells
+pub mod Entries
+pub mod Good
+pub mod Offers
+pub mod Lowest
