@@ -1,3 +1,4 @@
 pub mod Planning
 pub mod Carrying
 pub mod Deciding
+pub mod Meaning

@@ -4,7 +4,8 @@ use mathlib.Core.List.{List}
 use lib.ListN.{length}
 use lib.Dec.{eqb}
 use Rattle.scan.specs.Choice.{pick, Answer, shown, refused}
-use Rattle.event.specs.declared.Refusal.{Refusal}
+use Rattle.event.specs.inner.Told.{told}
+use Rattle.archive.specs.declared.Outcome.{Outcome}
 use Rattle.notepack.specs.Strict.{pack}
 use Rattle.slots.specs.declared.Slot.{Slot}
 use Rattle.slots.specs.Slots.{freeSlot, usedSlot}
@@ -25,3 +26,8 @@ decisionAt n (slot i) o = record { at = i; slot = usedSlot (length (pack (o .eve
 abbrev pub decision : ℕ → Answer Offer → Decision
 decision n (shown o) = decisionAt n (placeIn o) o
 decision n (refused k p) = record { at = n; slot = freeSlot; answer = offering-by.Refused (record { number = k; place = p }) }
+
+-- what an answer of the code means: the outcome, or the refusal
+abbrev pub offering : Offering → Answer Outcome
+offering (offering-by.Told r) = shown r
+offering (offering-by.Refused r) = told r

@@ -4,3 +4,4 @@ pub mod Knowing
 pub mod Entries
 pub mod Searching
 pub mod Held
+pub mod Within
