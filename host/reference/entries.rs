@@ -154,7 +154,12 @@ pub unsafe extern "C" fn kez_read_both(
 }
 
 #[no_mangle]
-pub unsafe extern "C" fn kez_table_empty(slots: *mut u8, slots_len: usize, cells: *mut u8, cells_len: usize) -> KezAnswer {
+pub unsafe extern "C" fn kez_table_empty(
+    slots: *mut u8,
+    slots_len: usize,
+    cells: *mut u8,
+    cells_len: usize,
+) -> KezAnswer {
     let (slots, cells) = unsafe { (lent_mut(slots, slots_len), lent_mut(cells, cells_len)) };
     told(table::empty(slots, cells).map(|()| 0))
 }

@@ -5,7 +5,7 @@
 //!   table_slot N            where the event of slot N is in the cells, and its length
 //! Two words only look at the lent bytes and set them:
 //!   shelf_slot N            used or free, the length in the slot, the cell without the zeros at its end
-//!   shelf_load SLOTS [N:LENGTH:CELL ..]     any table, of any number of slots; ~N:.. is a free slot with something in it
+//!   shelf_load SLOTS [N:LENGTH:CELL ..]     any table, of any number of slots; ~N:.. is a free one that is not zero
 
 use crate::{bytes, hex, number, told};
 use reference::table::{self, Offered, CELL_BYTES, SLOTS, SLOT_BYTES};
@@ -34,7 +34,8 @@ impl Session {
             }
             ["shelf_empty"] => told(table::empty(&mut self.slots, &mut self.cells).map(|()| "ok".into())),
             ["shelf_offer", packed] => {
-                told(table::offer(&mut self.slots, &mut self.cells, &bytes(packed)?).map(|offered| spelled(offered).into()))
+                let offered = table::offer(&mut self.slots, &mut self.cells, &bytes(packed)?);
+                told(offered.map(|offered| spelled(offered).into()))
             }
             ["table_slot", n] => {
                 told(table::slot(&self.slots, &self.cells, number(n)?).map(|(at, length)| format!("ok {at} {length}")))

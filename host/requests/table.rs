@@ -42,10 +42,14 @@ impl World {
     }
 
     fn event(&self, d: &mut Dice) -> Event {
-        let fixed = [spread(d.below(self.ids)), spread(d.below(self.pubkeys)), vec![d.below(2) as u8; 64]].concat();
         let label = d.below(self.labels);
-        let tags = tags_with(d, label);
-        Event { fixed, created_at: d.pick(&self.times), kind: d.pick(&self.kinds), content: d.pick(&self.contents), tags }
+        Event {
+            fixed: [spread(d.below(self.ids)), spread(d.below(self.pubkeys)), vec![d.below(2) as u8; 64]].concat(),
+            created_at: d.pick(&self.times),
+            kind: d.pick(&self.kinds),
+            content: d.pick(&self.contents),
+            tags: tags_with(d, label),
+        }
     }
 }
 
@@ -74,8 +78,9 @@ fn tags_with(d: &mut Dice, label: usize) -> Vec<Vec<Vec<u8>>> {
 
 /// Labels that are easily taken for each other: raw bytes and their text, capitals, beginnings, and long ones.
 fn label_of(n: usize) -> Vec<u8> {
-    const SOME: [&[u8]; 12] =
-        [b"ab", b"", b"AB", b"a", b"abc", b"abcd", b"00", b"0", b"d", b"6162", "ключ".as_bytes(), b"abcdef0123456789"];
+    const SOME: [&[u8]; 12] = [
+        b"ab", b"", b"AB", b"a", b"abc", b"abcd", b"00", b"0", b"d", b"6162", "ключ".as_bytes(), b"abcdef0123456789",
+    ];
     match SOME.get(n) {
         Some(label) => label.to_vec(),
         None if n % 3 == 0 => hex_text(format!("{n}").as_bytes()),
@@ -241,7 +246,7 @@ fn good_table(d: &mut Dice, used: usize) -> Vec<Option<Slot>> {
 }
 
 /// What can be wrong with a slot by itself, and what can't: the last three are good, or free.
-const FAULTS: usize = 16;
+const FAULTS: usize = 17;
 
 fn faulty(d: &mut Dice, fault: usize, e: &Event) -> Slot {
     let good = Slot::of(strict(e));
@@ -263,8 +268,9 @@ fn faulty(d: &mut Dice, fault: usize, e: &Event) -> Slot {
         10 => Slot { cell: vec![], ..good },
         11 => Slot { length: 1_024, ..good },
         12 => Slot::of(strict(&of_length(e.clone(), 1_025))),
-        13 => Slot::of(strict(&of_length(e.clone(), 1_024))),
-        14 => Slot { cell: [good.cell, vec![0xee; 40]].concat(), ..good },
+        13 => Slot { length: d.pick(&[1_025, 2_048]), cell: strict(&of_length(e.clone(), 1_024)), ..good },
+        14 => Slot::of(strict(&of_length(e.clone(), 1_024))),
+        15 => Slot { cell: [good.cell, vec![0xee; 40]].concat(), ..good },
         _ => Slot { used: false, length: d.pick(&[0, good.length, u64::MAX]), cell: good.cell },
     }
 }
@@ -324,7 +330,7 @@ fn group(g: &mut Requests, lines: Vec<String>) {
     g.lines.push(lines.join("\n"));
 }
 
-/// What is asked of a table: its view, an event that is refused, one that is kept, one that is not; then all slots; then
+/// What is asked of a table: a view, an event that is refused, one that is not kept, one that is; then all slots; then
 /// it is emptied.
 fn asked(g: &mut Requests, table: String) {
     let mut lines = vec![table];
@@ -409,7 +415,8 @@ fn full(g: &mut Requests) {
         let earlier = Event { created_at: e.created_at - 1, ..e.clone() };
         let new = Event { kind: 2, fixed: vec![n as u8; 128], ..e.clone() };
         let passing = Event { kind: 20_000, ..e.clone() };
-        for e in [&earlier, &e, &new, &passing, &lower, &later, &of_length(later.clone(), 1_025), &of_length(new.clone(), 1_025)] {
+        let long = [of_length(later.clone(), 1_025), of_length(new.clone(), 1_025)];
+        for e in [&earlier, &e, &new, &passing, &lower, &later].into_iter().chain(&long) {
             lines.push(offer(&strict(e)));
             lines.push(offer(&loose(&mut g.dice, e)));
             lines.push(format!("shelf_slot {n}"));
@@ -490,7 +497,8 @@ fn in_the_cell(g: &mut Requests) {
     for kind in [0, 30_000, 1] {
         let mut lines = vec!["shelf_new".into()];
         for (time, length) in [140, 1_024, 200, 1_023, 1_025, 141, 300].into_iter().enumerate() {
-            let e = Event { kind, created_at: time as u64, tags: vec![vec![b"d".to_vec(), b"map".to_vec()]], ..vector() };
+            let tags = vec![vec![b"d".to_vec(), b"map".to_vec()]];
+            let e = Event { kind, created_at: time as u64, tags, ..vector() };
             lines.push(offer(&strict(&of_length(e, length))));
             look(&mut lines, 4);
         }
