@@ -330,15 +330,19 @@ fn group(g: &mut Requests, lines: Vec<String>) {
     g.lines.push(lines.join("\n"));
 }
 
-/// What is asked of a table: a view, an event that is refused, one that is not kept, one that is; then all slots; then
-/// it is emptied.
+/// What is asked of a table: a view, an event that is refused, one that is not kept, one that is; then all slots, or
+/// some; then it is emptied.
 fn asked(g: &mut Requests, table: String) {
     let mut lines = vec![table];
     view(g, &mut lines);
     let kinds = [20_000, 1];
     lines.push(offer(b""));
     lines.extend(kinds.map(|kind| offer(&strict(&Event { kind, ..carried() }))));
-    look(&mut lines, SLOTS + 1);
+    if g.dice.percent(20) {
+        look(&mut lines, SLOTS + 1);
+    } else {
+        lines.extend([0, 1, 31, 62, 63, 64].map(|n| format!("shelf_slot {n}")));
+    }
     lines.extend(["shelf_empty".into(), "shelf_slot 0".into(), "shelf_slot 63".into()]);
     group(g, lines);
 }
