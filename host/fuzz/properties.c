@@ -822,7 +822,8 @@ static void offered(const uint8_t *data, size_t len)
     must_hold(&kept, "holds an event, and changes the table");
 }
 
-/* A small strict record, one of few: of its kind, its author, its id, its time and its label there are some. */
+/* A strict record, one of few: of its kind, its author, its id, its time and its label there are some. It is small, or
+ * about as long as a cell. */
 static void small_record(own *r)
 {
     static const uint16_t kinds[] = {0, 1, 3, 4, 10000, 19999, 20000, 29999, 30000, 30000, 30000, 39999, 40000};
@@ -837,7 +838,12 @@ static void small_record(own *r)
     for (; kind >= 0x80; kind >>= 7)
         r->at[r->len++] = (uint8_t)(kind | 0x80);
     r->at[r->len++] = (uint8_t)kind;
-    r->at[r->len++] = 0;
+    size_t content = roll(16) ? 0 : 870 + roll(30);
+    if (content)
+        r->at[r->len++] = (uint8_t)(content | 0x80);
+    r->at[r->len++] = (uint8_t)(content >> 7);
+    memset(r->at + r->len, 'x', content);
+    r->len += content;
     r->at[r->len++] = roll(8) != 0;
     if (!r->at[r->len - 1])
         return;
@@ -915,7 +921,7 @@ static void fill_table(void)
         small_record(&r);
         if (count == KEZ_SLOTS)
             r.at[40] = r.at[10] = (uint8_t)n; /* another author and another id for each */
-        memcpy(cell_of(&kept, n), r.at, r.len);
+        memcpy(cell_of(&kept, n), r.at, r.len < KEZ_CELL_BYTES ? r.len : KEZ_CELL_BYTES);
         put_slot(&kept, n, (uint8_t)(1 + roll(255)), (uint8_t)roll(256), r.len);
         if (kind_passes(r.at, r.len) && roll(16))
             kept.slots[KEZ_SLOT_BYTES * n] = 0;
