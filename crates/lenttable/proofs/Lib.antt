@@ -3,3 +3,4 @@ pub mod Whole
 pub mod Clauses
 pub mod Lent
 pub mod Result
+pub mod Emptied

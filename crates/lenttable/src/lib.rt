@@ -1,9 +1,14 @@
 // A table lent as a slice of slots: an offer to it, changed one slot at a time, and emptying.
+use event::Refusal;
+use event::Writing;
 use slots::Slot;
 use tableoffer::Offering;
 ghost use mathlib.Core.Path.{_≡_};
+ghost use Rattle.event.specs.inner.Told.{writing};
+ghost use Rattle.slots.specs.Slots.{freeSlot};
 ghost use Rattle.table.specs.Offer.{offer as tableOffer, outcomeOf, slotsAfter, cellsAfter};
 ghost use Rattle.tableoffer.specs.Decision.{offering};
+ghost use Rattle.lenttable.specs.Empty.{isTable, emptying, emptied, slotsEmptied, cellsEmptied};
 
 // What an offer comes to, and the slots after it.
 pub struct Offered {
@@ -43,4 +48,51 @@ fn free_table() -> [Slot; 64] {
         spare: 0,
         len: 0,
     }; 64]
+}
+
+// ---- emptying
+
+fn is_table(n: usize, m: usize) -> bool
+    ensures { λ r. ⌜ r ≡ isTable n m ⌝ }
+{
+    if n != 64 {
+        return false;
+    }
+    m == 65536
+}
+
+fn free_slot() -> Slot
+    ensures { λ r. ⌜ r ≡ freeSlot ⌝ }
+{
+    Slot {
+        mark: 0,
+        spare: 0,
+        len: 0,
+    }
+}
+
+fn told(t: bool) -> Writing
+    ensures { λ r. ⌜ writing r ≡ emptying t ⌝ }
+{
+    if t {
+        return Writing::Written(0);
+    }
+    Writing::Refused(Refusal {
+        number: event::BAD_TABLE,
+        place: 0,
+    })
+}
+
+// Every slot is free and every byte 0: 0 bytes are told to be written. 34 for another size, which changes nothing.
+pub fn empty(slots: &mut [Slot], cells: &mut [u8]) -> Writing
+    ensures { λ r. ⌜ writing r ≡ emptied (now (slots .entry)) (now (cells .entry)) ⌝ }
+    ensures { λ _. ⌜ now (slots .exit) ≡ slotsEmptied (emptied (now (slots .entry)) (now (cells .entry))) (now (slots .entry)) ⌝ }
+    ensures { λ _. ⌜ now (cells .exit) ≡ cellsEmptied (emptied (now (slots .entry)) (now (cells .entry))) (now (cells .entry)) ⌝ }
+{
+    let t = is_table(slots.len(), cells.len());
+    if t {
+        slots::fill(slots, free_slot());
+        buffer::fill_bytes(cells, 0);
+    }
+    told(t)
 }
