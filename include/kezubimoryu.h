@@ -225,7 +225,8 @@ static inline int kez_rivals_refused(const uint8_t *first, size_t first_len)
  * file and lend them again later, together. Offers and views look through the whole table first, so one that is no
  * table any more is refused with 34; but a changed content or signature is not seen, since only the id and the
  * signature could show it. The two buffers overlap neither each other nor what else is passed. Two threads must not
- * call with the same table at once, unless both only view it. Part 15. */
+ * call with the same table at once, unless both only view it.
+ * Rules 15. */
 #define KEZ_SLOTS 64
 #define KEZ_SLOT_BYTES 16
 #define KEZ_CELL_BYTES 1024
@@ -243,21 +244,22 @@ static inline int kez_rivals_refused(const uint8_t *first, size_t first_len)
  * Refusals: 34 at 0 if slots_len is not KEZ_SLOTS_BYTES or cells_len is not KEZ_CELLS_BYTES; no other.
  * value: 0
  * Cost: constant.
- * Part 15. */
+ * Rules 15. */
 kez_answer kez_table_empty(uint8_t *slots, size_t slots_len,
                            uint8_t *cells, size_t cells_len);
 
 /* Offers a packed event to a table, which keeps it in strict form if it is to be kept.
- * value: KEZ_TABLE_NEW       stored: nothing was kept under its key, or, if it has none, under its id. It takes the
- *                            lowest free slot.
- *        KEZ_TABLE_REPLACED  stored in the slot of the event with the same key, which is gone: that one was earlier,
- *                            or as late and its id higher.
- *        KEZ_TABLE_LOSES     not stored: the kept event with the same key is later, or as late and its id not higher.
- *        KEZ_TABLE_HELD      not stored: the table has the very same event, in whatever spelling it was offered; or, if
- *                            it has no key, an event without a key and with the same id, whatever else that says.
- *        KEZ_TABLE_NOT_KEPT  not stored: its kind is one of 20000 to 29999.
+ * value: one of these.
+ * - KEZ_TABLE_NEW, stored: nothing was kept under its key or, if it has none, its id. It takes the lowest free slot.
+ * - KEZ_TABLE_REPLACED, stored in the slot of the event with the same key, which is gone: that one was earlier, or as
+ *   late and its id higher.
+ * - KEZ_TABLE_LOSES, not stored: the kept event with the same key is later, or as late and its id not higher.
+ * - KEZ_TABLE_HELD, not stored: the table has the very same event, in whatever spelling it was offered; or, if it has
+ *   no key, an event without a key and with the same id, whatever else that says.
+ * - KEZ_TABLE_NOT_KEPT, not stored: its kind is one of 20000 to 29999.
+ *
  * Where it is stored, the 16 bytes of its slot are written (1, seven times 0, the length), and as many bytes at the
- * start of its cell as the strict form has; the rest of that cell and every other slot and cell stay as they were.
+ * start of its cell as the strict form has. The rest of that cell and every other slot and cell stay as they were.
  * With the other three values no byte of the table changes, and with a refusal none does either.
  * Refusals: 34 for a table that is none: at 0 if slots_len is not KEZ_SLOTS_BYTES or cells_len is not KEZ_CELLS_BYTES,
  * else at the lowest bad slot. A used slot is bad if its length is above KEZ_CELL_BYTES, if its cell has no event of
@@ -265,9 +267,9 @@ kez_answer kez_table_empty(uint8_t *slots, size_t slots_len,
  * event of the same key or, both without a key, of the same id. Then those of kez_notepack_read for the packed event;
  * then 22 if its strict form has more than KEZ_CELL_BYTES bytes, whatever its kind; then 23 if it is to be stored new
  * and no slot is free.
- * Cost: linear in packed_len, and at most the time for the whole table: each kept event is read, and its key compared
- * with those of the others.
- * Rules 8.1 to 8.11, part 15; of the input 2.1 to 2.17; of what is stored 3.1 to 3.3. */
+ * Cost: linear in packed_len, and on top of that the time for the whole table, which has a bound: each kept event is
+ * read, and its key or id compared with those of the others.
+ * Rules 8.1 to 8.11, 15; of the input 2.1 to 2.17; of what is stored 3.1 to 3.3. */
 kez_answer kez_table_offer(uint8_t *slots, size_t slots_len,
                            uint8_t *cells, size_t cells_len,
                            const uint8_t *packed, size_t packed_len);
@@ -276,8 +278,8 @@ kez_answer kez_table_offer(uint8_t *slots, size_t slots_len,
  * host that wants all of them asks for slots 0 to KEZ_SLOTS - 1 and passes over those that are refused with 19.
  * Refusals: 34 as kez_table_offer gives it; then 19 if the slot is free or n is above 63.
  * value: 0
- * Cost: the time for the whole table, for each call.
- * Part 15. */
+ * Cost: the time for the whole table, as for kez_table_offer, for each call.
+ * Rules 15. */
 kez_answer kez_table_slot(const uint8_t *slots, size_t slots_len,
                           const uint8_t *cells, size_t cells_len,
                           uint64_t n, uint64_t *at, uint64_t *len);

@@ -76,11 +76,16 @@ fn slot_of<'a>(slot: &[u8], cell: &'a [u8]) -> Slot<'a> {
     kept(cell, length).map_or(Slot::Bad, Slot::Kept)
 }
 
-/// Is the slot bad by itself, or because another one holds an event of the same name?
+/// Is the slot bad by itself, or because a later one holds an event of the same name? Of two such both are bad, and the
+/// lower one is the one to be told.
 fn is_bad(all: &[Slot], n: usize) -> bool {
-    let Slot::Kept(one) = &all[n] else { return matches!(all[n], Slot::Bad) };
-    let twin = |(m, other): (usize, &Slot)| m != n && matches!(other, Slot::Kept(other) if other.name.same(&one.name));
-    all.iter().enumerate().any(twin)
+    match &all[n] {
+        Slot::Free => false,
+        Slot::Kept(one) => {
+            all[n + 1..].iter().any(|other| matches!(other, Slot::Kept(other) if other.name.same(&one.name)))
+        }
+        Slot::Bad => true,
+    }
 }
 
 fn right_sizes(slots: &[u8], cells: &[u8]) -> Answer<()> {

@@ -4,14 +4,14 @@ use Prim.Native.Nat.{ℕ, _*_}
 use mathlib.Core.List.{List}
 use lib.ListN.{length, replicate}
 use lib.Dec.{eqb}
-use Rattle.scan.specs.Choice.{pick, Answer, shown, refused, andThen}
+use Rattle.scan.specs.Choice.{pick, Answer, shown, refused}
 use Rattle.event.specs.Event.{Event}
 use Rattle.notepack.specs.Strict.{pack}
-use Rattle.notepack.specs.Views.{nth}
 use Rattle.slots.specs.Slots.{usedSlot}
-use Rattle.archive.specs.Archive.{Entry, free, held}
-use Rattle.table.specs.Cells.{cellStart, laidOver}
+use Rattle.archive.specs.Archive.{Entry}
+use Rattle.table.specs.Cells.{laidOver}
 use Rattle.table.specs.Table.{entriesOf}
+use Rattle.table.specs.Standing.{Stand, standOf}
 use Rattle.table.specs.Offer.{Offer, offer, Place, nowhere, slot, placeIn}
 use Rattle.slotbytes.specs.SlotBytes.{slotsIn, slotBytes}
 
@@ -32,20 +32,9 @@ abbrev pub bytesAfter : Answer Offer → List ℕ → List ℕ
 bytesAfter (shown o) d = bytesWith (placeIn o) (o .event) d
 bytesAfter (refused n p) d = d
 
--- where the event of slot n stands in the cells: 34, then 19 where the slot is free or there is none
-pub record Stand : Type 0 where
-  pub at : ℕ
-  pub len : ℕ
-
-abbrev pub standing : ℕ → Entry → Answer Stand
-standing n free = refused 19 0
-standing n (held e) = shown (record { at = cellStart n; len = length (pack e) })
-
+-- where the event of slot n stands in the cells
 unfoldable pub tableSlot : List ℕ → List ℕ → ℕ → Answer Stand
-tableSlot slots cells n =
-    andThen (tableEntries slots cells) λ s.
-    andThen (nth n s) λ x.
-    standing n x
+tableSlot slots cells n = pick (eqb (length slots) 1_024) (standOf (slotsIn 64 slots) cells n) (refused 34 0)
 
 -- emptying: 34 at 0 for buffers of another size; else every byte of both is zero
 abbrev pub sized : List ℕ → List ℕ → Answer ℕ

@@ -35,7 +35,8 @@ use Rattle.archive.specs.declared.Outcome.{Outcome}
 use Rattle.archive.specs.declared.Outcome.the-variants.{New, Replaced, Loses, Held, NotKept}
 use Rattle.archive.specs.Archive.{Name, nameBy, nameOf, isEphemeral, isSecond, sameEvent, Entry, Found, none, one, lookup, hasFree, firstFree, placeOf, beside, versus, wanted, fits, offered}
 use Rattle.table.specs.Cells.{cellStart, laidOver}
-use Rattle.table.specs.Offer.{offeredEvent, Offer, Place, nowhere, slot, placeBy, cellsAfter}
+use Rattle.table.specs.Table.{entriesOf}
+use Rattle.table.specs.Offer.{offeredEvent, Offer, offer, Place, nowhere, slot, placeBy, cellsWith, cellsAfter}
 use Rattle.tableread.specs.declared.Stored.{Stored}
 use Rattle.tableread.specs.declared.Known.{Known}
 use Rattle.tableread.specs.declared.Lowest.{Lowest}
@@ -51,57 +52,154 @@ use Rattle.tableread.proofs.Within.{find-within, free-within}
 use Rattle.tableoffer.specs.declared.Decision.{Decision}
 use Rattle.tableoffer.specs.declared.Plan.{Plan}
 use Rattle.tableoffer.specs.declared.Plan.the-variants.{Put, Stays, Full}
-use Rattle.tableoffer.specs.Decision.{decision}
-use Rattle.tableoffer.specs.inner.Plan.{besideStored, newIn, planFound, planFor, decisionBy, cellsBy, goodDecision, goodCells}
+use Rattle.tableoffer.specs.Decision.{decisionAt, decision}
+use Rattle.tableoffer.specs.inner.Plan.{besideStored, newIn, planFound, planFor, decisionBy, cellsBy, walkedDecision, walkedCells, goodDecision, goodCells}
 
 -- what an offer comes to, with the entries and the event
-abbrev offerBy : List Entry → Event → Answer Outcome → Answer Offer
+abbrev pub offerBy : List Entry → Event → Answer Outcome → Answer Offer
 offerBy l e a = andThen a λ r. shown (record { entries = l; event = e; outcome = r })
 
 -- a plan is what an answer says, in the decision and in the cells
-record Means (cells b : List ℕ) (p : Plan) (a : Answer Offer) : Type 0 where
+pub record Means (cells b : List ℕ) (p : Plan) (a : Answer Offer) : Type 0 where
   pub decides : decisionBy p (length b) ≡ decision 64 a
   pub leaves : cellsBy p b cells ≡ cellsAfter a cells
 
-module _ (cells : List ℕ) (room : length cells ≡ 65_536) (ks : List Known) (many : length ks ≡ 64) (l : List Entry) (u : Alike cells ks l) (s : List ℕ) (h : Head) where
-  abbrev e : Event
-  e = eventAgain s h
+-- an event that was walked over: its numbers, its id and its key as they stand in the bytes
+pub record ReadAs (s : List ℕ) (h : Head) (e : Event) : Type 0 where
+  pub time : e .createdAt ≡ h .«created_at»
+  pub kind : e .kind ≡ h .kind
+  pub id : e .id ≡ take 32 s
+  pub key : keyThere s (keyAt s h) ≡ keyOf e
 
-  abbrev b : List ℕ
-  b = pack e
+again-read : (s : List ℕ) (h : Head) → ReadAs s h (eventAgain s h)
+unfolding eventAgain
+again-read s h = record { time = refl; kind = refl; id = refl; key = key-there s h }
 
-  module _ (small : length b ≤ 1_024) where
-    -- the bytes of a cell, put there
-    laid : (i : ℕ) → i < 64 → puts (cells, cellStart i) b .0 ≡ laidOver (cellStart i) b cells
-    unfolding laidOver
-    laid i k = ap (λ (z : List ℕ × ℕ). z .0) (puts-eq cells (1_024 * i) b (omega (arith, k, small, room)))
+module _ (cells : List ℕ) (room : length cells ≡ 65_536) (l : List Entry) (e : Event) (small : length (pack e) ≤ 1_024) where
+  put-means : {i : ℕ} {r : Outcome} → i < 64 → offered l e ≡ shown r → placeBy r l e ≡ slot i → Means cells (pack e) (Put i r) (offerBy l e (offered l e))
+  unfolding laidOver
+  put-means {i} {r} k q p =
+      let o : Offer = record { entries = l; event = e; outcome = r } in
+      let w = ap (λ (z : List ℕ × ℕ). z .0) (puts-eq cells (1_024 * i) (pack e) (omega (arith, k, small, room))) in
+      subst (λ (a : Answer Outcome). Means cells (pack e) (Put i r) (offerBy l e a)) (sym q)
+      (record { decides = ap (λ (x : Place). decisionAt 64 x o) (sym p); leaves = w ∙ ap (λ (x : Place). cellsWith x e cells) (sym p) })
 
-    -- the name that is looked for is the event's
+  stays-means : {r : Outcome} → offered l e ≡ shown r → placeBy r l e ≡ nowhere → Means cells (pack e) (Stays r) (offerBy l e (offered l e))
+  stays-means {r} q p =
+      let o : Offer = record { entries = l; event = e; outcome = r } in
+      subst (λ (a : Answer Outcome). Means cells (pack e) (Stays r) (offerBy l e a)) (sym q)
+      (record { decides = ap (λ (x : Place). decisionAt 64 x o) (sym p); leaves = ap (λ (x : Place). cellsWith x e cells) (sym p) })
+
+  full-means : offered l e ≡ refused 23 0 → Means cells (pack e) Full (offerBy l e (offered l e))
+  full-means q = subst (λ (a : Answer Outcome). Means cells (pack e) Full (offerBy l e a)) (sym q) (record { decides = refl; leaves = refl })
+
+  -- an outcome that has room
+  fitting : {r : Outcome} → wanted l e ≡ r → fits l r ≡ true → offered l e ≡ shown r
+  unfolding offered
+  fitting w f = rw (w, f)
+
+  crowded : wanted l e ≡ New → hasFree l ≡ false → offered l e ≡ refused 23 0
+  unfolding offered
+  crowded w f = rw (w, f)
+
+  module _ (ks : List Known) (many : length ks ≡ 64) (u : Alike cells ks l) (s : List ℕ) (h : Head) (g : ReadAs s h e) where
     name-is : nameThere s (keyAt s h) ≡ nameOf e
-    unfolding eventAgain
-    name-is = ap (nameBy (take 32 s)) (key-there s h)
+    name-is = ap (λ (i : List ℕ). nameBy i (keyThere s (keyAt s h))) (sym (g .id)) ∙ ap (nameBy (e .id)) (g .key)
 
-    -- what an offer comes to by what is found
-    wanted-by : {f : Found} → isEphemeral (h .kind) ≡ false → lookup (nameOf e) l ≡ f → wanted l e ≡ versus f e
-    unfolding wanted eventAgain
-    wanted-by k q = rw (k, q)
-
-    put-means : {i : ℕ} {r : Outcome} → i < 64 → offered l e ≡ shown r → placeBy r l e ≡ slot i → Means cells b (Put i r) (offerBy l e (offered l e))
-    put-means {i} k q p = rw (q, p) (record { decides = refl; leaves = laid i k })
-
-    stays-means : {r : Outcome} → offered l e ≡ shown r → placeBy r l e ≡ nowhere → Means cells b (Stays r) (offerBy l e (offered l e))
-    stays-means q p = rw (q, p) (record { decides = refl; leaves = refl })
-
-    new-means : (f : Lowest) → freeFrom 0 ks ≡ f → wanted l e ≡ New → Means cells b (newIn f) (offerBy l e (offered l e))
-    unfolding offered
+    new-means : (f : Lowest) → freeFrom 0 ks ≡ f → wanted l e ≡ New → Means cells (pack e) (newIn f) (offerBy l e (offered l e))
     new-means (lowest.At i) q w =
-        let g = free-at cells u q in
+        let y = free-at cells u q in
         let k = free-within ks q in
-        put-means (omega (arith, k, many)) (rw (w, g .0)) (ap slot (sym (g .1)))
-    new-means lowest.Nowhere q w = rw (w, free-none cells u q) (record { decides = refl; leaves = refl })
+        put-means (omega (arith, k, many)) (fitting w (y .0)) (ap slot (sym (y .1)))
+    new-means lowest.Nowhere q w = full-means (crowded w (free-none cells u q))
 
-    beside-means : (z : KeyRead) → keyAt s h ≡ z → {i : ℕ} {a : Stored} {d : Event} → i < 64 → Stands cells a d → i ≡ placeOf (nameOf e) l
-        → wanted l e ≡ beside (keyOf e) d e → Means cells b (besideStored cells i a s (h .«created_at») z b) (offerBy l e (offered l e))
-    unfolding besideStored
-    beside-means Keyless q k g p w = ?
-    beside-means (Keyed y) q k g p w = ?
+    beside-means : (z : KeyRead) → keyAt s h ≡ z → (i : ℕ) (a : Stored) (d : Event) → i < 64 → Stands cells a d → i ≡ placeOf (nameOf e) l
+        → wanted l e ≡ beside (keyOf e) d e → Means cells (pack e) (besideStored cells i a s (h .«created_at») z (pack e)) (offerBy l e (offered l e))
+    unfolding besideStored sameEvent
+    beside-means Keyless q i a d k y p w =
+        let m : keyOf e ≡ key.keyless = sym (g .key) ∙ ap (keyThere s) q in
+        stays-means (fitting (w ∙ ap (λ (x : key.Keyed). beside x d e) m) refl) refl
+    beside-means (Keyed c) q i a d k y p w =
+        let m : keyOf e ≡ keyThere s (Keyed c) = sym (g .key) ∙ ap (keyThere s) q in
+        let n : keepsBy (a .«created_at») (h .«created_at») (take 32 (storedBytes cells a)) (take 32 s) ≡ keeps d e = rw (← y .time, ← y .id, ← g .time, ← g .id) in
+        let v = w ∙ ap (λ (x : key.Keyed). beside x d e) m in
+        rw (n, y .strict) (by-tests (isSecond (keeps d e)) (sameEvent d e) v)
+      where
+        by-tests : (t x : Bool) → wanted l e ≡ pick t Replaced (pick x Held Loses) → Means cells (pack e) (pick t (Put i Replaced) (pick x (Stays Held) (Stays Loses))) (offerBy l e (offered l e))
+        by-tests true x v = put-means k (fitting v refl) (ap slot (sym p))
+        by-tests false true v = stays-means (fitting v refl) refl
+        by-tests false false v = stays-means (fitting v refl) refl
+
+    found-means : (f : Finding) → findFrom cells s (keyAt s h) (printOf (nameThere s (keyAt s h))) 0 ks ≡ f → isEphemeral (e .kind) ≡ false
+        → Means cells (pack e) (planFound cells ks s h (pack e) f) (offerBy l e (offered l e))
+    unfolding wanted
+    found-means (finding.Found i a) q v =
+        let y = found-at cells s (keyAt s h) (printOf (nameThere s (keyAt s h))) (nameOf e) (sym name-is) (ap printOf name-is) u q in
+        let k = find-within cells s (keyAt s h) (printOf (nameThere s (keyAt s h))) ks q in
+        beside-means (keyAt s h) refl i a (y .0) (omega (arith, k, many)) (y .2) (y .3) (rw (v, y .1))
+    found-means finding.Missing q v =
+        let y = missing-none cells s (keyAt s h) (printOf (nameThere s (keyAt s h))) (nameOf e) (sym name-is) (ap printOf name-is) u q in
+        new-means (freeFrom 0 ks) refl (rw (v, y))
+
+    pub plan-means : Means cells (pack e) (planFor cells ks s h (pack e)) (offerBy l e (offered l e))
+    unfolding planFor wanted
+    plan-means = by-kind (isEphemeral (h .kind)) refl
+      where
+        by-kind : (t : Bool) → isEphemeral (h .kind) ≡ t
+            → Means cells (pack e) (pick t (Stays NotKept) (planFound cells ks s h (pack e) (findFrom cells s (keyAt s h) (printOf (nameThere s (keyAt s h))) 0 ks))) (offerBy l e (offered l e))
+        by-kind true q = let k : isEphemeral (e .kind) ≡ true = ap isEphemeral (g .kind) ∙ q in stays-means (fitting (rw k) refl) refl
+        by-kind false q = found-means (findFrom cells s (keyAt s h) (printOf (nameThere s (keyAt s h))) 0 ks) refl (ap isEphemeral (g .kind) ∙ q)
+
+-- ---- the offer
+
+module _ (t : List Slot) (cells : List ℕ) (room : length cells ≡ 65_536) (ks : List Known) (many : length ks ≡ 64) (l : List Entry) (u : Alike cells ks l)
+    (shows : entriesOf t cells ≡ shown l) (s : List ℕ) (bytes : IsBytes s) where
+  offer-refused : {n q : ℕ} → offeredEvent s ≡ refused n q → offer t cells s ≡ refused n q
+  unfolding offer
+  offer-refused e = rw (shows, e)
+
+  offer-event : {e : Event} → offeredEvent s ≡ shown e → offer t cells s ≡ offerBy l e (offered l e)
+  unfolding offer
+  offer-event e = rw (shows, e)
+
+  no-event : {n q : ℕ} → unpack s ≡ refused n q → offeredEvent s ≡ refused n q
+  unfolding offeredEvent
+  no-event e = rw e
+
+  long-event : {e : Event} → unpack s ≡ shown e → 1_024 < length (pack e) → offeredEvent s ≡ refused 22 0
+  unfolding offeredEvent
+  long-event {e} q k = rw (q, lt-leb (length (pack e)) 1_024 k)
+
+  short-event : {e : Event} → unpack s ≡ shown e → length (pack e) ≤ 1_024 → offeredEvent s ≡ shown e
+  unfolding offeredEvent
+  short-event {e} q k = rw (q, le-leb (length (pack e)) 1_024 k)
+
+  abbrev Decided : Answer Walked → Type 0
+  Decided r = (walkedDecision cells ks s r ≡ decision 64 (offer t cells s)) × (walkedCells cells ks s r ≡ cellsAfter (offer t cells s) cells)
+
+  told : {n q : ℕ} → offer t cells s ≡ refused n q → (decision 64 (refused n q) ≡ decision 64 (offer t cells s)) × (cells ≡ cellsAfter (offer t cells s) cells)
+  told q = (ap (decision 64) (sym q), ap (λ (a : Answer Offer). cellsAfter a cells) (sym q))
+
+  walked : (w : Walked) → Accepted s w → Decided (shown w)
+  walked w g = go (ltb 1_024 (w .tally .len)) refl
+    where
+      go : (x : Bool) → ltb 1_024 (w .tally .len) ≡ x → Decided (shown w)
+      go true k =
+          let m = ltb-true 1_024 (w .tally .len) k in
+          rw k (told (offer-refused (long-event (g .shows) (omega (arith, m, g .len)))))
+      go false k =
+          let m = ltb-false 1_024 (w .tally .len) k in
+          let e = eventAgain s (w .head) in
+          let small : length (pack e) ≤ 1_024 = omega (arith, m, g .len) in
+          let p = plan-means cells room l e small ks many u s (w .head) (again-read s (w .head)) in
+          let q = offer-event (short-event (g .shows) small) in
+          rw (k, pack-written s w g, q) (p .decides, p .leaves)
+
+  decided : (r : Answer Walked) → walkAt s ≡ r → Decided r
+  decided (shown w) e = walked w (accepted s bytes w (walkAt s) refl e)
+  decided (refused n q) e = told (offer-refused (no-event (walk-refuses s n q e)))
+
+  -- THE offer to a table without a bad slot
+  pub good-means : (goodDecision cells ks s ≡ decision 64 (offer t cells s)) × (goodCells cells ks s ≡ cellsAfter (offer t cells s) cells)
+  unfolding goodDecision goodCells
+  good-means = decided (walkAt s) refl

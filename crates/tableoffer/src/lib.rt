@@ -52,7 +52,15 @@ fn is_second(k: Kept) -> bool
 }
 
 // The event s beside the one that slot i holds under its name; b is its strict form.
-fn beside(cells: &[u8], i: usize, a: Stored, s: &[u8], created_at: u64, key: KeyRead, b: &[u8]) -> Plan
+fn beside(
+    cells: &[u8],
+    i: usize,
+    a: Stored,
+    s: &[u8],
+    created_at: u64,
+    key: KeyRead,
+    b: &[u8],
+) -> Plan
     ensures { λ r. ⌜ r ≡ besideStored (now (cells .entry)) i a (now (s .entry)) «created_at» key (now (b .entry)) ⌝ }
 {
     match key {
