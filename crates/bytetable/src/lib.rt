@@ -1,12 +1,16 @@
-// A table in two lent buffers of bytes, 1,024 of slots and 65,536 of cells: an offer, and the event of a slot.
+// A table in two lent buffers of bytes, 1,024 of slots and 65,536 of cells: emptying, an offer, and the event
+// of a slot.
 use event::Refusal;
+use event::Writing;
 use tableoffer::Offering;
 use tableslot::SlotRead;
 ghost use mathlib.Core.Path.{_≡_};
+ghost use lib.ListN.{length, replicate};
+ghost use Rattle.event.specs.inner.Told.{writing};
 ghost use Rattle.table.specs.Offer.{outcomeOf, cellsAfter};
 ghost use Rattle.tableoffer.specs.Decision.{offering};
 ghost use Rattle.tableslot.specs.inner.Answers.{slotRead};
-ghost use Rattle.tablebytes.specs.Entries.{tableOffer, bytesAfter, tableSlot};
+ghost use Rattle.tablebytes.specs.Entries.{tableOffer, bytesAfter, tableSlot, sized, zeroed};
 
 // An offer of a packed event. Nothing is stored before the last refusal is ruled out.
 pub fn offer(slots: &mut [u8], cells: &mut [u8], packed: &[u8]) -> Offering
@@ -31,6 +35,40 @@ pub fn offer(slots: &mut [u8], cells: &mut [u8], packed: &[u8]) -> Offering
             answer
         }
     }
+}
+
+// Every byte becomes zero.
+fn clear(out: &mut [u8])
+    ensures { λ _. ⌜ now (out .exit) ≡ replicate (length (now (out .entry))) 0 ⌝ }
+{
+    let mut i = 0;
+    while i < out.len() {
+        out[i] = 0;
+        i += 1;
+    }
+}
+
+// Every byte of both buffers becomes zero, if they have the sizes of a table: so every slot is free.
+pub fn empty(slots: &mut [u8], cells: &mut [u8]) -> Writing
+    ensures { λ r. ⌜ writing r ≡ sized (now (slots .entry)) (now (cells .entry)) ⌝ }
+    ensures { λ _. ⌜ now (slots .exit) ≡ zeroed (sized (now (slots .entry)) (now (cells .entry))) (now (slots .entry)) ⌝ }
+    ensures { λ _. ⌜ now (cells .exit) ≡ zeroed (sized (now (slots .entry)) (now (cells .entry))) (now (cells .entry)) ⌝ }
+{
+    if slots.len() != 1024 {
+        return Writing::Refused(Refusal {
+            number: event::BAD_TABLE,
+            place: 0,
+        });
+    }
+    if cells.len() != 65536 {
+        return Writing::Refused(Refusal {
+            number: event::BAD_TABLE,
+            place: 0,
+        });
+    }
+    clear(slots);
+    clear(cells);
+    Writing::Written(0)
 }
 
 // Where the event of slot i stands in the cells: 34, then 19.

@@ -1,6 +1,6 @@
 -- Lending for a call, and taking back once its lifetime is over: a local array of slots as a `&mut [Slot]`, and a
 -- `&mut` slice as a `&` one.
-use mathlib.Core.Path.{_≡_, refl, sym, ap, subst}
+use mathlib.Core.Path.{refl, subst}
 use Prim.Native.Nat.{ℕ}
 use mathlib.Core.List.{List, [], _∷_}
 use lib.ListN.{length}

@@ -2,3 +2,4 @@ pub mod Laws
 pub mod Whole
 pub mod Clauses
 pub mod Lent
+pub mod Result

@@ -1,5 +1,5 @@
--- `offer` meets its contract: a walk of its MIR, by hand. The table is lent as `&` to `table_of` and comes back (`Lent`);
--- the cells and the packed event go to `decide`, the table to `set_slot`. `Laws` and `Whole` say that this is the offer.
+-- `offer` meets its contract: a walk of its MIR, by hand. The table is lent as `&` to `table_of` and comes back
+-- (`Lent`); cells and event go to `decide`, the table to `set_slot`. `Laws` and `Whole` say that this is the offer.
 use mathlib.Core.Path.{_≡_, refl, ap, _∙_}
 use Prim.Native.Nat.{ℕ, _<_, _^_}
 use mathlib.Core.List.{List, [], _∷_}
@@ -44,7 +44,7 @@ use denote.Exit.{yes}
 use Rattle.scan.specs.Choice.{Answer}
 use Rattle.slots.specs.declared.Slot.{Slot}
 use Rattle.slots.specs.Slots as table
-use Rattle.table.specs.Offer.{Offer, offer as tableOffer, slotsAfter, cellsAfter}
+use Rattle.table.specs.Offer.{Offer, offer as tableOffer, cellsAfter}
 use Rattle.tableoffer.specs.declared.Decision.{Decision}
 use Rattle.tableoffer.specs.declared.Offering.{Offering}
 use Rattle.tableoffer.specs.Decision.{lentOffer, decision, offering}
@@ -202,8 +202,8 @@ module _ {M : Type 1} (𝓤 : URA M) (H : Heap 𝓤) (A : Atoms 𝓤) (W : Given
         split ! $ move ! (1 ∷ []) $ drop ! $ split ! $ drop ! $ peeks ! Slots (Is Slots) (shows 𝓤 H A Slots) t₀ (w₀ ∷ []) (λ is₀. drop ! $
         land ! (from ! (stop !)) (init ! 10 refl (array-lawful 𝓤 H A W T.the-row (LL.lawful T.the-type T′.the-laws 𝓤 H A W) 64 .typed t₀ _ is₀ .0)) $
         move ! (31 ∷ []) $ fsplit ! $ move ! (1 ∷ []) $ fsplit ! $ move ! (1 ∷ []) $ fsplit ! $ move ! (34 ∷ []) $ split ! $
-        -- [the table's token; the others'; the event; true; the cells; the table; _14; ..]: the table is lent as `&`, for a
-        -- lifetime ν of the call
+        -- [the table's token; the others'; the event; true; the cells; the table; _14; ..]: the table is lent as `&`,
+        -- for a lifetime ν of the call
         lft-new ! tt (λ ν. move ! (6 ∷ 1 ∷ []) $
         use2 W (later (some (λ (δ : GName). ‵ (ShrSlice (named 0) (ν ∷ []) T.the-row .own (x δ) (xv ∷ [])) ⊛ ‵ (LentShared T.the-row κ (ν ∷ []) q γ b o ys)))) (lends-shared T.the-row κ (ν ∷ []) q γ b o ys 𝓤 H A W (named 0) (named 0)) $ await ! tt $ pick ! (λ δ. split ! $
         move ! (2 ∷ 0 ∷ []) $ use2 W (raw (TableOf 𝓤 H A mem run .pre (to-table ν δ t₀ w₀))) (goes-table ν δ t₀ w₀ is₀) $
@@ -226,8 +226,8 @@ module _ {M : Type 1} (𝓤 : URA M) (H : Heap 𝓤) (A : Atoms 𝓤) (W : Given
         fsplit ! $ move ! (1 ∷ []) $ fsplit ! $ move ! (1 ∷ []) $ fsplit ! $ fsplit ! $ move ! (1 ∷ []) $ feqL ! (λ n′.
         move ! (4 ∷ []) $ split ! $ move ! (1 ∷ []) $ peeks ! D.the-row (Is D.the-row) (shows 𝓤 H A D.the-row) d (v ∷ []) (λ is₂.
         land ! (from ! (stop !)) (init ! 28 refl (LL.lawful D.the-type D′.the-laws 𝓤 H A W .typed d _ is₂ .0)) $ rewrite ! 28 (λ (u : Val). ‵ (fat fullShare D′.mir l₆ 0 u)) (ap only (LL.tells D.the-type D′.the-laws d _ is₂)) refl $
-        -- [what d owns; the other tokens; the cells' last list; ..; ..; ..; the event; the table; its token; true; what t
-        -- owns; true; _14; ..]: `set_slot`
+        -- [what d owns; the other tokens; the cells' last list; ..; ..; ..; the event; the table; its token; true; what
+        -- t owns; true; _14; ..]: `set_slot`
         assigns ! (addr ! (from ! (fld ! refl (hop ! (look-in ! 38 (sub ! 0 refl (whole !))) (stop !))))) (from ! (stop !)) (init ! 14 refl (tt, tt)) $
         assigns ! (agg ! (and-then ! (load ! (from ! (stop !)) (look ! 14 refl)) (and-then ! (load ! (from ! (fld ! refl (stop !))) (look-in ! 38 (sub ! 1 refl (whole !)))) (no-more !)))) (from ! (stop !)) (init ! 12 refl (tt, (tt, (record { fits = room .0 }, tt)))) $
         move ! (8 ∷ 7 ∷ []) $ use2 W (raw (Set 𝓤 H A mem run .pre (to-set d))) (goes-set d (fields d v is₂ .0) (fields d v is₂ .1)) $
