@@ -162,8 +162,8 @@ sized-tells slots cells = go (eqb (length slots) 1_024) (eqb (length cells) 65_5
   where
     go : (t u : Bool) → Tells (34 ∷ []) 0 (λ (v : ℕ). Unit {0}) (pick t (pick u (shown 0) (refused 34 0)) (refused 34 0))
     go true true = value tt
-    go true false = refusal refl (omega arith)
-    go false u = refusal refl (omega arith)
+    go true false = refusal {p = 0} refl (omega arith)
+    go false u = refusal {p = 0} refl (omega arith)
 
 offer-keeps : (slots cells s : List ℕ) (n p : ℕ) → tableOffer slots cells s ≡ refused n p
     → (bytesAfter (tableOffer slots cells s) slots ≡ slots) × (cellsAfter (tableOffer slots cells s) cells ≡ cells)

@@ -4,7 +4,7 @@ use Prim.{Unit}
 use Prim.Native.Nat.{ℕ, _≤_, _<_}
 use mathlib.Core.Path.{_≡_}
 use mathlib.Core.Bool.{true, false}
-use mathlib.Core.List.{List, _∷_}
+use mathlib.Core.List.{List, [], _∷_}
 use lib.ListN.{length}
 use Rattle.scan.specs.Choice.{Answer, shown, refused, andThen}
 use Rattle.buffer.specs.Entry.{writes, leaves}
