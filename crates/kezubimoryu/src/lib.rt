@@ -267,9 +267,9 @@ pub extern "C" fn kez_rivals(first: &[u8], second: &[u8]) -> KezAnswer
 // The version as one number: 10,000 for a major one, 100 for a minor one, 1 for a patch.
 #[no_mangle]
 pub extern "C" fn kez_version() -> u64
-    ensures { λ r. ⌜ r ≡ 600 ⌝ }
+    ensures { λ r. ⌜ r ≡ 700 ⌝ }
 {
-    600
+    700
 }
 
 fn outcome_number(o: Outcome) -> u64
@@ -313,7 +313,13 @@ pub extern "C" fn kez_table_offer(slots: &mut [u8], cells: &mut [u8], packed: &[
 }
 
 #[no_mangle]
-pub extern "C" fn kez_table_slot(slots: &[u8], cells: &[u8], n: u64, at: &mut u64, len: &mut u64) -> KezAnswer
+pub extern "C" fn kez_table_slot(
+    slots: &[u8],
+    cells: &[u8],
+    n: u64,
+    at: &mut u64,
+    len: &mut u64,
+) -> KezAnswer
     ensures { λ a. ⌜ (a .refusal, a .value) ≡ twoNumbers (ok (tableSlot (now (slots .entry)) (now (cells .entry)) n)) ⌝ }
     ensures { λ _. ⌜ now (at .exit) ≡ lent (tableSlot (now (slots .entry)) (now (cells .entry)) n) (λ p. p .at) (now (at .entry)) ⌝ }
     ensures { λ _. ⌜ now (len .exit) ≡ lent (tableSlot (now (slots .entry)) (now (cells .entry)) n) (λ p. p .len) (now (len .entry)) ⌝ }
