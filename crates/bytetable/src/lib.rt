@@ -5,10 +5,9 @@ use event::Writing;
 use tableoffer::Offering;
 use tableslot::SlotRead;
 ghost use mathlib.Core.Path.{_≡_};
-ghost use lib.ListN.{length, replicate};
 ghost use Rattle.event.specs.inner.Told.{writing};
 ghost use Rattle.table.specs.Offer.{outcomeOf, cellsAfter};
-ghost use Rattle.tableoffer.specs.Decision.{offering};
+ghost use Rattle.tableoffer.specs.inner.Decision.{offering};
 ghost use Rattle.tableslot.specs.inner.Answers.{slotRead};
 ghost use Rattle.tablebytes.specs.Entries.{tableOffer, bytesAfter, tableSlot, sized, zeroed};
 
@@ -37,17 +36,6 @@ pub fn offer(slots: &mut [u8], cells: &mut [u8], packed: &[u8]) -> Offering
     }
 }
 
-// Every byte becomes zero.
-fn clear(out: &mut [u8])
-    ensures { λ _. ⌜ now (out .exit) ≡ replicate (length (now (out .entry))) 0 ⌝ }
-{
-    let mut i = 0;
-    while i < out.len() {
-        out[i] = 0;
-        i += 1;
-    }
-}
-
 // Every byte of both buffers becomes zero, if they have the sizes of a table: so every slot is free.
 pub fn empty(slots: &mut [u8], cells: &mut [u8]) -> Writing
     ensures { λ r. ⌜ writing r ≡ sized (now (slots .entry)) (now (cells .entry)) ⌝ }
@@ -66,8 +54,8 @@ pub fn empty(slots: &mut [u8], cells: &mut [u8]) -> Writing
             place: 0,
         });
     }
-    clear(slots);
-    clear(cells);
+    buffer::fill_bytes(slots, 0);
+    buffer::fill_bytes(cells, 0);
     Writing::Written(0)
 }
 

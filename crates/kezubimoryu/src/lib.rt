@@ -28,7 +28,7 @@ ghost use Rattle.json.specs.Entries.{jsonReads, jsonLeaves};
 ghost use Rattle.bothreaders.specs.Both.{both, bothFirst, bothSecond};
 ghost use Rattle.rivals.specs.Rivals.{rivals};
 ghost use Rattle.table.specs.Offer.{outcomeOf, cellsAfter};
-ghost use Rattle.tableoffer.specs.Decision.{offering};
+ghost use Rattle.tableoffer.specs.inner.Decision.{offering};
 ghost use Rattle.tablebytes.specs.Entries.{tableOffer, bytesAfter, tableSlot, sized, zeroed};
 ghost use Rattle.kezubimoryu.specs.Entries.{ok, yesNo, lent, keptNumber, keptAnswer, outcomeNumber, outcomeTold};
 

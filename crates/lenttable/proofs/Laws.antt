@@ -10,7 +10,7 @@ use Rattle.scan.specs.Choice.{Answer, shown, refused}
 use Rattle.slots.specs.declared.Slot.{Slot}
 use Rattle.slots.specs.Slots.{freeSlot}
 use Rattle.table.specs.Offer.{Offer, outcomeOf, Place, nowhere, slot, placeIn, slotsWith, slotsAfter}
-use Rattle.tableoffer.specs.Decision.{decisionAt, decision, offering}
+use Rattle.tableoffer.specs.inner.Decision.{decisionAt, decision, offering}
 
 place-slots : (w : Place) (o : Offer) (l : List Slot)
     → set l (decisionAt (length l) w o .at) (decisionAt (length l) w o .slot) ≡ slotsWith w (o .event) l

@@ -12,7 +12,7 @@ use Rattle.slots.specs.Slots.{whole}
 use Rattle.slots.proofs.Facts.{whole-64}
 use Rattle.table.specs.Table.{entriesOf}
 use Rattle.table.specs.Offer.{offer}
-use Rattle.tableoffer.specs.Decision.{lentOffer}
+use Rattle.tableoffer.specs.inner.Decision.{lentOffer}
 
 pub lent-whole : (l t : List Slot) (cells packed : List ℕ) → lentOffer (length l) (whole l t) cells packed ≡ offer l cells packed
 unfolding lentOffer offer entriesOf

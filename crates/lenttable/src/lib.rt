@@ -7,7 +7,7 @@ ghost use mathlib.Core.Path.{_≡_};
 ghost use Rattle.event.specs.inner.Told.{writing};
 ghost use Rattle.slots.specs.Slots.{freeSlot};
 ghost use Rattle.table.specs.Offer.{offer as tableOffer, outcomeOf, slotsAfter, cellsAfter};
-ghost use Rattle.tableoffer.specs.Decision.{offering};
+ghost use Rattle.tableoffer.specs.inner.Decision.{offering};
 ghost use Rattle.lenttable.specs.Empty.{isTable, emptying, emptied, slotsEmptied, cellsEmptied};
 
 // What an offer comes to, and the slots after it.

@@ -4,7 +4,9 @@ use Prim.Native.Nat.{ℕ, zero, suc}
 use mathlib.Core.Path.{_≡_, sym, ap, _∙_, subst}
 use mathlib.Core.List.{List, _∷_}
 use lib.ListN.{length, replicate, length-replicate}
-use borrow.Author.Tests.{eq-eqb}
+use lib.Dec.{eqb}
+use borrow.Author.Tests.{eq-eqb, eqb-true}
+use Rattle.scan.proofs.Many.{pick-shown}
 use Rattle.scan.specs.Choice.{shown}
 use Rattle.scan.specs.Bytes.{IsBytes}
 use Rattle.event.specs.Event.{Event}
@@ -22,7 +24,7 @@ use Rattle.table.proofs.Good.{good-free}
 use Rattle.table.proofs.Offers.{offer-apart, offer-entries, offer-within, offer-kept}
 use Rattle.tablebytes.specs.Entries.{tableEntries, tableOffer}
 use Rattle.tablebytes.proofs.Slots.{offer-bytes, slots-with, length-with}
-use Rattle.tablebytes.specs.Runs.{Lent, emptied, after, Ran, stop, next, keptUnder, ShowsOffered, NeverBad, HoldsCurrent, AnyOrder}
+use Rattle.tablebytes.specs.Runs.{Lent, emptied, after, Ran, stop, next, keptUnder, Empties, ShowsOffered, NeverBad, HoldsCurrent, AnyOrder}
 
 -- ---- what the buffers hold
 
@@ -80,6 +82,15 @@ unfolding keptUnder
 kept-found n w = rw (stands-shown w)
 
 -- ---- what the specification says
+
+pub empties : Empties
+unfolding emptied
+empties t v q =
+    let a = pick-shown (eqb (length (t .slots)) 1_024) _ 34 0 v q in
+    let b = pick-shown (eqb (length (t .cells)) 65_536) _ 34 0 v (a .1) in
+    let n = eqb-true (length (t .slots)) 1_024 (a .0) in
+    let m = eqb-true (length (t .cells)) 65_536 (b .0) in
+    rw q (ap (λ (k : ℕ). replicate k 0) n, ap (λ (k : ℕ). replicate k 0) m)
 
 pub shows-offered : ShowsOffered
 shows-offered t p o q = offer-apart (slotsIn 64 (t .slots)) (t .cells) p o (offer-bytes (t .slots) (t .cells) p o q .1) .event

@@ -12,7 +12,7 @@ use Rattle.keys.specs.Key.{Key}
 use Rattle.archive.specs.Archive.{Name, under, Entry, Found, lookup}
 use Rattle.archive.specs.Current.{Among, Current}
 use Rattle.table.specs.Offer.{Offer, cellsAfter}
-use Rattle.tablebytes.specs.Entries.{tableEntries, tableOffer, bytesAfter}
+use Rattle.tablebytes.specs.Entries.{tableEntries, tableOffer, bytesAfter, sized, zeroed}
 
 -- the two lent buffers
 pub record Lent : Type 0 where
@@ -22,6 +22,11 @@ pub record Lent : Type 0 where
 -- as emptying leaves them: zero bytes, 1,024 and 65,536
 unfoldable pub emptied : Lent
 emptied = record { slots = replicate 1_024 0; cells = replicate 65_536 0 }
+
+-- Emptying buffers of a table's sizes leaves the emptied table, whatever they held.
+abbrev pub Empties : Type 0
+Empties = (t : Lent) (v : ℕ) → sized (t .slots) (t .cells) ≡ shown v
+    → (zeroed (sized (t .slots) (t .cells)) (t .slots) ≡ emptied .slots) × (zeroed (sized (t .slots) (t .cells)) (t .cells) ≡ emptied .cells)
 
 -- as an offer of p leaves them
 unfoldable pub after : Lent → List ℕ → Lent

@@ -12,7 +12,7 @@ use Rattle.tableoffer.specs.declared.Offering.the-variants.{Told}
 use Rattle.tableoffer.specs.declared.Decision.{Decision}
 use Rattle.tableoffer.specs.declared.Plan.{Plan}
 use Rattle.tableoffer.specs.declared.Plan.the-variants.{Put, Stays, Full}
-use Rattle.tableoffer.specs.Decision.{decision}
+use Rattle.tableoffer.specs.inner.Decision.{decision}
 use Rattle.tableoffer.specs.inner.Plan.{placeNumber, decisionBy, cellsBy}
 
 pub place-small : (p : Plan) {i : ℕ} {o : Outcome} → placeNumber p < 64 → p ≡ Put i o → 1_024 * i < 65_536

@@ -38,7 +38,7 @@ use Rattle.tableread.proofs.Within.{find-within, free-within}
 use Rattle.tableoffer.specs.declared.Decision.{Decision}
 use Rattle.tableoffer.specs.declared.Plan.{Plan}
 use Rattle.tableoffer.specs.declared.Plan.the-variants.{Put, Stays, Full}
-use Rattle.tableoffer.specs.Decision.{decision}
+use Rattle.tableoffer.specs.inner.Decision.{decision}
 use Rattle.tableoffer.specs.inner.Plan.{besideStored, newIn, planFound, planFor, placeNumber, decisionBy, cellsBy, goodDecision, goodCells}
 
 -- ---- the slot of a plan is one of the slots

@@ -52,7 +52,7 @@ use Rattle.tableread.proofs.Within.{find-within, free-within}
 use Rattle.tableoffer.specs.declared.Decision.{Decision}
 use Rattle.tableoffer.specs.declared.Plan.{Plan}
 use Rattle.tableoffer.specs.declared.Plan.the-variants.{Put, Stays, Full}
-use Rattle.tableoffer.specs.Decision.{decisionAt, decision}
+use Rattle.tableoffer.specs.inner.Decision.{decisionAt, decision}
 use Rattle.tableoffer.specs.inner.Plan.{besideStored, newIn, planFound, planFor, decisionBy, cellsBy, walkedDecision, walkedCells, goodDecision, goodCells}
 
 -- what an offer comes to, with the entries and the event

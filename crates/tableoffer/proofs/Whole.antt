@@ -17,7 +17,7 @@ use Rattle.tableread.specs.inner.Known.{knownFrom, lowestFrom}
 use Rattle.tableread.proofs.Turns.{known-length}
 use Rattle.tableread.proofs.Entries.{lowest-bad-is, lowest-none}
 use Rattle.tableoffer.specs.declared.Decision.{Decision}
-use Rattle.tableoffer.specs.Decision.{lentOffer, decision}
+use Rattle.tableoffer.specs.inner.Decision.{lentOffer, decision}
 use Rattle.tableoffer.specs.inner.Plan.{goodDecision, goodCells}
 use Rattle.tableoffer.proofs.Meaning.{good-means}
 

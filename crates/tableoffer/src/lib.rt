@@ -16,7 +16,7 @@ ghost use lib.ListN.{length};
 ghost use Rattle.scan.specs.Choice.{refused};
 ghost use Rattle.archive.specs.Archive.{isSecond};
 ghost use Rattle.table.specs.Offer.{cellsAfter};
-ghost use Rattle.tableoffer.specs.Decision.{lentOffer, decision};
+ghost use Rattle.tableoffer.specs.inner.Decision.{lentOffer, decision};
 ghost use Rattle.tableoffer.specs.inner.Plan.{besideStored, planFor, placeNumber, decisionBy, cellsBy, goodDecision, goodCells};
 
 // What an offer does: the event is put into a slot, or the table stays, or there is no room.

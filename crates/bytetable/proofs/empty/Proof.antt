@@ -11,7 +11,7 @@ cells-size : tie.Need-returns-2
 cells-size c = let a = c .before .before .before .before .args in other-cells (a .slots .now) (a .cells .now) (c .before .if1 .left) (c .if2 .taken)
 
 zeroes : tie.Need-returns-3
-zeroes c = let a = c .before .before .before .before .before .before .before .before .before .before .before .before .args in emptied (a .slots .now) (a .cells .now) (c .before .before .before .before .before .before .before .before .before .if1 .left) (c .before .before .before .before .before .before .before .before .if2 .left) (c .before .before .before .before .before .before .clear .ensures) (c .before .before .clear2 .ensures)
+zeroes c = let a = c .before .before .before .before .before .before .before .before .before .before .before .before .args in emptied (a .slots .now) (a .cells .now) (c .before .before .before .before .before .before .before .before .before .if1 .left) (c .before .before .before .before .before .before .before .before .if2 .left) (c .before .before .before .before .before .before .fill-bytes .ensures) (c .before .before .fill-bytes2 .ensures)
 
 pub empty-spec : {M : Type 1} → statement M
 empty-spec =

@@ -2,7 +2,7 @@
 -- By the laws of `Laws` for each way it can end.
 use mathlib.Core.Path.{ap, refl}
 use borrow.Author.Needs.{needs}
-use Rattle.tableoffer.specs.Decision.{offering}
+use Rattle.tableoffer.specs.inner.Decision.{offering}
 use Rattle.bytetable.proofs.Laws.{other-size, refusal, outcome}
 use Rattle.bytetable.proofs.offer.Statement.{statement}
 use Rattle.bytetable.proofs.offer.Tie as tie

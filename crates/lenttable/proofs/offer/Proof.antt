@@ -47,7 +47,7 @@ use Rattle.slots.specs.Slots as table
 use Rattle.table.specs.Offer.{Offer, offer as tableOffer, cellsAfter}
 use Rattle.tableoffer.specs.declared.Decision.{Decision}
 use Rattle.tableoffer.specs.declared.Offering.{Offering}
-use Rattle.tableoffer.specs.Decision.{lentOffer, decision, offering}
+use Rattle.tableoffer.specs.inner.Decision.{lentOffer, decision, offering}
 use Rattle.slots.proofs.Slot as T
 use Rattle.slots.proofs.Slot.Laws as T′
 use Rattle.tableoffer.proofs.Decision as D

@@ -47,7 +47,7 @@ use Rattle.scan.specs.Choice.{Answer}
 use Rattle.slots.specs.declared.Slot.{Slot}
 use Rattle.table.specs.Offer.{Offer, offer as tableOffer, outcomeOf, slotsAfter, cellsAfter}
 use Rattle.tableoffer.specs.declared.Offering.{Offering}
-use Rattle.tableoffer.specs.Decision.{offering}
+use Rattle.tableoffer.specs.inner.Decision.{offering}
 use Rattle.slots.proofs.Slot as T
 use Rattle.slots.proofs.Slot.Laws as T′
 use Rattle.tableoffer.proofs.Offering as O

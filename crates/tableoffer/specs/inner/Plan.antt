@@ -23,7 +23,7 @@ use Rattle.buffer.specs.inner.Store.{puts}
 use Rattle.table.specs.Cells.{cellStart}
 use Rattle.tableoffer.specs.declared.Offering.the-variants.{Told}
 use Rattle.tableoffer.specs.declared.Decision.{Decision}
-use Rattle.tableoffer.specs.Decision.{decision}
+use Rattle.tableoffer.specs.inner.Decision.{decision}
 use Rattle.tableread.specs.declared.Stored.{Stored}
 use Rattle.tableread.specs.declared.Known.{Known}
 use Rattle.tableread.specs.declared.Lowest.{Lowest}

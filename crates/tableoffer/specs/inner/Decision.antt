@@ -1,4 +1,5 @@
--- What an offer decides: its answer, and the slot that changes with what it becomes. Assumes nothing.
+-- What an offer decides: its answer, and the slot that changes with what it becomes. `lenttable/proofs/Laws` shows that
+-- it is what the table says of the offer. Assumes nothing.
 use Prim.Native.Nat.{ℕ}
 use mathlib.Core.List.{List}
 use lib.ListN.{length}
