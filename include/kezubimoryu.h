@@ -269,6 +269,7 @@ kez_answer kez_table_empty(uint8_t *slots, size_t slots_len,
  * and no slot is free.
  * Cost: linear in packed_len, and on top of that the time for the whole table, which has a bound: each kept event is
  * read, and its key or id compared with those of the others.
+ * Stack: some 25 KB, for what is known of the 64 slots while the call lasts.
  * Rules 8.1 to 8.11, 15; of the input 2.1 to 2.17; of what is stored 3.1 to 3.3. */
 kez_answer kez_table_offer(uint8_t *slots, size_t slots_len,
                            uint8_t *cells, size_t cells_len,
