@@ -253,7 +253,8 @@ kez_answer kez_table_empty(uint8_t *slots, size_t slots_len,
  * - KEZ_TABLE_NEW, stored: nothing was kept under its key or, if it has none, its id. It takes the lowest free slot.
  * - KEZ_TABLE_REPLACED, stored in the slot of the event with the same key, which is gone: that one was earlier, or as
  *   late and its id higher.
- * - KEZ_TABLE_LOSES, not stored: the kept event with the same key is later, or as late and its id not higher.
+ * - KEZ_TABLE_LOSES, not stored: the kept event with the same key is another one, and later, or as late and its id not
+ *   higher.
  * - KEZ_TABLE_HELD, not stored: the table has the very same event, in whatever spelling it was offered; or, if it has
  *   no key, an event without a key and with the same id, whatever else that says.
  * - KEZ_TABLE_NOT_KEPT, not stored: its kind is one of 20000 to 29999.

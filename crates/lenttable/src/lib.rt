@@ -6,7 +6,7 @@ use tableoffer::Offering;
 ghost use mathlib.Core.Path.{_≡_};
 ghost use Rattle.event.specs.inner.Told.{writing};
 ghost use Rattle.slots.specs.Slots.{freeSlot};
-ghost use Rattle.table.specs.Offer.{offer as tableOffer, outcomeOf, slotsAfter, cellsAfter};
+ghost use Rattle.table.specs.Offer.{offer as offerTo, outcomeOf, slotsAfter, cellsAfter};
 ghost use Rattle.tableoffer.specs.inner.Decision.{offering};
 ghost use Rattle.lenttable.specs.Empty.{isTable, emptying, emptied, slotsEmptied, cellsEmptied};
 
@@ -19,9 +19,9 @@ pub struct Offered {
 // An offer of a packed event: 34, the reader's refusals, 22, 23, or what it comes to. A refusal changes nothing; of a
 // table that is not refused one slot and its cell change, or none.
 pub fn offer(slots: &mut [Slot], cells: &mut [u8], packed: &[u8]) -> Offering
-    ensures { λ r. ⌜ offering r ≡ outcomeOf (tableOffer (now (slots .entry)) (now (cells .entry)) (now (packed .entry))) ⌝ }
-    ensures { λ _. ⌜ now (slots .exit) ≡ slotsAfter (tableOffer (now (slots .entry)) (now (cells .entry)) (now (packed .entry))) (now (slots .entry)) ⌝ }
-    ensures { λ _. ⌜ now (cells .exit) ≡ cellsAfter (tableOffer (now (slots .entry)) (now (cells .entry)) (now (packed .entry))) (now (cells .entry)) ⌝ }
+    ensures { λ r. ⌜ offering r ≡ outcomeOf (offerTo (now (slots .entry)) (now (cells .entry)) (now (packed .entry))) ⌝ }
+    ensures { λ _. ⌜ now (slots .exit) ≡ slotsAfter (offerTo (now (slots .entry)) (now (cells .entry)) (now (packed .entry))) (now (slots .entry)) ⌝ }
+    ensures { λ _. ⌜ now (cells .exit) ≡ cellsAfter (offerTo (now (slots .entry)) (now (cells .entry)) (now (packed .entry))) (now (cells .entry)) ⌝ }
 {
     let n = slots.len();
     let t = slots::table_of(slots, free_table());
@@ -32,9 +32,9 @@ pub fn offer(slots: &mut [Slot], cells: &mut [u8], packed: &[u8]) -> Offering
 
 // The same for a table by value, which is lent for the call.
 pub fn offer_in(t: [Slot; 64], cells: &mut [u8], packed: &[u8]) -> Offered
-    ensures { λ r. ⌜ offering (r .answer) ≡ outcomeOf (tableOffer t (now (cells .entry)) (now (packed .entry))) ⌝ }
-    ensures { λ r. ⌜ r .slots ≡ slotsAfter (tableOffer t (now (cells .entry)) (now (packed .entry))) t ⌝ }
-    ensures { λ _. ⌜ now (cells .exit) ≡ cellsAfter (tableOffer t (now (cells .entry)) (now (packed .entry))) (now (cells .entry)) ⌝ }
+    ensures { λ r. ⌜ offering (r .answer) ≡ outcomeOf (offerTo t (now (cells .entry)) (now (packed .entry))) ⌝ }
+    ensures { λ r. ⌜ r .slots ≡ slotsAfter (offerTo t (now (cells .entry)) (now (packed .entry))) t ⌝ }
+    ensures { λ _. ⌜ now (cells .exit) ≡ cellsAfter (offerTo t (now (cells .entry)) (now (packed .entry))) (now (cells .entry)) ⌝ }
 {
     let mut u = t;
     let answer = offer(&mut u, cells, packed);
