@@ -452,7 +452,7 @@ static int load_slot(char *word)
     return spelled(rest) <= KEZ_CELL_BYTES && unhex(cell(n), rest);
 }
 
-/* `shelf_load SLOTS [WORD ..]` */
+/* `table_load SLOTS [WORD ..]` */
 static int do_load(const kind *k, char **words)
 {
     (void)k;
@@ -592,11 +592,11 @@ static const kind kinds[] = {
     {"string_read", 2, do_write, kez_notepack_string_read},
     {"read_both", 2, do_both, NULL},
     {"rivals", 2, do_rivals, NULL},
-    {"shelf_new", 0, do_new, NULL},
-    {"shelf_empty", 0, do_empty, NULL},
-    {"shelf_offer", 1, do_offer, NULL},
-    {"shelf_slot", 1, do_look, NULL},
-    {"shelf_load", MORE, do_load, NULL},
+    {"table_new", 0, do_new, NULL},
+    {"table_empty", 0, do_empty, NULL},
+    {"table_offer", 1, do_offer, NULL},
+    {"table_look", 1, do_look, NULL},
+    {"table_load", MORE, do_load, NULL},
     {"table_slot", 1, do_view, NULL},
 };
 

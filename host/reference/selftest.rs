@@ -238,7 +238,7 @@ fn record(id: u8, author: u8, time: u8, kind: u64, label: &str) -> Vec<u8> {
 fn tables(same: &mut impl FnMut(&str, String, String)) {
     let mut session = Session::new();
     let mut ask = |request: &str| session.answer(request).unwrap_or_default();
-    let offered = |s: &[u8]| format!("shelf_offer {}", hex(s));
+    let offered = |s: &[u8]| format!("table_offer {}", hex(s));
     let with_kind = |kind: u64| record(1, 1, 9, kind, "map");
     for (what, event, wanted) in [
         ("the first", record(5, 1, 9, 30_000, "map"), "new"),
@@ -265,14 +265,14 @@ fn tables(same: &mut impl FnMut(&str, String, String)) {
         same(&format!("offer, {what}"), ask(&offered(&event)), wanted.into());
     }
     let kept = record(6, 1, 10, 30_000, "map");
-    same("slot 0", ask("shelf_slot 0"), format!("used {} {}", kept.len(), hex(&kept)));
+    same("slot 0", ask("table_look 0"), format!("used {} {}", kept.len(), hex(&kept)));
     same("slot 0, viewed", ask("table_slot 0"), format!("ok 0 {}", kept.len()));
     same("slot 3, viewed", ask("table_slot 3"), format!("ok 3072 {}", kept.len()));
     for n in [7, 63, 64, u64::MAX] {
         same(&format!("slot {n}, viewed"), ask(&format!("table_slot {n}")), "refused 19 0".into());
     }
-    same("emptied", ask("shelf_empty"), "ok".into());
-    same("slot 0, emptied", ask("shelf_slot 0"), "free 0 -".into());
+    same("emptied", ask("table_empty"), "ok".into());
+    same("slot 0, emptied", ask("table_look 0"), "free 0 -".into());
     // a cell holds 1,024 bytes and not one more, whatever the kind; the strict form is measured
     let filled = |kind: &[u8], length: usize| {
         let mut s = packed(b"\0", &[kind, &[0x80 | (length % 128) as u8, (length / 128) as u8]].concat());
@@ -300,7 +300,7 @@ fn tables(same: &mut impl FnMut(&str, String, String)) {
     later[128] = 1;
     same("full, a later one", ask(&offered(&later)), "replaced".into());
     let rest = [&later[..], &vec![b'x'; 690], &[0]].concat();
-    same("behind the later one", ask("shelf_slot 0"), format!("used 333 {}", hex(rest.strip_suffix(b"\0").unwrap())));
+    same("behind the later one", ask("table_look 0"), format!("used 333 {}", hex(rest.strip_suffix(b"\0").unwrap())));
 }
 
 /// Tables that are none. Part 15.
@@ -332,11 +332,11 @@ fn bad_tables(same: &mut impl FnMut(&str, String, String)) {
         ("different ids", 64, vec![at(0, &good), at(1, &other)], "refused 2 0"),
         ("a free slot that is not zero", 64, vec![format!("~0:9:{}", hex(&good)), at(1, &good)], "refused 2 0"),
     ] {
-        same(what, ask(&[vec![format!("shelf_load {slots}")], words].concat().join(" ")), "ok".into());
-        same(what, ask("shelf_offer -"), wanted.into());
+        same(what, ask(&[vec![format!("table_load {slots}")], words].concat().join(" ")), "ok".into());
+        same(what, ask("table_offer -"), wanted.into());
         let view = if wanted == "refused 2 0" { "refused 19 0" } else { wanted };
         same(&format!("{what}, viewed"), ask("table_slot 64"), view.into());
-        same(&format!("{what}, emptied"), ask("shelf_empty"), if slots == 64 { "ok" } else { "refused 34 0" }.into());
+        same(&format!("{what}, emptied"), ask("table_empty"), if slots == 64 { "ok" } else { "refused 34 0" }.into());
     }
 }
 

@@ -1,11 +1,11 @@
 //! The requests about a table of records, which lives from line to line.
-//!   shelf_new               a fresh table
-//!   shelf_empty             emptied
-//!   shelf_offer BYTES       new, replaced, loses, held or not_kept
+//!   table_new               a fresh table
+//!   table_empty             emptied
+//!   table_offer BYTES       new, replaced, loses, held or not_kept
 //!   table_slot N            where the event of slot N is in the cells, and its length
 //! Two words only look at the lent bytes and set them:
-//!   shelf_slot N            used or free, the length in the slot, the cell without the zeros at its end
-//!   shelf_load SLOTS [N:LENGTH:CELL ..]     any table, of any number of slots; ~N:.. is a free one that is not zero
+//!   table_look N            used or free, the length in the slot, the cell without the zeros at its end
+//!   table_load SLOTS [N:LENGTH:CELL ..]     any table, of any number of slots; ~N:.. is a free one that is not zero
 
 use crate::{bytes, hex, number, told};
 use reference::table::{self, Offered, CELL_BYTES, SLOTS, SLOT_BYTES};
@@ -28,20 +28,20 @@ impl Session {
     pub fn answer(&mut self, line: &str) -> Option<String> {
         let words: Vec<&str> = line.split(' ').collect();
         Some(match words[..] {
-            ["shelf_new"] => {
+            ["table_new"] => {
                 *self = Session::new();
                 "ok".into()
             }
-            ["shelf_empty"] => told(table::empty(&mut self.slots, &mut self.cells).map(|()| "ok".into())),
-            ["shelf_offer", packed] => {
+            ["table_empty"] => told(table::empty(&mut self.slots, &mut self.cells).map(|()| "ok".into())),
+            ["table_offer", packed] => {
                 let offered = table::offer(&mut self.slots, &mut self.cells, &bytes(packed)?);
                 told(offered.map(|offered| spelled(offered).into()))
             }
             ["table_slot", n] => {
                 told(table::slot(&self.slots, &self.cells, number(n)?).map(|(at, length)| format!("ok {at} {length}")))
             }
-            ["shelf_slot", n] => self.look(number(n)?).unwrap_or("none".into()),
-            ["shelf_load", slots, ref all @ ..] => {
+            ["table_look", n] => self.look(number(n)?).unwrap_or("none".into()),
+            ["table_load", slots, ref all @ ..] => {
                 *self = Session::of(number(slots)? as usize);
                 all.iter().try_for_each(|word| self.load(word))?;
                 "ok".into()

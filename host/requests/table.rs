@@ -141,12 +141,12 @@ fn spelling(d: &mut Dice, e: &Event) -> Vec<u8> {
 }
 
 fn offer(packed: &[u8]) -> String {
-    format!("shelf_offer {}", hex(packed))
+    format!("table_offer {}", hex(packed))
 }
 
 /// A look at every slot.
 pub fn look(lines: &mut Vec<String>, slots: usize) {
-    lines.extend((0..slots).map(|n| format!("shelf_slot {n}")));
+    lines.extend((0..slots).map(|n| format!("table_look {n}")));
 }
 
 /// The entry's own view of a slot, if it is asked for.
@@ -161,7 +161,7 @@ fn view(g: &mut Requests, lines: &mut Vec<String>) {
 /// A run of offers. All slots are looked at after every offer, or now and then.
 pub fn run(g: &mut Requests) -> Vec<String> {
     let loaded = g.dice.percent(60);
-    let mut lines = vec![if loaded { any_table(&mut g.dice) } else { "shelf_new".into() }];
+    let mut lines = vec![if loaded { any_table(&mut g.dice) } else { "table_new".into() }];
     look(&mut lines, SLOTS);
     let world = World::random(&mut g.dice);
     let (offers, looks) = if loaded { (8, 30) } else { g.dice.pick(&[(40, 100), (150, 5), (400, 1)]) };
@@ -178,7 +178,7 @@ pub fn run(g: &mut Requests) -> Vec<String> {
             look(&mut lines, SLOTS);
         }
         if g.dice.percent(1) {
-            lines.push("shelf_empty".into());
+            lines.push("table_empty".into());
         }
     }
     look(&mut lines, SLOTS);
@@ -218,7 +218,7 @@ fn load(slots: usize, all: &[Option<Slot>]) -> String {
         let cell = &slot.cell[..slot.cell.len().min(CELL)];
         Some(format!(" {}{n}:{}:{}", if slot.used { "" } else { "~" }, slot.length, hex(cell)))
     });
-    format!("shelf_load {slots}{}", words.collect::<String>())
+    format!("table_load {slots}{}", words.collect::<String>())
 }
 
 /// Events that have 64 different names: number n differs from the others in its author, its label or its id.
@@ -341,9 +341,9 @@ fn asked(g: &mut Requests, table: String) {
     if g.dice.percent(20) {
         look(&mut lines, SLOTS + 1);
     } else {
-        lines.extend([0, 1, 31, 62, 63, 64].map(|n| format!("shelf_slot {n}")));
+        lines.extend([0, 1, 31, 62, 63, 64].map(|n| format!("table_look {n}")));
     }
-    lines.extend(["shelf_empty".into(), "shelf_slot 0".into(), "shelf_slot 63".into()]);
+    lines.extend(["table_empty".into(), "table_look 0".into(), "table_look 63".into()]);
     group(g, lines);
 }
 
@@ -423,7 +423,7 @@ fn full(g: &mut Requests) {
         for e in [&earlier, &e, &new, &passing, &lower, &later].into_iter().chain(&long) {
             lines.push(offer(&strict(e)));
             lines.push(offer(&loose(&mut g.dice, e)));
-            lines.push(format!("shelf_slot {n}"));
+            lines.push(format!("table_look {n}"));
         }
         lines.push(offer(&strict(&of_length(passing, 1_025))));
         let cut = strict(&e);
@@ -488,7 +488,7 @@ fn pairs(g: &mut Requests) {
 fn both_ways(g: &mut Requests, a: &Event, b: &Event) {
     for (a, b) in [(a, b), (b, a)] {
         let loose = loose(&mut g.dice, b);
-        let mut lines = vec!["shelf_new".into(), offer(&strict(a)), offer(&loose)];
+        let mut lines = vec!["table_new".into(), offer(&strict(a)), offer(&loose)];
         look(&mut lines, 3);
         lines.push(offer(&strict(a)));
         look(&mut lines, 3);
@@ -499,21 +499,21 @@ fn both_ways(g: &mut Requests, a: &Event, b: &Event) {
 /// A shorter event over a longer one and the other way round; lengths about a cell's.
 fn in_the_cell(g: &mut Requests) {
     for kind in [0, 30_000, 1] {
-        let mut lines = vec!["shelf_new".into()];
+        let mut lines = vec!["table_new".into()];
         for (time, length) in [140, 1_024, 200, 1_023, 1_025, 141, 300].into_iter().enumerate() {
             let tags = vec![vec![b"d".to_vec(), b"map".to_vec()]];
             let e = Event { kind, created_at: time as u64, tags, ..vector() };
             lines.push(offer(&strict(&of_length(e, length))));
             look(&mut lines, 4);
         }
-        lines.push("shelf_empty".into());
+        lines.push("table_empty".into());
         look(&mut lines, 4);
         group(g, lines);
     }
     for size in [65_535, 65_536, 65_537] {
         for kind in [1, 20_000] {
             let e = of_length(Event { kind, ..small() }, size);
-            group(g, vec!["shelf_new".into(), offer(&strict(&e)), "shelf_slot 0".into()]);
+            group(g, vec!["table_new".into(), offer(&strict(&e)), "table_look 0".into()]);
         }
     }
 }
