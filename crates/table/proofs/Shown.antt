@@ -7,7 +7,7 @@ use mathlib.Core.List.{List, [], _∷_, map}
 use native.Mathlib.Omega.{arith}
 use lib.ListN.{length, take, drop, getD}
 use lib.Dec.{eqb, leb}
-use Rattle.scan.specs.Choice.{pick, Answer, shown, refused, andThen}
+use Rattle.scan.specs.Choice.{pick, Answer, shown, refused}
 use Rattle.scan.specs.Compare.{sameBytes}
 use Rattle.scan.proofs.Many.{then-shown, shown-same}
 use Rattle.scan.proofs.CompareLaws.{bytes-same}
@@ -17,7 +17,7 @@ use Rattle.notepack.specs.Unpack.{unpack}
 use Rattle.notepack.specs.Views.{nth}
 use Rattle.slots.specs.declared.Slot.{Slot}
 use Rattle.archive.specs.Archive.{Entry, free, held, isEphemeral}
-use Rattle.table.specs.Cells.{Cell, empty, past, bytes, cellStart, cellAt, cellsFrom}
+use Rattle.table.specs.Cells.{empty, past, bytes, cellStart, cellAt, cellsFrom}
 use Rattle.table.specs.Table.{Holds, nothing, bad, good, heldBy, holds, slotsHold, entriesOf}
 use Rattle.table.specs.Standing.{Stand, standing, standOf}
 use Rattle.table.proofs.Entries.{Alike, over, full}

@@ -1,5 +1,5 @@
 -- What a lent table holds after any run of calls (rules 15), sentence by sentence: each formal line stands under the
--- words that it is of. `proofs/Runs` proves them all. Assumes nothing.
+-- words that it is of. `proofs/Runs` and `proofs/Shown` prove them all. Assumes nothing.
 use Prim.Native.Nat.{ℕ}
 use mathlib.Core.Path.{_≡_}
 use mathlib.Core.Bool.{false}
