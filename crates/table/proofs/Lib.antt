@@ -3,3 +3,4 @@ pub mod Entries
 pub mod Good
 pub mod Offers
 pub mod Lowest
+pub mod Shown

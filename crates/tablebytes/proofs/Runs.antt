@@ -17,14 +17,14 @@ use Rattle.archive.specs.Archive.{Name, under, alone, Entry, free, lookup, act}
 use Rattle.archive.specs.Current.{Emptied, Took}
 use Rattle.archive.specs.Current as current
 use Rattle.archive.proofs.Current.{keeps-current, any-order}
-use Rattle.archive.proofs.Alone.{any-order-alone}
+use Rattle.archive.proofs.Alone.{keeps-alone, any-order-alone}
 use Rattle.table.specs.Table.{entriesOf}
 use Rattle.table.specs.Offer.{Offer}
 use Rattle.table.proofs.Good.{good-free}
 use Rattle.table.proofs.Offers.{offer-apart, offer-entries, offer-within, offer-kept}
 use Rattle.tablebytes.specs.Entries.{tableEntries, tableOffer}
 use Rattle.tablebytes.proofs.Slots.{offer-bytes, slots-with, length-with}
-use Rattle.tablebytes.specs.Runs.{Lent, emptied, after, Ran, stop, next, keptUnder, Empties, ShowsOffered, NeverBad, HoldsCurrent, AnyOrder}
+use Rattle.tablebytes.specs.Runs.{Lent, emptied, after, Ran, stop, next, keptUnder, Empties, ShowsOffered, NeverBad, HoldsCurrent, HoldsAlone, AnyOrder}
 
 -- ---- what the buffers hold
 
@@ -102,6 +102,11 @@ pub holds-current : HoldsCurrent
 holds-current ps es t r k =
     let v = from-emptied r in
     (lookup (under k) (v .0), kept-found (under k) (v .2), keeps-current (replicate 64 free) (v .0) es (nothing-kept 64) (v .1) k)
+
+pub holds-alone : HoldsAlone
+holds-alone ps es t r u e a k j =
+    let v = from-emptied r in
+    kept-found (alone (e .id)) (v .2) ∙ ap shown (keeps-alone (replicate 64 free) (v .0) es (nothing-kept 64) (v .1) u e a k j)
 
 pub in-any-order : AnyOrder
 in-any-order ps qs es fs t u r r′ to back unique n =

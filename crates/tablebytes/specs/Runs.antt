@@ -1,18 +1,21 @@
 -- What a lent table holds after any run of calls (rules 15), sentence by sentence: each formal line stands under the
--- words that it is of. `proofs/Runs` proves them all. Assumes nothing.
+-- words that it is of. `proofs/Runs` and `proofs/Shown` prove them all. Assumes nothing.
 use Prim.Native.Nat.{ℕ}
 use mathlib.Core.Path.{_≡_}
+use mathlib.Core.Bool.{false}
 use mathlib.Core.List.{List, [], _∷_}
-use lib.ListN.{replicate}
+use lib.ListN.{replicate, take, drop}
 use Rattle.scan.specs.Choice.{Answer, shown, andThen}
 use Rattle.scan.specs.Bytes.{IsBytes}
 use Rattle.event.specs.Event.{Event}
+use Rattle.notepack.specs.Strict.{pack}
 use Rattle.notepack.specs.Unpack.{unpack}
-use Rattle.keys.specs.Key.{Key}
-use Rattle.archive.specs.Archive.{Name, under, Entry, Found, lookup}
+use Rattle.keys.specs.Key.{Key, keyless, keyOf}
+use Rattle.archive.specs.Archive.{Name, under, alone, nameOf, isEphemeral, Entry, Found, one, lookup}
 use Rattle.archive.specs.Current.{Among, Current}
+use Rattle.table.specs.Standing.{Stand}
 use Rattle.table.specs.Offer.{Offer, cellsAfter}
-use Rattle.tablebytes.specs.Entries.{tableEntries, tableOffer, bytesAfter, sized, zeroed}
+use Rattle.tablebytes.specs.Entries.{tableEntries, tableOffer, bytesAfter, tableSlot, sized, zeroed}
 
 -- the two lent buffers
 pub record Lent : Type 0 where
@@ -46,6 +49,18 @@ ShowsOffered = (t : Lent) (p : List ℕ) (o : Offer) → tableOffer (t .slots) (
 unfoldable pub keptUnder : Lent → Name → Answer Found
 keptUnder t n = andThen (tableEntries (t .slots) (t .cells)) λ s. shown (lookup n s)
 
+-- What the question for a slot shows is the strict form of an event, and it is the one that is kept under its name.
+abbrev pub ShowsKept : Type 0
+ShowsKept =
+    (t : Lent) (n : ℕ) (p : Stand) → tableSlot (t .slots) (t .cells) n ≡ shown p
+    → (e : Event) × (take (p .len) (drop (p .at) (t .cells)) ≡ pack e) × (keptUnder t (nameOf e) ≡ shown (one e))
+
+-- Each event that is kept is shown by some slot.
+abbrev pub KeptIsShown : Type 0
+KeptIsShown =
+    (t : Lent) (m : Name) (e : Event) → keptUnder t m ≡ shown (one e)
+    → (n : ℕ) × (p : Stand) × (tableSlot (t .slots) (t .cells) n ≡ shown p) × (take (p .len) (drop (p .at) (t .cells)) ≡ pack e)
+
 -- A table that was emptied is not bad after any run: 34 does not come.
 abbrev pub NeverBad : Type 0
 NeverBad = (ps : List (List ℕ)) (es : List Event) (t : Lent) → Ran emptied ps es t → (s : List Entry) × (tableEntries (t .slots) (t .cells) ≡ shown s)
@@ -56,6 +71,14 @@ abbrev pub HoldsCurrent : Type 0
 HoldsCurrent =
     (ps : List (List ℕ)) (es : List Event) (t : Lent) → Ran emptied ps es t
     → (k : Key) → (f : Found) × (keptUnder t (under k) ≡ shown f) × Current (λ e. Among e es) (under k) f
+
+-- After a run from an emptied table each event that was offered without a key, and is not ephemeral, is kept under its
+-- id, if no two different ones of the events have one id.
+abbrev pub HoldsAlone : Type 0
+HoldsAlone =
+    (ps : List (List ℕ)) (es : List Event) (t : Lent) → Ran emptied ps es t
+    → ((d e : Event) → Among d es → Among e es → d .id ≡ e .id → d ≡ e)
+    → (e : Event) → Among e es → keyOf e ≡ keyless → isEphemeral (e .kind) ≡ false → keptUnder t (alone (e .id)) ≡ shown (one e)
 
 -- Two runs from an emptied table in which the same events were offered, in whatever order and however often, hold the
 -- same under every name, if no two different ones of the events have one id.
