@@ -10,11 +10,9 @@ use Rattle.event.specs.Event.{Event}
 use Rattle.archive.specs.declared.Outcome.{Outcome}
 use Rattle.archive.specs.declared.Outcome.the-variants.{New, Replaced, Loses, Held, NotKept}
 use Rattle.archive.specs.Archive.{Name, nameOf, sameName, Entry, free, held, none, one, lookup, fill, swap, wanted, act}
-use Rattle.archive.specs.Current.{Emptied, Took, stop, next}
-use Rattle.archive.specs.Current as current
 use Rattle.archive.specs.inner.Distinct.{Distinct, end, skip, keep}
 use Rattle.archive.proofs.Lookup.{name-self, Same, same, other, decide, turned, one-none, found-here, found-past}
-use Rattle.archive.proofs.Laws.{new-none, taken}
+use Rattle.archive.proofs.Laws.{new-none}
 
 free-held : {d : Event} → free ≡ held d → ⊥
 free-held q = let z : _≡_ {A = ℕ} 0 1 = cc in omega arith
@@ -65,15 +63,6 @@ act-distinct s e Replaced q v = swap-distinct e s v
 act-distinct s e Loses q v = v
 act-distinct s e Held q v = v
 act-distinct s e NotKept q v = v
-
--- And so does a run of them, from an emptied table too.
-pub took-distinct : {s t : List Entry} {es : List Event} → Took s es t → Distinct s → Distinct t
-took-distinct stop v = v
-took-distinct (next {s = s} {e = e} r q w) v = took-distinct w (act-distinct s e r (sym (taken s e r q .0)) v)
-
-pub emptied-distinct : {s : List Entry} → Emptied s → Distinct s
-emptied-distinct current.end = end
-emptied-distinct (current.more h) = skip (emptied-distinct h)
 
 -- Where every name stands once, what a slot holds is what is found under its name.
 pub distinct-found : {s : List Entry} → Distinct s → (i : ℕ) {d : Event} → getD s i free ≡ held d → lookup (nameOf d) s ≡ one d

@@ -1,7 +1,7 @@
 -- What each outcome of an offer says of the table, by the tests that lead to it; that ephemeral kinds have no key; and
 -- that two events are found to be the same exactly where they are equal, by the strict form being an event's alone.
 use Prim.Native.Nat.{ℕ, _≤_}
-use mathlib.Core.Path.{_≡_, refl, subst}
+use mathlib.Core.Path.{_≡_, refl, sym, subst, _∙_}
 use mathlib.Core.Bool.{Bool, true, false}
 use mathlib.Core.List.{List}
 use mathlib.Core.Logic.{_↔_}
@@ -12,7 +12,7 @@ use borrow.Author.Tests.{le-leb, lt-leb, ne-eqb, leb-true, ltb-true, ltb-false}
 use Rattle.scan.specs.Choice.{pick, shown, refused}
 use Rattle.scan.specs.Compare.{lower}
 use Rattle.scan.specs.Place.{within}
-use Rattle.scan.proofs.Step.{pick-true, pick-by}
+use Rattle.scan.proofs.Step.{pick-true, pick-by, false-true}
 use Rattle.scan.proofs.CompareLaws.{same-same, bytes-same}
 use Rattle.event.specs.Event.{Event, Valid}
 use Rattle.notepack.specs.Strict.{pack}
@@ -22,7 +22,7 @@ use Rattle.rivals.specs.declared.Kept.the-variants.{First, Second}
 use Rattle.rivals.specs.Rivals.{keepsBy, keeps}
 use Rattle.archive.specs.declared.Outcome.{Outcome}
 use Rattle.archive.specs.declared.Outcome.the-variants.{New, Replaced, Loses, Held, NotKept}
-use Rattle.archive.specs.Archive.{nameOf, Entry, Found, none, one, lookup, isEphemeral, sameEvent, isSecond, beside, versus, wanted, fits, offered}
+use Rattle.archive.specs.Archive.{nameOf, Entry, Found, none, one, lookup, hasFree, isEphemeral, sameEvent, isSecond, beside, versus, wanted, fits, offered}
 use Rattle.archive.specs.Current.{Latest}
 
 -- ---- two events
@@ -114,3 +114,24 @@ module _ (s : List Entry) (e : Event) where
       go : (t : Bool) → fits s (wanted s e) ≡ t → pick t (shown (wanted s e)) (refused 23 0) ≡ shown r → (wanted s e ≡ r) × (fits s r ≡ true)
       go true f h = let w : wanted s e ≡ r = cc in (w, rw w at f)
       go false f h = let z : _≡_ {A = ℕ} 0 1 = cc in absurd (omega arith)
+
+  -- 23 only where a new slot is needed and none is free.
+  pub full-only : (n p : ℕ) → offered s e ≡ refused n p → (wanted s e ≡ New) × (hasFree s ≡ false) × (n ≡ 23) × (p ≡ 0)
+  unfolding offered
+  full-only n p q = go (wanted s e) (fits s (wanted s e)) refl refl q
+    where
+      new : (r : Outcome) → fits s r ≡ false → (r ≡ New) × (hasFree s ≡ false)
+      new New f = (refl, f)
+      new Replaced f = absurd (false-true (sym f))
+      new Loses f = absurd (false-true (sym f))
+      new Held f = absurd (false-true (sym f))
+      new NotKept f = absurd (false-true (sym f))
+
+      go : (r : Outcome) (t : Bool) → wanted s e ≡ r → fits s r ≡ t → pick t (shown r) (refused 23 0) ≡ refused n p
+          → (wanted s e ≡ New) × (hasFree s ≡ false) × (n ≡ 23) × (p ≡ 0)
+      go r true w f h = let z : _≡_ {A = ℕ} 0 1 = cc in absurd (omega arith)
+      go r false w f h =
+          let t = new r f in
+          let a : n ≡ 23 = cc in
+          let b : p ≡ 0 = cc in
+          (w ∙ t .0, t .1, a, b)
