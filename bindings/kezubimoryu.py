@@ -1,8 +1,9 @@
 r"""Kezubimoryu from Python: the C entries of kezubimoryu.h under their own names, by ctypes, in this one file.
 
 Input is bytes, or what shows itself as such: a bytearray, a memoryview, a mmap. It is copied unless it is bytes, so
-that nobody changes it during the call. Anything else, a str or a number too, is a TypeError. Numbers of tags and
-elements go from 0 to 2^64 - 1; others are an OverflowError, and a bool or a float is a TypeError.
+that nobody changes it during the call. Anything else, a str or a number too, is a TypeError. Numbers of tags, elements
+and slots go from 0 to 2^64 - 1; others are an OverflowError, and a bool or a float is a TypeError. A table of current
+records is a Table, which owns its bytes.
 
 A refusal is raised as Refused, with its number and place; the exception's text is a sentence:
 
@@ -24,20 +25,22 @@ or beside this file. Without one the import fails, with an ImportError that says
 """
 import ctypes
 import ctypes.util
+import enum
 import operator
 import os
 import struct
 from typing import Any, Dict, Iterator, List, NamedTuple, Optional, Tuple, Union
 
-__version__ = "0.6.0"
+__version__ = "0.7.0"
 
 __all__ = [
-    "KEZ_MOST", "KEZ_CANONICAL_MOST", "KEZ_NOTEPACK_STRING_MOST", "KEZ_ELEMENT_BYTES", "KEZ_ELEMENTS_MOST", "SENTENCES",
-    "Bytes", "Numbers", "Payload", "Element", "Both", "Refused", "kez_refusal_text",
+    "KEZ_MOST", "KEZ_CANONICAL_MOST", "KEZ_NOTEPACK_STRING_MOST", "KEZ_ELEMENT_BYTES", "KEZ_ELEMENTS_MOST",
+    "KEZ_SLOTS", "KEZ_SLOT_BYTES", "KEZ_CELL_BYTES", "KEZ_SLOTS_BYTES", "KEZ_CELLS_BYTES", "SENTENCES",
+    "Bytes", "Numbers", "Payload", "Element", "Both", "Outcome", "Kept", "Table", "Refused", "kez_refusal_text",
     "kez_notepack_read", "kez_notepack_is_strict", "kez_notepack_write", "kez_notepack_tag_len",
     "kez_notepack_element", "kez_notepack_elements", "kez_notepack_string_write",
     "kez_notepack_string_read", "kez_canonical_write", "kez_nson_write", "kez_nson_read", "kez_json_read",
-    "kez_read_both", "kez_rivals", "kez_version",
+    "kez_read_both", "kez_rivals", "kez_table_empty", "kez_table_offer", "kez_table_slot", "kez_version",
 ]
 
 #: No accepted input is longer, but for a string form, of which the bytes that it holds are counted; nor is an event in
@@ -51,6 +54,13 @@ KEZ_NOTEPACK_STRING_MOST: int = 9 + (4 * KEZ_MOST + 2) // 3
 KEZ_ELEMENT_BYTES: int = 16
 #: So many have room for the elements of any record.
 KEZ_ELEMENTS_MOST: int = KEZ_ELEMENT_BYTES * KEZ_MOST
+
+#: So many slots a table has, and as many cells; the bytes of each, and of all of them. Rules 15.1 and 15.2.
+KEZ_SLOTS: int = 64
+KEZ_SLOT_BYTES: int = 16
+KEZ_CELL_BYTES: int = 1024
+KEZ_SLOTS_BYTES: int = KEZ_SLOTS * KEZ_SLOT_BYTES
+KEZ_CELLS_BYTES: int = KEZ_SLOTS * KEZ_CELL_BYTES
 
 #: What is taken as input; so is anything else that shows contiguous bytes.
 Bytes = Union[bytes, bytearray, memoryview]
@@ -109,6 +119,38 @@ class Both(NamedTuple):
     json: bytes
 
 
+class Outcome(enum.IntEnum):
+    """What came of an event that was offered to a table.
+
+    >>> Table().offer(bytes(132)) is Outcome.NEW
+    True
+    """
+
+    #: It is kept, in the lowest free slot.
+    NEW = 0
+    #: It is kept in the slot of an earlier version, which is gone.
+    REPLACED = 1
+    #: The version that is kept is the current one.
+    LOSES = 2
+    #: The same event is kept; or, if it has no key, one of the same id.
+    HELD = 3
+    #: Kinds 20000 to 29999 never are.
+    NOT_KEPT = 4
+
+
+class Kept(NamedTuple):
+    """A slot of a table, and the event that is kept in it, in strict form.
+
+    >>> table = Table()
+    >>> outcome = table.offer(bytes(132))
+    >>> [(kept.slot, len(kept.packed)) for kept in table]
+    [(0, 132)]
+    """
+
+    slot: int
+    packed: bytes
+
+
 #: A sentence for each refusal, by its number.
 SENTENCES: Tuple[str, ...] = (
     "Nothing is refused.",
@@ -130,16 +172,22 @@ SENTENCES: Tuple[str, ...] = (
     "A field stands there twice.",
     "NSON can't carry this event.",
     "Arrays and objects are nested more than 16 deep.",
-    "There is no such tag or element.",
+    "There is no such tag or element, or nothing is kept in this slot.",
     "The text does not start with notepack_.",
     "What follows notepack_ is not base64: a character outside its alphabet, a lone last one, "
     "or leftover bits that are not zero.",
+    "The event's strict form is longer than 1,024 bytes, which is a cell of a table.",
+    "The table has no free slot for another event.",
+    *10 * ("There is no refusal with this number.",),
+    "The table is not as it must be: not of 64 slots and cells, "
+    "or a used slot without a strict event to be kept, or with the name of another.",
 )
 
 
 class Refused(Exception):
     """A refusal: its number, the place in the input where the fault was found, and as text a sentence. Where
-    kez_notepack_string_read tells one from 2 to 10, the place is in the bytes that its text holds.
+    kez_notepack_string_read tells one from 2 to 10, the place is in the bytes that its text holds. With 34 it is the
+    number of a slot.
 
     It may be pickled, so it comes whole out of a process pool.
 
@@ -185,6 +233,9 @@ _types: Dict[str, Tuple[Any, ...]] = {
     "kez_notepack_string_write": _bytes + _room,
     "kez_notepack_string_read": _bytes + _room,
     "kez_rivals": _bytes + _bytes,
+    "kez_table_empty": _room + _room,
+    "kez_table_offer": _room + _room + _bytes,
+    "kez_table_slot": _room + _room + _index + _number * 2,
     "kez_canonical_write": _bytes + _room,
     "kez_nson_write": _bytes + _room,
     "kez_nson_read": _bytes + _room,
@@ -271,7 +322,7 @@ def _lend(data: Bytes) -> Tuple[bytes, int]:
 def _checked(number: int) -> int:
     """An index as the library takes it."""
     if isinstance(number, bool):
-        raise TypeError("a number of a tag or element is wanted, not a bool")
+        raise TypeError("a number of a tag, an element or a slot is wanted, not a bool")
     number = operator.index(number)
     if not 0 <= number < 1 << 64:
         raise OverflowError("%d is not in the range from 0 to 2^64 - 1" % number)
@@ -510,6 +561,125 @@ def kez_rivals(first: Bytes, second: Bytes) -> int:
 
     Rules 8.1 to 8.11."""
     return _call("kez_rivals", *_lend(first), *_lend(second))
+
+
+class Table:
+    """A table of current records: of the events with a key one for each key, the current one, and of those without a
+    key one for each id. It owns its bytes, KEZ_SLOTS_BYTES of slots and KEZ_CELLS_BYTES of cells.
+
+    >>> early, late = bytes(132), bytes(128) + bytes([1, 0, 0, 0])
+    >>> table = Table()
+    >>> table.offer(early).name, table.offer(late).name, table.offer(early).name
+    ('NEW', 'REPLACED', 'LOSES')
+    >>> table.slot(0) == late
+    True
+    >>> [kept.slot for kept in table]
+    [0]
+
+    bytes(table) has the slots, then the cells, and Table(those) is the table again: so it may be put into a file and
+    taken from there. A table that is no table any more is refused with 34 as soon as it is asked for something:
+
+    >>> again = Table(bytes(table))
+    >>> again.slot(0) == late
+    True
+    >>> Table(b"\x01" + bytes(KEZ_SLOTS_BYTES + KEZ_CELLS_BYTES - 1)).offer(late)
+    Traceback (most recent call last):
+        ...
+    kezubimoryu.Refused: refused 34 at 0: The table is not as it must be: not of 64 slots and cells, \
+or a used slot without a strict event to be kept, or with the name of another.
+
+    Two threads must not use one table at once. Rules 15.1 to 15.24."""
+
+    _slots: Any
+    _cells: Any
+
+    def __init__(self, data: Optional[Bytes] = None) -> None:
+        """A new table is emptied. With data, the bytes of a table, it is that one. Bytes of another length are a
+        ValueError."""
+        lent, length = _lend(bytes(KEZ_SLOTS_BYTES + KEZ_CELLS_BYTES) if data is None else data)
+        if length != KEZ_SLOTS_BYTES + KEZ_CELLS_BYTES:
+            raise ValueError("a table has %d bytes, not %d" % (KEZ_SLOTS_BYTES + KEZ_CELLS_BYTES, length))
+        self._slots = (ctypes.c_char * KEZ_SLOTS_BYTES).from_buffer_copy(lent)
+        self._cells = (ctypes.c_char * KEZ_CELLS_BYTES).from_buffer_copy(lent, KEZ_SLOTS_BYTES)
+
+    def _lent(self) -> Tuple[Any, int, Any, int]:
+        return self._slots, KEZ_SLOTS_BYTES, self._cells, KEZ_CELLS_BYTES
+
+    def empty(self) -> None:
+        """Frees and zeroes every slot and cell, whatever they hold."""
+        kez_table_empty(self)
+
+    def offer(self, packed: Bytes) -> Outcome:
+        """Offers a packed event; it is kept in strict form if it is to be kept."""
+        return kez_table_offer(self, packed)
+
+    def slot(self, n: int) -> bytes:
+        """The event that is kept in slot n. A free slot, or a number above 63, is refused with 19."""
+        return kez_table_slot(self, n)
+
+    def __iter__(self) -> Iterator[Kept]:
+        """What is kept, from the lowest slot on."""
+        for n in range(KEZ_SLOTS):
+            try:
+                yield Kept(n, self.slot(n))
+            except Refused as refused:
+                if refused.number != 19:
+                    raise
+
+    def __bytes__(self) -> bytes:
+        """The slots, then the cells."""
+        return self._slots.raw + self._cells.raw
+
+
+def _owned(table: Table) -> Table:
+    if not isinstance(table, Table):
+        raise TypeError("a Table is wanted, not %s" % type(table).__name__)
+    return table
+
+
+def kez_table_empty(table: Table) -> None:
+    """Frees and zeroes every slot and cell of a table, whatever they hold.
+
+    >>> table = Table(b"x" * (KEZ_SLOTS_BYTES + KEZ_CELLS_BYTES))
+    >>> kez_table_empty(table)
+    >>> bytes(table) == bytes(KEZ_SLOTS_BYTES + KEZ_CELLS_BYTES)
+    True
+
+    Rules 15.20 and 15.21."""
+    _call("kez_table_empty", *_owned(table)._lent())
+
+
+def kez_table_offer(table: Table, packed: Bytes) -> Outcome:
+    """Offers a packed event to a table, and says what came of it. A refusal changes nothing.
+
+    >>> table, event = Table(), bytes(129) + bytes([1, 0, 0])
+    >>> kez_table_offer(table, event) is Outcome.NEW
+    True
+    >>> kez_table_offer(table, event) is Outcome.HELD
+    True
+
+    Rules 15.1 to 15.19."""
+    return Outcome(_call("kez_table_offer", *_owned(table)._lent(), *_lend(packed)))
+
+
+def kez_table_slot(table: Table, n: int) -> bytes:
+    """The event that is kept in slot n of a table, in strict form.
+
+    >>> table = Table()
+    >>> outcome = kez_table_offer(table, bytes(132))
+    >>> kez_table_slot(table, 0) == bytes(132)
+    True
+    >>> try:
+    ...     kez_table_slot(table, 1)
+    ... except Refused as refused:
+    ...     print(refused.number, refused.place)
+    19 0
+
+    Rules 15.22 to 15.24."""
+    numbers = _numbers(2)
+    _call("kez_table_slot", *_owned(table)._lent(), _checked(n), *numbers)
+    at, length = (n.value for n in numbers)
+    return bytes(table._cells[at:at + length])
 
 
 def kez_version() -> int:

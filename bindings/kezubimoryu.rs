@@ -11,6 +11,8 @@
 //! let length = kezubimoryu::notepack_write(&packed, &mut out)?;
 //! ```
 //!
+//! A table of current records is a [Table], which owns its bytes; the three entries for it are functions of that.
+//!
 //! The header says what each entry promises. The rules named here are those of docs/RULES.md; parts 1, 10, 11 and 12.1
 //! of it bind all entries.
 #![allow(dead_code)]
@@ -18,7 +20,7 @@
 use std::fmt;
 
 /// The version of the library, as in the header.
-pub const KEZ_VERSION: &str = "0.6.0";
+pub const KEZ_VERSION: &str = "0.7.0";
 /// No accepted input is longer, but for a string form, of which the bytes that it holds are counted; nor is an event in
 /// strict form, nor NSON (rules 1.9 and 14.3). A strict form is never longer than what it was read from, so a buffer as
 /// long as the packed bytes or the text is always enough (rules 3.7 and 12.3.6).
@@ -32,7 +34,17 @@ pub const KEZ_ELEMENT_BYTES: usize = 16;
 /// A buffer of this length has room for the elements of any record.
 pub const KEZ_ELEMENTS_MOST: usize = KEZ_ELEMENT_BYTES * KEZ_MOST;
 
-/// Refusal 0 and a value, or a refusal from 1 to 21 and its place (rules 12.1.2 to 12.1.4). Rule 10.N is refusal N.
+/// So many slots a table has, and as many cells (rules 15.1 and 15.2).
+pub const KEZ_SLOTS: usize = 64;
+/// So many bytes a slot has, and a cell.
+pub const KEZ_SLOT_BYTES: usize = 16;
+pub const KEZ_CELL_BYTES: usize = 1024;
+/// So many bytes all slots have, and all cells.
+pub const KEZ_SLOTS_BYTES: usize = KEZ_SLOTS * KEZ_SLOT_BYTES;
+pub const KEZ_CELLS_BYTES: usize = KEZ_SLOTS * KEZ_CELL_BYTES;
+
+/// Refusal 0 and a value, or a refusal from 1 to 23, or 34, and its place (rules 12.1.2 to 12.1.4). Rule 10.N is
+/// refusal N.
 #[repr(C)]
 #[derive(Clone, Copy, Debug, PartialEq, Eq)]
 #[allow(non_camel_case_types)]
@@ -84,6 +96,27 @@ unsafe extern "C" {
     pub fn kez_version() -> u64;
     /// Rules 8.1 to 8.11.
     pub fn kez_rivals(first: *const u8, first_len: usize, second: *const u8, second_len: usize) -> kez_answer;
+    /// Rules 15.20 and 15.21.
+    pub fn kez_table_empty(slots: *mut u8, slots_len: usize, cells: *mut u8, cells_len: usize) -> kez_answer;
+    /// Rules 15.1 to 15.19.
+    pub fn kez_table_offer(
+        slots: *mut u8,
+        slots_len: usize,
+        cells: *mut u8,
+        cells_len: usize,
+        packed: *const u8,
+        packed_len: usize,
+    ) -> kez_answer;
+    /// Rules 15.22 to 15.24.
+    pub fn kez_table_slot(
+        slots: *const u8,
+        slots_len: usize,
+        cells: *const u8,
+        cells_len: usize,
+        n: u64,
+        at: *mut u64,
+        len: *mut u64,
+    ) -> kez_answer;
     /// Rules 5.1 to 5.9, 12.2.8.
     pub fn kez_canonical_write(packed: *const u8, packed_len: usize, out: *mut u8, out_len: usize) -> kez_answer;
     /// Rules 6.1 to 6.16, 12.3.10 to 12.3.12.
@@ -129,18 +162,25 @@ pub fn kez_refusal_text(number: u64) -> &'static str {
         16 => "A field stands there twice.",
         17 => "NSON can't carry this event.",
         18 => "Arrays and objects are nested more than 16 deep.",
-        19 => "There is no such tag or element.",
+        19 => "There is no such tag or element, or nothing is kept in this slot.",
         20 => "The text does not start with notepack_.",
         21 => {
             "What follows notepack_ is not base64: a character outside its alphabet, \
              a lone last one, or leftover bits that are not zero."
         }
+        22 => "The event's strict form is longer than 1,024 bytes, which is a cell of a table.",
+        23 => "The table has no free slot for another event.",
+        34 => {
+            "The table is not as it must be: not of 64 slots and cells, \
+             or a used slot without a strict event to be kept, or with the name of another."
+        }
         _ => "There is no refusal with this number.",
     }
 }
 
-/// A refusal from 1 to 21: its number, and the place in the input where the fault was found; with 11 the length needed.
-/// Where notepack_string_read tells one from 2 to 10, the place is in the bytes that its text holds.
+/// A refusal from 1 to 23, or 34: its number, and the place in the input where the fault was found; with 11 the length
+/// needed, with 34 the number of a slot. Where notepack_string_read tells one from 2 to 10, the place is in the bytes
+/// that its text holds.
 #[derive(Clone, Copy, Debug, PartialEq, Eq)]
 pub struct Refused {
     pub number: u64,
@@ -339,6 +379,111 @@ pub fn rivals(first: &[u8], second: &[u8]) -> Result<Kept, Refused> {
         1 => Kept::First,
         _ => Kept::Second,
     })
+}
+
+/// What came of an event that was offered to a table.
+#[derive(Clone, Copy, Debug, PartialEq, Eq)]
+pub enum Outcome {
+    /// It is kept, in the lowest free slot.
+    New,
+    /// It is kept in the slot of an earlier version, which is gone.
+    Replaced,
+    /// The version that is kept is the current one.
+    Loses,
+    /// The same event is kept; or, if it has no key, one of the same id.
+    Held,
+    /// Kinds 20000 to 29999 never are.
+    NotKept,
+}
+
+/// A table of current records: of the events with a key one for each key, the current one, and of those without a key
+/// one for each id. It owns its bytes. (Rules 15.1 to 15.24.)
+///
+/// ```ignore
+/// let mut table = kezubimoryu::Table::new();
+/// table.offer(&packed)?;
+/// for (slot, kept) in table.kept()? { .. }
+/// std::fs::write("table", table.bytes())?;
+/// ```
+#[derive(Clone, Debug, PartialEq, Eq)]
+pub struct Table {
+    /// the slots, then the cells
+    bytes: Vec<u8>,
+}
+
+impl Default for Table {
+    fn default() -> Self {
+        Self::new()
+    }
+}
+
+impl Table {
+    /// An emptied table.
+    pub fn new() -> Self {
+        Self { bytes: vec![0; KEZ_SLOTS_BYTES + KEZ_CELLS_BYTES] }
+    }
+
+    /// The table of these bytes: the slots, then the cells, as [Table::bytes] has them. Bytes of another length are
+    /// handed back. What is no table otherwise is refused with 34 as soon as it is asked for something.
+    pub fn from_bytes(bytes: Vec<u8>) -> Result<Self, Vec<u8>> {
+        if bytes.len() == KEZ_SLOTS_BYTES + KEZ_CELLS_BYTES { Ok(Self { bytes }) } else { Err(bytes) }
+    }
+
+    /// The slots, then the cells.
+    pub fn bytes(&self) -> &[u8] {
+        &self.bytes
+    }
+
+    /// Frees and zeroes every slot and cell, whatever they hold.
+    pub fn empty(&mut self) -> Result<(), Refused> {
+        let (slots, cells) = self.bytes.split_at_mut(KEZ_SLOTS_BYTES);
+        told(unsafe { kez_table_empty(slots.as_mut_ptr(), slots.len(), cells.as_mut_ptr(), cells.len()) }).map(|_| ())
+    }
+
+    /// Offers a packed event; it is kept in strict form if it is to be kept. A refusal changes nothing.
+    pub fn offer(&mut self, packed: &[u8]) -> Result<Outcome, Refused> {
+        let (slots, cells) = self.bytes.split_at_mut(KEZ_SLOTS_BYTES);
+        let answer = unsafe {
+            kez_table_offer(
+                slots.as_mut_ptr(),
+                slots.len(),
+                cells.as_mut_ptr(),
+                cells.len(),
+                packed.as_ptr(),
+                packed.len(),
+            )
+        };
+        told(answer).map(|value| match value {
+            0 => Outcome::New,
+            1 => Outcome::Replaced,
+            2 => Outcome::Loses,
+            3 => Outcome::Held,
+            _ => Outcome::NotKept,
+        })
+    }
+
+    /// The event that is kept in slot n, in strict form. A free slot, or a number above 63, is refused with 19.
+    pub fn slot(&self, n: u64) -> Result<&[u8], Refused> {
+        let (slots, cells) = self.bytes.split_at(KEZ_SLOTS_BYTES);
+        let (mut at, mut len) = (0, 0);
+        told(unsafe {
+            kez_table_slot(slots.as_ptr(), slots.len(), cells.as_ptr(), cells.len(), n, &mut at, &mut len)
+        })?;
+        Ok(&cells[at as usize..][..len as usize])
+    }
+
+    /// What is kept, from the lowest slot on: the slot's number, and the event in strict form.
+    pub fn kept(&self) -> Result<Vec<(u64, &[u8])>, Refused> {
+        let mut kept = Vec::new();
+        for n in 0..KEZ_SLOTS as u64 {
+            match self.slot(n) {
+                Ok(packed) => kept.push((n, packed)),
+                Err(Refused { number: 19, .. }) => {}
+                Err(refused) => return Err(refused),
+            }
+        }
+        Ok(kept)
+    }
 }
 
 /// Writes the canonical text of NIP-01; its length. An `out` three times as long as `packed` is always enough.

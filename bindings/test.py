@@ -6,6 +6,7 @@ import concurrent.futures
 import copy
 import ctypes
 import doctest
+import enum
 import hashlib
 import inspect
 import json
@@ -14,6 +15,7 @@ import multiprocessing
 import os
 import pickle
 import shutil
+import struct
 import subprocess
 import sys
 import tempfile
@@ -162,9 +164,59 @@ for what, data, wanted in (
 check("no event, as a string form", refusal(kez.kez_notepack_string_write, form[:-1]), (2, form.index(b"wss:") - 1))
 check("too long for a string form", refusal(kez.kez_notepack_string_write, bytes(65537)), (1, 0))
 
-# Input: bytes, and what shows itself as bytes. All entries take it by the same way.
-inputs = [name for name in dir(kez) if name.startswith("kez_") and name not in ("kez_refusal_text", "kez_version")]
-check("there are fourteen entries", len(inputs), 14)
+# A table of current records: the five outcomes, what is kept and where, refusals that change nothing
+def offered(number, time, kind, rest=b"\0\0"):
+    return bytes([number]) + bytes(127) + varint(time) + varint(kind) + rest
+
+
+table = kez.Table()
+check("an emptied table", (bytes(table), list(table)), (bytes(66560), []))
+for data, outcome in ((form, "NEW"), (offered(1, 5, 0), "NEW"), (offered(2, 6, 0), "REPLACED"),
+                      (offered(1, 6, 0), "REPLACED"), (offered(2, 6, 0), "LOSES"), (offered(9, 5, 0), "LOSES"),
+                      (offered(1, 6, 0, b"\x80\0\0"), "HELD"), (offered(7, 6, 1), "NEW"), (offered(7, 9, 2), "HELD"),
+                      (offered(1, 5, 20000), "NOT_KEPT"), (offered(1, 5, 29999), "NOT_KEPT"),
+                      (offered(8, 5, 30000), "NEW")):
+    check("offered, to be %s" % outcome, table.offer(data), kez.Outcome[outcome])
+kept = [(0, form), (1, offered(1, 6, 0)), (2, offered(7, 6, 1)), (3, offered(8, 5, 30000))]
+check("what is kept", list(table), kept)
+check("slot by slot", [kez.kez_table_slot(table, n) for n in range(4)], [data for _, data in kept])
+before = bytes(table)
+check("a slot's 16 bytes", before[16:32], b"\1" + bytes(7) + struct.pack("<Q", 132))
+big = offered(9, 5, 0, varint(1024) + bytes(1025))
+for what, data, wanted in (("over a cell", big, (22, 0)), ("nothing", b"", (2, 0)), ("too long", bytes(65537), (1, 0)),
+                           ("over a cell, of a kind that is not kept", offered(9, 5, 20000, big[130:]), (22, 0))):
+    check("offered %s" % what, refusal(table.offer, data), wanted)
+    check("offered %s: the table" % what, bytes(table), before)
+for n in (4, 63, 64, 1 << 32, (1 << 64) - 1):
+    check("slot %d" % n, refusal(table.slot, n), (19, 0))
+for wrong, wanted in ((-1, "OverflowError"), (1 << 64, "OverflowError"), (True, "TypeError"), (0.0, "TypeError")):
+    check("slot %r" % (wrong,), raised(table.slot, wrong), wanted)
+for number in range(10, 70):
+    table.offer(offered(number, 5, 1))
+check("a full table", (len(list(table)), refusal(table.offer, offered(70, 5, 1))), (64, (23, 0)))
+check("a full table replaces", table.offer(offered(1, 7, 0)), kez.Outcome.REPLACED)
+again = kez.Table(bytes(table))
+check("a table of its bytes", (bytes(again), list(again)), (bytes(table), list(table)))
+check("one changes, the other does not", (again.empty(), bytes(again), len(list(table))), (None, bytes(66560), 64))
+bad = bytearray(bytes(table))
+bad[5 * 16 + 9] = 5
+bad = kez.Table(bad)
+for call, words in ((bad.offer, (form,)), (bad.offer, (b"",)), (bad.slot, (0,)), (bad.slot, (64,)), (list, (bad,))):
+    check("a bad table", refusal(call, *words), (34, 5))
+kez.kez_table_empty(bad)
+check("a bad table, emptied", bytes(bad), bytes(66560))
+for wrong in (b"", bytes(66559), bytes(66561), bytes(1024)):
+    check("a table of %d bytes" % len(wrong), raised(kez.Table, wrong), "ValueError")
+for wrong in (5, "text", [0] * 66560):
+    check("a table of %.9r" % (wrong,), raised(kez.Table, wrong), "TypeError")
+for wrong in (None, bytes(66560), bytearray(66560)):
+    check("an offer to %.9r" % (wrong,), raised(kez.kez_table_offer, wrong, form), "TypeError")
+check("there are five outcomes", [o.value for o in kez.Outcome], [0, 1, 2, 3, 4])
+
+# Input: bytes, and what shows itself as bytes. All entries take it by the same way; the table's own is put first.
+apart = ("kez_refusal_text", "kez_version", "kez_table_empty", "kez_table_slot")
+inputs = [name for name in dir(kez) if name.startswith("kez_") and name not in apart]
+check("there are fifteen entries", len(inputs), 15)
 indices = {"kez_notepack_tag_len": (0,), "kez_notepack_element": (0, 0)}
 
 
@@ -176,7 +228,9 @@ class Lying(bytes):
 
 
 def ask(name, data):
-    """The entry's answer; an iterator's is all that it has, and two inputs are the same one."""
+    """The entry's answer; an iterator's is all that it has, and two inputs are the same one. A table is a new one."""
+    if name == "kez_table_offer":
+        return kez.kez_table_offer(kez.Table(), data)
     words = (data,) if name == "kez_rivals" else indices.get(name, ())
     got = getattr(kez, name)(data, *words)
     return list(got) if name == "kez_notepack_elements" else got
@@ -284,7 +338,7 @@ for name in kez.__all__:
         check("%s has hints" % name, list(typing.get_type_hints(thing)), wanted)
     elif inspect.isclass(thing):
         check("%s has an example" % name, ">>> " in thing.__dict__["__doc__"], True)
-        check("%s has hints" % name, bool(typing.get_type_hints(thing)), True)
+        check("%s has hints" % name, bool(typing.get_type_hints(thing)) or issubclass(thing, enum.Enum), True)
     else:
         check("%s has a hint" % name, name in typing.get_type_hints(kez) or name == "Bytes", True)
 public = [name for name, thing in vars(kez).items() if not name.startswith("_") and not inspect.ismodule(thing)

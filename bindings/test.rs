@@ -40,9 +40,11 @@ fn main() {
     safe_functions(&record, &text).expect("nothing here is refused");
     all_elements(&record).expect("nothing here is refused");
     string_form(&record).expect("nothing here is refused");
+    table(&record).expect("nothing here is refused");
     print!("{KEZ_VERSION} {KEZ_MOST} {KEZ_CANONICAL_MOST} {KEZ_NOTEPACK_STRING_MOST} ");
-    println!("{KEZ_ELEMENT_BYTES} {KEZ_ELEMENTS_MOST}");
-    for number in 0..24 {
+    print!("{KEZ_ELEMENT_BYTES} {KEZ_ELEMENTS_MOST} ");
+    println!("{KEZ_SLOTS} {KEZ_SLOT_BYTES} {KEZ_CELL_BYTES} {KEZ_SLOTS_BYTES} {KEZ_CELLS_BYTES}");
+    for number in 0..40 {
         println!("{}", kez_refusal_text(number));
     }
 }
@@ -157,6 +159,59 @@ fn all_elements(record: &[u8]) -> Result<(), Refused> {
             }
         }
         assert_eq!((elements.next(), elements.next()), (None, None));
+    }
+    Ok(())
+}
+
+/// A table: the five outcomes, what is kept and where, refusals that change nothing, its bytes there and back.
+fn table(record: &[u8]) -> Result<(), Refused> {
+    let event = |id: u8, time: u8, kind: &[u8]| [&[id][..], &[0; 127], &[time], kind, &[0, 0]].concat();
+    let ephemeral = event(1, 5, &[0xa1, 0x9c, 1]);
+    let mut table = Table::new();
+    assert_eq!(table, Table::default());
+    for (packed, outcome) in [
+        (record, Outcome::New),
+        (&event(1, 5, &[0]), Outcome::New),
+        (&event(2, 6, &[0]), Outcome::Replaced),
+        (&event(1, 6, &[0]), Outcome::Replaced),
+        (&event(2, 6, &[0]), Outcome::Loses),
+        (&event(1, 6, &[0x80, 0]), Outcome::Held),
+        (&event(7, 6, &[1]), Outcome::New),
+        (&event(7, 9, &[2]), Outcome::Held),
+        (&ephemeral, Outcome::NotKept),
+    ] {
+        assert_eq!(table.offer(packed)?, outcome);
+    }
+    let kept = [(0, record), (1, &event(1, 6, &[0])), (2, &event(7, 6, &[1]))];
+    assert_eq!(table.kept()?, kept);
+    assert_eq!((table.slot(0)?, table.slot(2)?), (kept[0].1, kept[2].1));
+    let before = table.clone();
+    let big = [&event(9, 5, &[0])[..130], &[0x80, 8], &[0; 1025]].concat();
+    for (packed, number, place) in [(&big[..], 22, 0), (&[], 2, 0), (&[0; 65537], 1, 0)] {
+        assert_eq!(table.offer(packed), Err(Refused { number, place }));
+        assert_eq!(table, before);
+    }
+    for n in [3, 63, 64, u64::MAX] {
+        assert_eq!(table.slot(n), Err(Refused { number: 19, place: 0 }));
+    }
+    for id in 10..71 {
+        assert_eq!(table.offer(&event(id, 5, &[1]))?, Outcome::New);
+    }
+    assert_eq!(table.offer(&event(71, 5, &[1])), Err(Refused { number: 23, place: 0 }));
+    assert_eq!(table.offer(&event(1, 7, &[0]))?, Outcome::Replaced);
+    assert_eq!(table.kept()?.len(), KEZ_SLOTS);
+    let mut again = Table::from_bytes(table.bytes().to_vec()).expect("the bytes of a table");
+    assert_eq!(again, table);
+    assert_eq!(Table::from_bytes(vec![0; 1024]), Err(vec![0; 1024]));
+    let mut bytes = table.bytes().to_vec();
+    bytes[5 * KEZ_SLOT_BYTES + 9] = 5;
+    let mut bad = Table::from_bytes(bytes).expect("as long as a table");
+    assert_eq!(bad.offer(record), Err(Refused { number: 34, place: 5 }));
+    assert_eq!(bad.slot(0), Err(Refused { number: 34, place: 5 }));
+    assert_eq!(bad.kept(), Err(Refused { number: 34, place: 5 }));
+    for any in [&mut again, &mut bad] {
+        any.empty()?;
+        assert_eq!((&*any, any.kept()?.len()), (&Table::new(), 0));
     }
     Ok(())
 }

@@ -20,15 +20,22 @@ enum { PASSES = 12, ROUNDS = 3, ROUND_NS = 1500000, ROOM = KEZ_ELEMENTS_MOST };
 /* The forms that an entry can take. */
 typedef enum { PACKED, NSON, STRING, FORMS } form;
 
+/* A table of records. */
+typedef struct {
+    uint8_t slots[KEZ_SLOTS_BYTES], cells[KEZ_CELLS_BYTES];
+} table;
+
 typedef struct {
     const char *name;
-    const char *only; /* the entries that it is for: their names start so; NULL: all */
+    const char *only; /* the entries that it is for: their names start so; NULL: all but those of tables */
     uint64_t refusal; /* what they refuse it with */
+    table *table;     /* that it is offered to, if it is one for those */
+    uint64_t value;   /* what that offer is answered */
     uint8_t packed[69632], text[69632], string[94208];
     size_t packed_len, text_len, string_len;
 } __attribute__((aligned(4096))) record;
 
-static record records[13];
+static record records[22];
 
 static void put(record *r, const void *part, size_t len)
 {
@@ -126,9 +133,64 @@ static void spell(record *r)
     }
 }
 
+/* A strict record of `size` bytes for a table: of this kind, with a label of so many times x and then its number. Its
+ * author, or its id, is that number too. */
+static void make_kept(record *r, size_t size, uint64_t time, uint64_t kind, size_t label, uint8_t n, int author)
+{
+    r->packed_len = 128;
+    for (size_t i = 0; i < 128; i++)
+        r->packed[i] = (uint8_t)(i * 37 + 11);
+    r->packed[author ? 32 : 0] = n;
+    put_varint(r, time);
+    put_varint(r, kind);
+    /* the content's length is one byte or two, the label's word too */
+    size_t rest = r->packed_len + 1 + 1 + 2 + (label + 2 < 64 ? 1 : 2) + label + 2, content = size - rest;
+    content -= content < 129 ? 1 : 2;
+    put_varint(r, content);
+    for (size_t i = 0; i < content; i++)
+        put(r, "A map for the left ear. " + i % 24, 1);
+    put_varint(r, 1);
+    put(r, "\x02\x02""d", 3);
+    put_varint(r, 2 * (label + 2));
+    for (size_t i = 0; i < label; i++)
+        put(r, "x", 1);
+    put(r, (uint8_t[]){(uint8_t)('A' + n / 8), (uint8_t)('A' + n % 8)}, 2);
+}
+
+/* Keeps the record in slot n. */
+static void keep(table *t, size_t n, const record *r)
+{
+    uint8_t *slot = t->slots + KEZ_SLOT_BYTES * n;
+    slot[0] = 1;
+    slot[8] = (uint8_t)r->packed_len;
+    slot[9] = (uint8_t)(r->packed_len >> 8);
+    memcpy(t->cells + KEZ_CELL_BYTES * n, r->packed, r->packed_len);
+}
+
+/* Tables of 64 records: each with an author of its own; one author and one kind, with labels, which are short, or long
+ * and different only at their ends; without a key. */
+static table authors, labels, long_labels, ids, empty;
+
+enum { KEPT_TIME = 1720000000, KEPT = 300, LONG = 1000, SHORT_LABEL = 12, LONG_LABEL = 800 };
+
+static void make_tables(void)
+{
+    static record r;
+    for (uint8_t n = 0; n < KEZ_SLOTS; n++) {
+        make_kept(&r, KEPT, KEPT_TIME, 10002, SHORT_LABEL, n, 1);
+        keep(&authors, n, &r);
+        make_kept(&r, KEPT, KEPT_TIME, 30000, SHORT_LABEL, n, 0);
+        keep(&labels, n, &r);
+        make_kept(&r, LONG, KEPT_TIME, 30000, LONG_LABEL, n, 0);
+        keep(&long_labels, n, &r);
+        make_kept(&r, KEPT, KEPT_TIME, 1, SHORT_LABEL, n, 0);
+        keep(&ids, n, &r);
+    }
+}
+
 /* Entries */
 
-typedef enum { READS, ASKS, WRITES, COUNTS, SHOWS, LISTS, BOTH, RIVALS, PARSES, COPIES } shape;
+typedef enum { READS, ASKS, WRITES, COUNTS, SHOWS, LISTS, BOTH, RIVALS, OFFERS, VIEWS, EMPTIES, PARSES, COPIES } shape;
 
 typedef kez_answer reads(const uint8_t *, size_t, uint64_t *, uint64_t *, uint64_t *, uint64_t *, uint64_t *);
 typedef kez_answer asks(const uint8_t *, size_t);
@@ -138,6 +200,9 @@ typedef kez_answer shows(const uint8_t *, size_t, uint64_t, uint64_t, uint64_t *
 typedef kez_answer lists(const uint8_t *, size_t, uint64_t, uint8_t *, size_t);
 typedef kez_answer both(const uint8_t *, size_t, uint8_t *, size_t, uint8_t *, size_t, uint64_t *);
 typedef kez_answer rivals(const uint8_t *, size_t, const uint8_t *, size_t);
+typedef kez_answer offers(uint8_t *, size_t, uint8_t *, size_t, const uint8_t *, size_t);
+typedef kez_answer views(const uint8_t *, size_t, const uint8_t *, size_t, uint64_t, uint64_t *, uint64_t *);
+typedef kez_answer empties(uint8_t *, size_t, uint8_t *, size_t);
 typedef int parses(const uint8_t *, size_t);
 
 typedef struct {
@@ -162,6 +227,9 @@ static const entry entries[] = {
     {"rivals", "kez_rivals", RIVALS, kez_rivals, PACKED},
     {"string_write", "kez_notepack_string_write", WRITES, kez_notepack_string_write, PACKED},
     {"string_read", "kez_notepack_string_read", WRITES, kez_notepack_string_read, STRING},
+    {"table_offer", "kez_table_offer", OFFERS, kez_table_offer, PACKED},
+    {"table_slot", "kez_table_slot", VIEWS, kez_table_slot, PACKED},
+    {"table_empty", "kez_table_empty", EMPTIES, kez_table_empty, PACKED},
 };
 
 /* Who is measured. The parsers stand beside the JSON reader alone. */
@@ -191,6 +259,24 @@ static uint8_t area[ROOM + 4096] __attribute__((aligned(4096)));
 static uint8_t *const out = area + 2112;
 static uint64_t numbers[5];
 
+/* The table that is lent, and the record that it is lent with. */
+static table lent;
+static const record *offered;
+
+/* One offer. What it stored is undone, which takes a moment beside the call. */
+static uint64_t offer(offers *f, const uint8_t *in, size_t len)
+{
+    kez_answer a = f(lent.slots, sizeof lent.slots, lent.cells, sizeof lent.cells, in, len);
+    if (a.refusal || a.value != offered->value)
+        return a.refusal ? a.refusal : 1000 + a.value;
+    if (a.value == KEZ_TABLE_NEW || a.value == KEZ_TABLE_REPLACED) {
+        size_t n = a.value == KEZ_TABLE_NEW ? 0 : KEZ_SLOTS - 1;
+        memcpy(lent.slots + KEZ_SLOT_BYTES * n, offered->table->slots + KEZ_SLOT_BYTES * n, KEZ_SLOT_BYTES);
+        memcpy(lent.cells + KEZ_CELL_BYTES * n, offered->table->cells + KEZ_CELL_BYTES * n, KEZ_CELL_BYTES);
+    }
+    return 0;
+}
+
 static double now(void)
 {
     struct timespec t;
@@ -212,6 +298,11 @@ static uint64_t call(const entry *e, const uint8_t *in, size_t len)
     case BOTH:
         return ((both *)e->function)(in, len, out, (size_t)ROOM / 2, out + ROOM / 2, (size_t)ROOM / 2, n).refusal;
     case RIVALS: return ((rivals *)e->function)(in, len, in, len).refusal;
+    case OFFERS: return offer((offers *)e->function, in, len);
+    case VIEWS:
+        return ((views *)e->function)(lent.slots, sizeof lent.slots, lent.cells, sizeof lent.cells, 63, n, n + 1)
+            .refusal;
+    case EMPTIES: return ((empties *)e->function)(lent.slots, sizeof lent.slots, lent.cells, sizeof lent.cells).refusal;
     case PARSES: return !((parses *)e->function)(in, len);
     default: memcpy(out, in, len); return 0;
     }
@@ -281,6 +372,8 @@ static void measure(row *best, const entry *e, const record *r, void *reference,
     const size_t lengths[FORMS] = {r->packed_len, r->text_len, r->string_len};
     uint64_t calls = 16;
     best->len = lengths[e->takes];
+    offered = r;
+    lent = r->table ? *r->table : empty;
     for (int who = 0; who < PROGRAM; who++) {
         entry o = by(e, who, reference, peers);
         uint64_t refusal = o.shape == COPIES || o.shape == PARSES ? 0 : r->refusal;
@@ -296,6 +389,8 @@ static void measure(row *best, const entry *e, const record *r, void *reference,
 /* All elements are listed of the small, the middle and the fullest record: content does not matter. */
 static int is_for(const record *r, const entry *e)
 {
+    if (!r->only && e->shape >= OFFERS)
+        return 0;
     if (r->only)
         return !strncmp(r->only, e->name, strlen(r->only));
     return e->shape != LISTS || r->packed_len <= 4000;
@@ -363,6 +458,40 @@ static void make_special(void)
     records[12].only = "string_read";
 }
 
+/* What is offered to the tables, from records[first] on: the record of their last slot, later or earlier or as it is,
+ * or another one. */
+static void make_offered(int first)
+{
+    static const struct {
+        const char *name;
+        table *table;
+        uint64_t refusal, value;
+        int later, kind;
+        const char *only;
+    } all[] = {
+        {"64 authors", &authors, 0, KEZ_TABLE_HELD, 0, 10002, "table_"},
+        {"64 labels", &labels, 0, KEZ_TABLE_HELD, 0, 30000, "table_offer"},
+        {"long labels", &long_labels, 0, KEZ_TABLE_HELD, 0, 30000, "table_"},
+        {"64 ids", &ids, 0, KEZ_TABLE_HELD, 0, 1, "table_offer"},
+        {"replaces", &labels, 0, KEZ_TABLE_REPLACED, 1, 30000, "table_offer"},
+        {"loses", &labels, 0, KEZ_TABLE_LOSES, -1, 30000, "table_offer"},
+        {"not kept", &labels, 0, KEZ_TABLE_NOT_KEPT, 0, 20000, "table_offer"},
+        {"no slot", &labels, 23, 0, 0, 30001, "table_offer"},
+        {"the first", &empty, 0, KEZ_TABLE_NEW, 0, 30000, "table_offer"},
+    };
+    for (size_t i = 0; i < sizeof all / sizeof *all; i++) {
+        record *r = &records[first + (int)i];
+        int is_long = all[i].table == &long_labels;
+        make_kept(r, is_long ? LONG : KEPT, (uint64_t)(KEPT_TIME + all[i].later), (uint64_t)all[i].kind,
+                  is_long ? LONG_LABEL : SHORT_LABEL, KEZ_SLOTS - 1, all[i].table == &authors);
+        r->name = all[i].name;
+        r->only = all[i].only;
+        r->refusal = all[i].refusal;
+        r->value = all[i].value;
+        r->table = all[i].table;
+    }
+}
+
 /* The other forms of each record. */
 static void make_forms(writes *nson_write)
 {
@@ -390,6 +519,8 @@ int main(int count, char **words)
     make(&records[2], "large", 60000, 16, "Threshold 42 dB at 1000 Hz, comfort 61 dB; the next visit is in spring.\n");
     make(&records[3], "not ASCII", 60000, 16, "Порог слышимости 42 дБ при 1000 Гц — 聴力検査の結果は良好です 👂\n");
     make_special();
+    make_tables();
+    make_offered(13);
     make_forms(nson_write);
     for (int pass = 0; pass < PASSES; pass++)
         for (int i = 0; i < ENTRIES; i++)

@@ -1,7 +1,8 @@
 /* The line protocol over the C entries: one request a line on standard input, one answer a line.
  * It also watches what it lends: inputs keep their bytes, a refusal leaves every buffer and number as it was, success
  * leaves the bytes behind the written length as they were, and nothing around a buffer is touched. An input ends where
- * its page ends, so that a read past it is seen. Whatever goes wrong is the answer `broken ..`. */
+ * its page ends, so that a read past it is seen. So do the two buffers of a table of records, which live from line to
+ * line; of them nothing may change but what an answer says. Whatever goes wrong is the answer `broken ..`. */
 #define _GNU_SOURCE
 #include "kezubimoryu.h"
 
@@ -57,20 +58,32 @@ static int digit(char c)
     return c >= '0' && c <= '9' ? c - '0' : c >= 'a' && c <= 'f' ? c - 'a' + 10 : -1;
 }
 
-/* Takes the bytes that a word spells; nothing is lent as a null pointer or as the end of a page, by turns. */
-static int lend(input *in, const char *word)
+/* How many bytes a word spells. */
+static size_t spelled(const char *word)
 {
-    size_t digits = strcmp(word, "-") ? strlen(word) : 0;
-    if (digits % 2 || digits / 2 > MOST)
-        return 0;
-    in->len = digits / 2;
-    uint8_t *to = in->end - in->len;
-    for (size_t i = 0; i < in->len; i++) {
+    return strcmp(word, "-") ? strlen(word) / 2 : 0;
+}
+
+/* Puts the bytes that a word spells; 0 if it spells none. */
+static int unhex(uint8_t *to, const char *word)
+{
+    size_t len = spelled(word);
+    for (size_t i = 0; i < len; i++) {
         int high = digit(word[2 * i]), low = digit(word[2 * i + 1]);
         if (high < 0 || low < 0)
             return 0;
         to[i] = (uint8_t)(high << 4 | low);
     }
+    return !len || !word[2 * len];
+}
+
+/* Takes the bytes that a word spells; nothing is lent as a null pointer or as the end of a page, by turns. */
+static int lend(input *in, const char *word)
+{
+    in->len = spelled(word);
+    uint8_t *to = in->end - in->len;
+    if (in->len > MOST || !unhex(to, word))
+        return 0;
     memcpy(in->copy, to, in->len);
     in->at = in->len || line_number % 2 ? to : NULL;
     return 1;
@@ -109,7 +122,7 @@ static void check_room(size_t room, size_t written)
 }
 
 /* Lent numbers with guards between. */
-static uint64_t cells[2 * NUMBERS + 1];
+static uint64_t lent_numbers[2 * NUMBERS + 1];
 
 static uint64_t was(int i)
 {
@@ -118,29 +131,29 @@ static uint64_t was(int i)
 
 static uint64_t *number(int i)
 {
-    return cells + 2 * i + 1;
+    return lent_numbers + 2 * i + 1;
 }
 
 static void lend_numbers(void)
 {
     for (int i = 0; i < 2 * NUMBERS + 1; i++)
-        cells[i] = was(i);
+        lent_numbers[i] = was(i);
 }
 
 static void check_numbers(int lent, kez_answer a)
 {
     for (int i = 0; i < 2 * NUMBERS + 1; i++) {
         int is_lent = i % 2 && i / 2 < lent;
-        if (cells[i] != was(i) && !is_lent)
+        if (lent_numbers[i] != was(i) && !is_lent)
             wrong("writes beside a lent number");
-        if (cells[i] != was(i) && is_lent && a.refusal)
+        if (lent_numbers[i] != was(i) && is_lent && a.refusal)
             wrong("changes a number though it refuses");
     }
 }
 
 static void check_answer(kez_answer a)
 {
-    if (a.refusal > 21)
+    if (a.refusal > 23 && a.refusal != 34)
         wrong("has a refusal that does not exist");
 }
 
@@ -178,7 +191,9 @@ static kez_answer read_packed(const input *in)
 }
 
 /* A kind of request: the words behind its name, and who prints its answer (nothing where something is broken; 0: no
- * such request). Kinds that write into a lent buffer name their entry. */
+ * such request). Kinds that write into a lent buffer name their entry. With MORE words, what is behind the first is
+ * left in one piece. */
+enum { MORE = -1, WORDS = 3 };
 typedef struct kind {
     const char *name;
     int words;
@@ -363,6 +378,204 @@ static int do_rivals(const kind *k, char **words)
     return 1;
 }
 
+/* The table of records */
+
+static input slots, cells; /* their copies are what they held before the call */
+
+static uint8_t *slot(uint64_t n)
+{
+    return slots.end - slots.len + KEZ_SLOT_BYTES * n;
+}
+
+static uint8_t *cell(uint64_t n)
+{
+    return cells.end - cells.len + KEZ_CELL_BYTES * n;
+}
+
+static uint64_t length_in(const uint8_t *of_slot)
+{
+    uint64_t length = 0;
+    for (int i = 15; i >= 8; i--)
+        length = length << 8 | of_slot[i];
+    return length;
+}
+
+static void put_length(uint8_t *of_slot, uint64_t length)
+{
+    for (int i = 8; i < 16; i++, length >>= 8)
+        of_slot[i] = (uint8_t)length;
+}
+
+static uint8_t *lent(const input *in)
+{
+    return in->len || line_number % 2 ? in->end - in->len : NULL;
+}
+
+static void keep_table(void)
+{
+    memcpy(slots.copy, slots.end - slots.len, slots.len);
+    memcpy(cells.copy, cells.end - cells.len, cells.len);
+}
+
+/* So many free slots and zeros. */
+static int make_table(uint64_t count)
+{
+    if (count > MOST / KEZ_CELL_BYTES)
+        return 0;
+    slots.len = KEZ_SLOT_BYTES * count;
+    cells.len = KEZ_CELL_BYTES * count;
+    memset(slots.end - slots.len, 0, slots.len);
+    memset(cells.end - cells.len, 0, cells.len);
+    return 1;
+}
+
+static void check_table(const char *what)
+{
+    if (memcmp(slots.end - slots.len, slots.copy, slots.len) || memcmp(cells.end - cells.len, cells.copy, cells.len))
+        wrong(what);
+}
+
+/* `N:LENGTH:CELL`, or `~N:LENGTH:CELL` for a free slot. Any mark but 0 makes a slot a used one, and seven bytes of it
+ * are nobody's: there stands anything. */
+static int load_slot(char *word)
+{
+    int used = *word != '~';
+    char *rest = word + !used, *of_slot = strsep(&rest, ":"), *of_length = strsep(&rest, ":");
+    uint64_t n, length;
+    if (!rest || !parsed(of_slot, &n) || !parsed(of_length, &length) || n >= slots.len / KEZ_SLOT_BYTES)
+        return 0;
+    for (int i = 1; i < 8; i++)
+        slot(n)[i] = pattern(8 * n + (size_t)i);
+    slot(n)[0] = used ? (uint8_t)(1 + (line_number + 37 * n) % 255) : 0;
+    put_length(slot(n), length);
+    memset(cell(n), 0, KEZ_CELL_BYTES);
+    return spelled(rest) <= KEZ_CELL_BYTES && unhex(cell(n), rest);
+}
+
+/* `table_load SLOTS [WORD ..]` */
+static int do_load(const kind *k, char **words)
+{
+    (void)k;
+    uint64_t count;
+    if (!parsed(words[0], &count) || !make_table(count))
+        return 0;
+    for (char *rest = words[1]; rest;)
+        if (!load_slot(strsep(&rest, " ")))
+            return 0;
+    printf("ok");
+    return 1;
+}
+
+static int do_new(const kind *k, char **words)
+{
+    (void)k;
+    (void)words;
+    make_table(KEZ_SLOTS);
+    printf("ok");
+    return 1;
+}
+
+static int do_empty(const kind *k, char **words)
+{
+    (void)k;
+    (void)words;
+    keep_table();
+    kez_answer a = kez_table_empty(lent(&slots), slots.len, lent(&cells), cells.len);
+    if (!a.refusal) {
+        memset(slots.copy, 0, slots.len);
+        memset(cells.copy, 0, cells.len);
+    }
+    check_table(a.refusal ? "refuses, and changes the table" : "leaves something in the table");
+    if (!a.refusal && a.value)
+        wrong("has a value that is not 0");
+    if (!told_refusal(a))
+        printf("ok");
+    return 1;
+}
+
+/* The slot whose own bytes or whose cell changed. */
+static uint64_t changed_slot(void)
+{
+    for (uint64_t n = 0; n < KEZ_SLOTS; n++)
+        if (memcmp(slot(n), slots.copy + KEZ_SLOT_BYTES * n, KEZ_SLOT_BYTES) ||
+            memcmp(cell(n), cells.copy + KEZ_CELL_BYTES * n, KEZ_CELL_BYTES))
+            return n;
+    wrong("stores nothing");
+    return 0;
+}
+
+/* What was offered was stored: all 16 bytes of one slot, the strict form in its cell, and nothing else. */
+static void check_stored(void)
+{
+    uint64_t n = changed_slot();
+    uint8_t *now = slots.copy + KEZ_SLOT_BYTES * n;
+    kez_answer strict = kez_notepack_write(first.at, first.len, cells.copy + KEZ_CELL_BYTES * n, KEZ_CELL_BYTES);
+    if (strict.refusal)
+        wrong("stores what has no strict form for a cell");
+    memset(now, 0, KEZ_SLOT_BYTES);
+    now[0] = 1;
+    put_length(now, strict.value);
+    check_table("stores something else than the strict form, or elsewhere too");
+}
+
+static int do_offer(const kind *k, char **words)
+{
+    static const char *const said[] = {"new", "replaced", "loses", "held", "not_kept"};
+    (void)k;
+    if (!lend(&first, words[0]))
+        return 0;
+    keep_table();
+    kez_answer a = kez_table_offer(lent(&slots), slots.len, lent(&cells), cells.len, first.at, first.len);
+    check_input(&first);
+    if (!a.refusal && a.value > KEZ_TABLE_NOT_KEPT)
+        wrong("has a value above 4");
+    else if (!a.refusal && (a.value == KEZ_TABLE_NEW || a.value == KEZ_TABLE_REPLACED))
+        check_stored();
+    else
+        check_table("stores nothing, and changes the table");
+    if (!told_refusal(a))
+        printf("%s", said[a.value]);
+    return 1;
+}
+
+/* A look at the lent bytes, which asks nothing of the library. */
+static int do_look(const kind *k, char **words)
+{
+    (void)k;
+    uint64_t n;
+    if (!parsed(words[0], &n))
+        return 0;
+    if (n >= slots.len / KEZ_SLOT_BYTES) {
+        printf("none");
+        return 1;
+    }
+    size_t len = KEZ_CELL_BYTES;
+    while (len && !cell(n)[len - 1])
+        len--;
+    printf("%s %" PRIu64, *slot(n) ? "used" : "free", length_in(slot(n)));
+    print_bytes(cell(n), len);
+    return 1;
+}
+
+/* `table_slot N`: where the library shows the event of a slot. */
+static int do_view(const kind *k, char **words)
+{
+    (void)k;
+    uint64_t n;
+    if (!parsed(words[0], &n))
+        return 0;
+    lend_numbers();
+    keep_table();
+    kez_answer a = kez_table_slot(lent(&slots), slots.len, lent(&cells), cells.len, n, number(0), number(1));
+    check_numbers(2, a);
+    check_table("changes the table");
+    if (!a.refusal && a.value)
+        wrong("has a value that is not 0");
+    if (!told_refusal(a))
+        printf("ok %" PRIu64 " %" PRIu64, *number(0), *number(1));
+    return 1;
+}
+
 static const kind kinds[] = {
     {"read", 1, do_read, NULL},
     {"content", 1, do_read, NULL},
@@ -379,20 +592,33 @@ static const kind kinds[] = {
     {"string_read", 2, do_write, kez_notepack_string_read},
     {"read_both", 2, do_both, NULL},
     {"rivals", 2, do_rivals, NULL},
+    {"table_new", 0, do_new, NULL},
+    {"table_empty", 0, do_empty, NULL},
+    {"table_offer", 1, do_offer, NULL},
+    {"table_look", 1, do_look, NULL},
+    {"table_load", MORE, do_load, NULL},
+    {"table_slot", 1, do_view, NULL},
 };
+
+static const kind *kind_of(const char *name)
+{
+    for (size_t i = 0; i < sizeof kinds / sizeof *kinds; i++)
+        if (!strcmp(kinds[i].name, name))
+            return &kinds[i];
+    return NULL;
+}
 
 static int answer(char *line)
 {
-    char *words[4] = {NULL}, *rest = line;
-    int count = 0;
-    while (rest && count < 4)
+    char *words[WORDS + 1] = {NULL}, *rest = line;
+    const kind *k = kind_of(strsep(&rest, " "));
+    int count = 0, wanted = !k ? 0 : k->words == MORE ? 1 : k->words;
+    while (rest && count < wanted)
         words[count++] = strsep(&rest, " ");
-    if (rest)
+    if (!k || count < wanted || (rest && k->words != MORE))
         return 0;
-    for (size_t i = 0; i < sizeof kinds / sizeof *kinds; i++)
-        if (!strcmp(kinds[i].name, words[0]))
-            return kinds[i].words == count - 1 && kinds[i].answer(&kinds[i], words + 1);
-    return 0;
+    words[count] = rest;
+    return k->answer(k, words);
 }
 
 int main(void)
@@ -400,10 +626,11 @@ int main(void)
     static const int faults[] = {SIGSEGV, SIGBUS, SIGILL, SIGFPE, SIGABRT, SIGALRM};
     for (size_t i = 0; i < sizeof faults / sizeof *faults; i++)
         signal(faults[i], fault);
-    if (!make_input(&first) || !make_input(&second)) {
+    if (!make_input(&first) || !make_input(&second) || !make_input(&slots) || !make_input(&cells)) {
         fprintf(stderr, "driver: no memory\n");
         return 2;
     }
+    make_table(KEZ_SLOTS);
     char *line = NULL;
     size_t size = 0;
     for (ssize_t len; (len = getline(&line, &size, stdin)) > 0; line_number++) {

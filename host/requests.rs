@@ -1,5 +1,7 @@
 //! Requests of the line protocol, always the same for the same words: requests SEED COUNT [KIND..]; without a kind all
-//! of them. `requests changes` is every change of one character of the vector's string form.
+//! of them. `requests changes` is every change of one character of the vector's string form. A kind is the first word of
+//! its requests; but `table` is all that is asked about a table of records, and with `table_slot` its slots are viewed
+//! by the library too.
 //!
 //! Three parts: each limit of docs/RULES.md, met and passed; samples cut and changed at every place; then random
 //! inputs. Where COUNT is small the first two are thinned, evenly. The encoders here can also write what no encoder
@@ -19,11 +21,14 @@ mod json;
 mod notepack;
 #[path = "requests/string_form.rs"]
 mod string_form;
+#[path = "requests/table.rs"]
+mod table;
 #[path = "requests/texts.rs"]
 mod texts;
 
 use dice::Dice;
 use event::Event;
+use std::collections::VecDeque;
 use std::io::{self, Write};
 
 fn main() -> io::Result<()> {
@@ -53,7 +58,7 @@ fn print(lines: impl Iterator<Item = String>) -> io::Result<()> {
 fn requests(seed: u64, count: usize, kinds: &[String]) -> impl Iterator<Item = String> {
     let both = kinds.iter().any(|kind| kind == "read_both");
     let kinds = kinds.iter().filter(|kind| *kind != "read_both").cloned().collect();
-    let mut g = Requests { dice: Dice(seed), kinds, lines: Vec::new() };
+    let mut g = Requests { dice: Dice(seed), kinds, lines: Vec::new(), of_table: VecDeque::new() };
     boundaries::all(&mut g);
     let limits = thinned(std::mem::take(&mut g.lines), count / 2);
     damage::everywhere(&mut g);
@@ -64,7 +69,8 @@ fn requests(seed: u64, count: usize, kinds: &[String]) -> impl Iterator<Item = S
         }
         g.lines.pop()
     });
-    let asked = limits.into_iter().chain(damaged).chain(random).take(count);
+    let limits = limits.into_iter().flat_map(|group| group.lines().map(str::to_string).collect::<Vec<_>>());
+    let asked = limits.chain(damaged).chain(random).take(count);
     asked.enumerate().map(move |(i, line)| if both && i % 3 == 0 { to_both(line) } else { line })
 }
 
@@ -76,17 +82,25 @@ fn to_both(line: String) -> String {
     }
 }
 
-/// At most `most` of the lines, evenly.
-fn thinned(lines: Vec<String>, most: usize) -> Vec<String> {
-    let all = lines.len();
-    let keep = most.min(all);
-    lines.into_iter().enumerate().filter(|(i, _)| (i + 1) * keep / all > i * keep / all).map(|(_, line)| line).collect()
+/// At most `most` of the lines, evenly. Lines that belong together stand in one string, and stay together.
+fn thinned(groups: Vec<String>, most: usize) -> Vec<String> {
+    let lines_in = |group: &String| group.lines().count();
+    let all: usize = groups.iter().map(lines_in).sum();
+    let (keep, mut due) = (most.min(all), 0);
+    let mut wanted = |group: &String| {
+        let lines = lines_in(group);
+        due += lines * keep;
+        let wanted = due >= lines * all;
+        due -= if wanted { lines * all } else { 0 };
+        wanted
+    };
+    groups.into_iter().filter(|group| wanted(group)).collect()
 }
 
 /// Every kind of request.
-const ALL: [&str; 15] = [
+const ALL: [&str; 17] = [
     "read", "strict", "pack", "content", "element", "elements", "lister", "canonical", "nson_write", "nson_read",
-    "json_read", "string_write", "string_read", "rivals", "read_both",
+    "json_read", "string_write", "string_read", "rivals", "read_both", "table", "table_slot",
 ];
 
 /// Kinds whose input is a packed event.
@@ -97,6 +111,8 @@ struct Requests {
     dice: Dice,
     kinds: Vec<String>,
     lines: Vec<String>,
+    /// what is left of a run of requests about a table, whose order counts
+    of_table: VecDeque<String>,
 }
 
 impl Requests {
@@ -185,6 +201,13 @@ impl Requests {
             let kind = self.dice.pick(&kinds);
             self.one(kind, input, e);
         }
+    }
+
+    fn next_of_table(&mut self) {
+        if self.of_table.is_empty() {
+            self.of_table = table::run(self).into();
+        }
+        self.lines.extend(self.of_table.pop_front());
     }
 
     fn rivals(&mut self, first: &[u8], second: &[u8]) {

@@ -340,12 +340,124 @@ static void not_strings(void)
     }
 }
 
+/* Tables of 64 records, each as long as a cell and with a name of its own */
+
+static uint8_t slots[KEZ_SLOTS_BYTES], cells[KEZ_CELLS_BYTES];
+
+static kez_answer table_offer(void)
+{
+    return kez_table_offer(slots, sizeof slots, cells, sizeof cells, record.at, record.len);
+}
+static kez_answer table_slot(void)
+{
+    return kez_table_slot(slots, sizeof slots, cells, sizeof cells, 63, numbers, numbers + 1);
+}
+
+/* A table's record number n up to its tags: by its id if it has no key. */
+static void start_kept(uint8_t n, uint64_t kind, const char *unit, size_t content)
+{
+    start_packed(unit, content);
+    record.at[31] = kind == 1 ? n : 0;
+    if (kind == 1) { /* one byte in the place of three */
+        record.at[133] = 1;
+        memmove(record.at + 134, record.at + 136, record.len - 136);
+        record.len -= 2;
+    }
+}
+
+/* A tag with a label of this length in all, the number at its end. */
+static void put_label(uint8_t n, size_t len)
+{
+    put_text("\x02\x02""d");
+    put_varint(2 * len);
+    fill('x', len - 2);
+    fill((uint8_t)('A' + n / 8), 1);
+    fill((uint8_t)('A' + n % 8), 1);
+}
+
+static void put_raw_label(uint8_t n, size_t len)
+{
+    put_text("\x02\x02""d");
+    put_varint(2 * len + 1);
+    fill(0xab, len - 1);
+    fill(n, 1);
+}
+
+static void labelled(uint8_t n)
+{
+    start_kept(n, 30000, "", 0);
+    put_varint(1);
+    put_label(n, 879);
+}
+
+static void labelled_raw(uint8_t n)
+{
+    start_kept(n, 30000, "", 0);
+    put_varint(1);
+    put_raw_label(n, 879);
+}
+
+static void labelled_last(uint8_t n)
+{
+    start_kept(n, 30000, "", 0);
+    put_varint(437);
+    for (int i = 0; i < 436; i++)
+        put("\x01\x00", 2);
+    put_label(n, 4);
+}
+
+static void content_of_two(uint8_t n)
+{
+    start_kept(n, 30000, "\xc3\xa9", 868);
+    put_varint(1);
+    put_label(n, 4);
+}
+
+static void keyless(uint8_t n)
+{
+    start_kept(n, 1, "", 0);
+    put_varint(3);
+    for (int i = 0; i < 3; i++) {
+        put_varint(255);
+        fill(0, 255);
+    }
+}
+
+static void table_is_slow(const char *what, void (*make)(uint8_t))
+{
+    for (uint8_t n = 0; n < KEZ_SLOTS; n++) {
+        uint8_t *slot = slots + KEZ_SLOT_BYTES * n;
+        make(n);
+        memset(slot, 0, KEZ_SLOT_BYTES);
+        slot[0] = 1;
+        slot[8] = (uint8_t)record.len;
+        slot[9] = (uint8_t)(record.len >> 8);
+        memcpy(cells + KEZ_CELL_BYTES * n, record.at, record.len);
+    }
+    measure("kez_table_offer", table_offer, what);
+    measure("kez_table_slot", table_slot, what);
+}
+
+static void tables(void)
+{
+    table_is_slow("64 labels that differ at their ends", labelled);
+    table_is_slow("64 labels of raw bytes, the same", labelled_raw);
+    table_is_slow("64 labels behind 436 other tags", labelled_last);
+    table_is_slow("64 contents of two bytes a character", content_of_two);
+    table_is_slow("64 ids that differ at their ends", keyless);
+    /* the longest that is refused after all of the table was seen */
+    start_packed("x", MOST - 200);
+    put_varint(0);
+    measure("kez_table_offer", table_offer, "the same table, a record that is too long");
+}
+
 int main(void)
 {
     printf("%-25s %-44s %13s %8s\n", "entry", "record", "", "us");
     texts();
     packed();
     not_strings();
+    tables();
     printf("slowest: %s\n", slowest_said);
     return 0;
 }

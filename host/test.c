@@ -155,6 +155,29 @@ static int is(kez_answer a, uint64_t refusal, uint64_t value)
     return a.refusal == refusal && a.value == value;
 }
 
+/* Tables of records: the one that is lent, and what it must hold after the call */
+
+typedef struct {
+    uint8_t slots[KEZ_SLOTS_BYTES], cells[KEZ_CELLS_BYTES];
+} table;
+
+static table lent, wanted;
+
+static kez_answer offer(const uint8_t *s, size_t len)
+{
+    return kez_table_offer(lent.slots, sizeof lent.slots, lent.cells, sizeof lent.cells, s, len);
+}
+
+static kez_answer view(uint64_t n)
+{
+    return kez_table_slot(lent.slots, sizeof lent.slots, lent.cells, sizeof lent.cells, n, numbers, numbers + 1);
+}
+
+static int as_wanted(void)
+{
+    return !memcmp(&lent, &wanted, sizeof lent);
+}
+
 /* What is asked of many inputs */
 
 /* Every entry refuses the input so, and leaves alone what it was lent. Of its string form the place is the same. */
@@ -162,6 +185,7 @@ static void refused(const uint8_t *s, size_t len, uint64_t refusal, uint64_t pla
 {
     static bytes text;
     string_of(&text, s, len);
+    memset(&lent, 0, sizeof lent);
     lend();
     kez_answer all[] = {
         read_it(s, len),
@@ -177,11 +201,13 @@ static void refused(const uint8_t *s, size_t len, uint64_t refusal, uint64_t pla
         kez_notepack_string_write(s, len, NULL, 0),
         kez_notepack_string_read(text.at, text.len, room, sizeof room),
         kez_notepack_string_read(text.at, text.len, NULL, 0),
+        offer(s, len),
     };
     for (size_t i = 0; i < sizeof all / sizeof *all; i++)
         CHECK(is(all[i], refusal, place), "entry %zu on %zu bytes: %d at %d, not %d at %d", i, len, (int)all[i].refusal,
               (int)all[i].value, (int)refusal, (int)place);
-    CHECK(untouched(), "a refusal of %zu bytes changed what was lent", len);
+    memset(&wanted, 0, sizeof wanted);
+    CHECK(untouched() && as_wanted(), "a refusal of %zu bytes changed what was lent", len);
 }
 
 /* The input is read with these numbers. */
@@ -863,10 +889,13 @@ static void rivals(void)
 
 static void sentences(void)
 {
-    for (uint64_t i = 0; i <= 22; i++)
-        for (uint64_t j = 0; j < i; j++)
-            CHECK(strcmp(kez_refusal_text(i), kez_refusal_text(j)), "%d and %d", (int)i, (int)j);
-    CHECK(!strcmp(kez_refusal_text(UINT64_MAX), kez_refusal_text(22)), "no such number");
+    for (uint64_t i = 0; i <= 35; i++)
+        for (uint64_t j = 0; j < i; j++) {
+            int none = i > 23 && i != 34 && j > 23 && j != 34;
+            int same = !strcmp(kez_refusal_text(i), kez_refusal_text(j));
+            CHECK(same == none, "%d and %d", (int)i, (int)j);
+        }
+    CHECK(!strcmp(kez_refusal_text(UINT64_MAX), kez_refusal_text(24)), "no such number");
 }
 
 /* With length 0 every entry takes a null pointer, one that is not aligned to anything, and one to a page that can't be
@@ -900,9 +929,411 @@ static void nothing_lent(void)
             CHECK(untouched(), "%d %d: a refusal changed the length", i, j);
             CHECK(is(kez_rivals(in, 0, out, 0), 2, 0), "%d %d", i, j);
             CHECK(is(kez_rivals(vector.at, vector.len, out, 0), 2, 0), "%d", j);
+            CHECK(is(kez_table_empty(none[i], 0, out, 0), 34, 0), "%d %d", i, j);
+            CHECK(is(kez_table_offer(none[i], 0, out, 0, in, 0), 34, 0), "%d %d", i, j);
+            CHECK(is(kez_table_offer(none[i], 0, out, 0, vector.at, vector.len), 34, 0), "%d %d", i, j);
+            CHECK(is(kez_table_slot(in, 0, out, 0, 0, numbers, numbers + 1), 34, 0), "%d %d", i, j);
+            CHECK(untouched(), "%d %d: a refusal changed a number", i, j);
         }
     }
     munmap(page, 4096);
+}
+
+/* A record by a number for its id, one for its author, its time, its kind and its label; padded with a content, if its
+ * length is given. */
+static void record(bytes *b, uint8_t id, uint8_t author, uint64_t time, uint64_t kind, const char *label, size_t len)
+{
+    size_t content = 0;
+    for (int i = 0; i < 3; i++) {
+        b->len = 0;
+        fill(b, id, 32);
+        fill(b, author, 32);
+        fill(b, 7, 64);
+        put_varint(b, time);
+        put_varint(b, kind);
+        put_varint(b, content);
+        fill(b, 'x', content);
+        put_varint(b, 1);
+        fill(b, 2, 2);
+        fill(b, 'd', 1);
+        fill(b, (uint8_t)(2 * strlen(label)), 1);
+        put(b, label, strlen(label));
+        content += len ? len - b->len : 0; /* the content's length may take a second byte */
+    }
+    CHECK(!len || b->len == len, "%zu, not %zu", b->len, len);
+}
+
+/* Slot n of the table that is wanted, with these bytes; what is behind them in the cell stays. */
+static void want(size_t n, uint8_t used, uint64_t len, const uint8_t *s, size_t s_len)
+{
+    uint8_t *slot = wanted.slots + KEZ_SLOT_BYTES * n;
+    memset(slot, 0, KEZ_SLOT_BYTES);
+    slot[0] = used;
+    for (int i = 8; i < 16; i++, len >>= 8)
+        slot[i] = (uint8_t)len;
+    memcpy(wanted.cells + KEZ_CELL_BYTES * n, s, s_len);
+}
+
+static void want_record(size_t n, const bytes *b)
+{
+    want(n, 1, b->len, b->at, b->len);
+}
+
+static void start_table(void)
+{
+    CHECK(is(kez_table_empty(lent.slots, sizeof lent.slots, lent.cells, sizeof lent.cells), 0, 0), "not emptied");
+    memset(&wanted, 0, sizeof wanted);
+    CHECK(as_wanted(), "something is left in an emptied table");
+}
+
+/* The offer is refused so, or with refusal 0 answered so, and no byte of the table changes. */
+static void changes_nothing(const bytes *b, uint64_t refusal, uint64_t value)
+{
+    wanted = lent;
+    kez_answer a = offer(b->at, b->len);
+    CHECK(is(a, refusal, value), "%d at %d, not %d at %d", (int)a.refusal, (int)a.value, (int)refusal, (int)value);
+    CHECK(as_wanted(), "answer %d, %d changed the table", (int)a.refusal, (int)a.value);
+}
+
+/* The offer is stored in slot n, as this strict form, and nothing else changes. Then it is there, and is held. */
+static void stored(const bytes *b, const bytes *form, uint64_t value, size_t n)
+{
+    wanted = lent;
+    want_record(n, form);
+    kez_answer a = offer(b->at, b->len);
+    CHECK(is(a, 0, value), "%d at %d, not 0, %d", (int)a.refusal, (int)a.value, (int)value);
+    CHECK(as_wanted(), "stored otherwise than in slot %zu alone", n);
+    lend();
+    CHECK(is(view(n), 0, 0) && numbers[0] == KEZ_CELL_BYTES * n && numbers[1] == form->len, "slot %zu is not shown", n);
+    CHECK(numbers[2] == UINT64_C(0xfeedfacecafe0002), "a number that was not lent changed");
+    changes_nothing(b, 0, KEZ_TABLE_HELD);
+    changes_nothing(form, 0, KEZ_TABLE_HELD);
+}
+
+static void not_viewed(uint64_t n, uint64_t refusal, uint64_t place)
+{
+    wanted = lent;
+    lend();
+    kez_answer a = view(n);
+    CHECK(is(a, refusal, place), "slot %d: %d at %d", (int)n, (int)a.refusal, (int)a.value);
+    CHECK(untouched() && as_wanted(), "a refusal changed what was lent");
+}
+
+/* Every answer there is. Rules of part 15. */
+static void offers(void)
+{
+    static bytes b, loose;
+    start_table();
+    record(&b, 5, 1, 9, 30000, "map", 300);
+    stored(&b, &b, KEZ_TABLE_NEW, 0);
+    record(&b, 4, 1, 8, 30000, "map", 0);
+    changes_nothing(&b, 0, KEZ_TABLE_LOSES);
+    record(&b, 6, 1, 9, 30000, "map", 0);
+    changes_nothing(&b, 0, KEZ_TABLE_LOSES);
+    record(&b, 5, 1, 9, 30000, "map", 301); /* the same id and time, and not the same event */
+    changes_nothing(&b, 0, KEZ_TABLE_LOSES);
+    record(&b, 4, 1, 9, 30000, "map", 200); /* shorter: what is behind it stays */
+    stored(&b, &b, KEZ_TABLE_REPLACED, 0);
+    CHECK(lent.cells[200] == 'x' && lent.cells[299] && !lent.cells[300], "behind a shorter event");
+    record(&b, 9, 1, 10, 30000, "map", 0);
+    stored(&b, &b, KEZ_TABLE_REPLACED, 0);
+    record(&b, 9, 1, 9, 30000, "test", 0);
+    stored(&b, &b, KEZ_TABLE_NEW, 1);
+    record(&b, 9, 2, 9, 30000, "map", 0);
+    stored(&b, &b, KEZ_TABLE_NEW, 2);
+    record(&b, 9, 1, 9, 30001, "map", 0);
+    stored(&b, &b, KEZ_TABLE_NEW, 3);
+    record(&b, 9, 1, 9, 10000, "map", 0);
+    stored(&b, &b, KEZ_TABLE_NEW, 4);
+    record(&b, 8, 1, 9, 10000, "test", 0); /* the label plays no part in this kind */
+    stored(&b, &b, KEZ_TABLE_REPLACED, 4);
+    /* without a key: by id, whatever else it says; the ids of those with a key play no part */
+    record(&b, 9, 1, 9, 1, "map", 0);
+    stored(&b, &b, KEZ_TABLE_NEW, 5);
+    record(&b, 9, 2, 99, 40000, "", 500);
+    changes_nothing(&b, 0, KEZ_TABLE_HELD);
+    event(&b, 9, 30000); /* no tags, so no label: its id is 0 */
+    put_varint(&b, 0);
+    stored(&b, &b, KEZ_TABLE_NEW, 6);
+    event(&b, 10, 30000);
+    put_varint(&b, 0);
+    changes_nothing(&b, 0, KEZ_TABLE_HELD);
+    for (uint64_t kind = 20000; kind < 30000; kind += 9999) {
+        record(&b, 1, 1, 9, kind, "map", 0);
+        changes_nothing(&b, 0, KEZ_TABLE_NOT_KEPT);
+    }
+    /* a loose spelling is kept in strict form: padded numbers, and hex that goes as text */
+    start(&loose);
+    PUT(&loose, "\x80\x00\x03\x00\x01\x02\x02x\x08""beef");
+    start(&b);
+    PUT(&b, "\x00\x03\x00\x01\x02\x02x\x05\xbe\xef");
+    stored(&loose, &b, KEZ_TABLE_NEW, 7);
+    for (uint64_t n = 8; n <= 65; n++)
+        not_viewed(n, 19, 0);
+    not_viewed(UINT64_MAX, 19, 0);
+    not_viewed((uint64_t)1 << 32, 19, 0);
+    /* refused inputs */
+    changes_nothing(&(bytes){.len = 0}, 2, 0);
+    b.len--;
+    changes_nothing(&b, 2, 135);
+    b.len = 0;
+    fill(&b, 0, 65537);
+    changes_nothing(&b, 1, 0);
+    start_table();
+}
+
+/* What a cell can hold is measured in strict form; 22 comes before every answer, and after the reader's refusals. */
+static void cell_limits(void)
+{
+    static bytes b, loose;
+    start_table();
+    record(&b, 1, 1, 9, 0, "", KEZ_CELL_BYTES);
+    stored(&b, &b, KEZ_TABLE_NEW, 0);
+    for (size_t len = KEZ_CELL_BYTES + 1; len < KEZ_CELL_BYTES + 3; len++) {
+        static const uint64_t kinds[] = {0, 1, 10002, 20000, 29999, 30000};
+        for (size_t i = 0; i < sizeof kinds / sizeof *kinds; i++) {
+            record(&b, 1, 1, 1, kinds[i], "", len);
+            changes_nothing(&b, 22, 0);
+        }
+    }
+    b.len--;
+    changes_nothing(&b, 2, b.len);
+    start(&b);
+    PUT(&b, "\x00\x01");
+    put_varint(&b, KEZ_MOST - 134);
+    fill(&b, 'x', KEZ_MOST - 134);
+    put_varint(&b, 0);
+    changes_nothing(&b, 22, 0);
+    fill(&b, 0, 1);
+    changes_nothing(&b, 1, 0);
+    /* more than a cell as it is given, and no more in strict form */
+    record(&b, 2, 1, 9, 1, "", KEZ_CELL_BYTES);
+    loose = b;
+    memmove(loose.at + 138, loose.at + 129, loose.len - 129);
+    memset(loose.at + 128, 0x80, 10);
+    loose.at[128] = 0x89;
+    loose.at[137] = 0;
+    loose.len += 9;
+    stored(&loose, &b, KEZ_TABLE_NEW, 1);
+}
+
+/* A table of 64 records without a key; slot n has id n. */
+static void full_table(void)
+{
+    static bytes b;
+    start_table();
+    for (uint8_t n = 0; n < KEZ_SLOTS; n++) {
+        record(&b, n, 1, 9, 1, "map", 150 + n);
+        stored(&b, &b, KEZ_TABLE_NEW, n);
+    }
+}
+
+/* 23 is for what would take a new slot, and for nothing else. A free slot is taken, wherever it is. */
+static void no_free_slot(void)
+{
+    static bytes b;
+    full_table();
+    record(&b, 64, 1, 9, 1, "map", 0);
+    changes_nothing(&b, 23, 0);
+    record(&b, 64, 1, 9, 0, "map", 0);
+    changes_nothing(&b, 23, 0);
+    record(&b, 63, 1, 9, 1, "map", 0);
+    changes_nothing(&b, 0, KEZ_TABLE_HELD);
+    record(&b, 64, 1, 9, 20000, "map", 0);
+    changes_nothing(&b, 0, KEZ_TABLE_NOT_KEPT);
+    record(&b, 64, 1, 9, 1, "map", KEZ_CELL_BYTES + 1);
+    changes_nothing(&b, 22, 0);
+    changes_nothing(&(bytes){.len = 0}, 2, 0);
+    for (size_t n = 0; n < KEZ_SLOTS; n += 21) {
+        full_table();
+        memset(lent.slots + KEZ_SLOT_BYTES * n, 0xee, KEZ_SLOT_BYTES); /* all of it is written anew */
+        lent.slots[KEZ_SLOT_BYTES * n] = 0;
+        record(&b, 64, 1, 9, 0, "map", 140);
+        stored(&b, &b, KEZ_TABLE_NEW, n);
+        record(&b, 64, 1, 10, 0, "map", 0);
+        stored(&b, &b, KEZ_TABLE_REPLACED, n);
+        record(&b, 65, 1, 10, 1, "map", 0);
+        changes_nothing(&b, 23, 0);
+    }
+}
+
+/* A mark is any number but 0, and the seven bytes behind it are nobody's. Only what is stored anew changes them. */
+static void marks(void)
+{
+    static bytes b;
+    for (unsigned used = 1; used < 256; used++) {
+        start_table();
+        record(&b, 1, 1, 9, 0, "map", 200);
+        want_record(3, &b);
+        lent = wanted;
+        memset(lent.slots + KEZ_SLOT_BYTES * 3, (int)used, 8);
+        memset(lent.slots + KEZ_SLOT_BYTES * 4 + 1, (int)used, 15); /* a free one */
+        changes_nothing(&b, 0, KEZ_TABLE_HELD);
+        record(&b, 1, 1, 9, 1, "map", 0);
+        stored(&b, &b, KEZ_TABLE_NEW, 0);
+        record(&b, 1, 1, 10, 0, "map", 0);
+        stored(&b, &b, KEZ_TABLE_REPLACED, 3);
+    }
+}
+
+/* This table is refused with 34 at this place, whatever is offered. Emptied, it is a table again. */
+static void bad_table(uint64_t place)
+{
+    static bytes b;
+    record(&b, 99, 9, 9, 1, "map", 0);
+    changes_nothing(&b, 34, place);
+    record(&b, 99, 9, 9, 20000, "map", 2000);
+    changes_nothing(&b, 34, place);
+    changes_nothing(&(bytes){.len = 0}, 34, place);
+    b.len = 0;
+    fill(&b, 0, 65537);
+    changes_nothing(&b, 34, place);
+    not_viewed(place, 34, place);
+    not_viewed(0, 34, place);
+    not_viewed(UINT64_MAX, 34, place);
+    start_table();
+}
+
+/* What makes a slot a bad one by itself, in a table with nothing else and in a full one. */
+static void bad_slots(void)
+{
+    static bytes good, passing, loose, long_one;
+    static const size_t places[] = {0, 1, 40, 63};
+    static const uint64_t lengths[] = {0,    1,     127, 199, 201, 1024,
+                                       1025, 65536, UINT64_C(0x1000000c8), UINT64_C(1) << 63, UINT64_MAX};
+    record(&good, 99, 1, 9, 1, "map", 200);
+    record(&passing, 99, 1, 9, 20000, "map", 200);
+    record(&long_one, 99, 1, 9, 1, "map", KEZ_CELL_BYTES);
+    start(&loose);
+    PUT(&loose, "\x80\x00\x01\x00\x00");
+    for (int full = 0; full < 2; full++)
+        for (size_t i = 0; i < 4; i++) {
+            size_t n = places[i];
+            const struct {
+                const bytes *event;
+                uint64_t len;
+            } bad[] = {{&passing, passing.len}, {&loose, loose.len}, {&long_one, 1025}, {&long_one, 1023}};
+            for (size_t j = 0; j < sizeof bad / sizeof *bad + sizeof lengths / sizeof *lengths; j++) {
+                full ? full_table() : start_table();
+                wanted = lent;
+                memset(wanted.cells + KEZ_CELL_BYTES * n, 0, KEZ_CELL_BYTES);
+                if (j < 4)
+                    want(n, 1, bad[j].len, bad[j].event->at, bad[j].event->len);
+                else
+                    want(n, 1, lengths[j - 4], good.at, good.len);
+                lent = wanted;
+                bad_table(n);
+            }
+        }
+}
+
+/* Two of one name are both bad; what is bad by itself is nobody's twin; a free slot isn't either. */
+static void twins(void)
+{
+    static bytes one, other_one, passing, loose;
+    static const uint64_t kinds[] = {0, 3, 10000, 19999, 30000, 39999, 1, 4, 9999, 40000, 65535};
+    for (size_t i = 0; i < sizeof kinds / sizeof *kinds; i++) {
+        int keyless = i > 5;
+        start_table();
+        record(&one, 1, 1, 9, kinds[i], "map", 0);
+        record(&other_one, keyless ? 1 : 2, keyless ? 2 : 1, 10, kinds[i], "map", 300);
+        want_record(63, &one);
+        want_record(17, &other_one);
+        lent = wanted;
+        bad_table(17);
+        want_record(63, &one);
+        want_record(17, &other_one);
+        want_record(5, &one);
+        lent = wanted;
+        bad_table(5);
+        /* another name */
+        record(&other_one, keyless ? 2 : 1, keyless ? 1 : 2, 9, kinds[i], "map", 0);
+        want_record(63, &one);
+        want_record(17, &other_one);
+        lent = wanted;
+        changes_nothing(&one, 0, KEZ_TABLE_HELD);
+        changes_nothing(&other_one, 0, KEZ_TABLE_HELD);
+        /* the same id, with a key and without one */
+        start_table();
+        record(&other_one, 1, 1, 9, keyless ? 0 : 1, "map", 0);
+        want_record(63, &one);
+        want_record(17, &other_one);
+        want(16, 0, one.len, one.at, one.len);
+        lent = wanted;
+        changes_nothing(&one, 0, KEZ_TABLE_HELD);
+        changes_nothing(&other_one, 0, KEZ_TABLE_HELD);
+    }
+    start_table();
+    record(&one, 0, 0, 0, 1, "map", 0);
+    record(&passing, 0, 0, 0, 20000, "map", 0);
+    want_record(2, &one);
+    want_record(30, &passing);
+    lent = wanted;
+    bad_table(30);
+    start(&loose); /* its id is 0 too */
+    PUT(&loose, "\x80\x00\x01\x00\x00");
+    want_record(2, &one);
+    want_record(30, &loose);
+    lent = wanted;
+    bad_table(30);
+}
+
+/* Buffers of other sizes, for every entry; nothing of them changes. */
+static void table_sizes(void)
+{
+    static const size_t slots[] = {0, 1, 1008, 1023, 1024, 1025, 1040, 65536};
+    static const size_t cells[] = {0, 1, 64512, 65535, 65536, 65537, 66560};
+    static uint8_t larger[KEZ_CELLS_BYTES], copy[sizeof larger];
+    memset(larger, 0, sizeof larger);
+    for (size_t i = 0; i < 8; i++)
+        for (size_t j = 0; j < 7; j++) {
+            if (slots[i] == KEZ_SLOTS_BYTES && cells[j] == KEZ_CELLS_BYTES)
+                continue;
+            lend();
+            memcpy(copy, larger, sizeof copy);
+            CHECK(is(kez_table_empty(larger, slots[i], room, cells[j]), 34, 0), "%zu, %zu", slots[i], cells[j]);
+            CHECK(is(kez_table_offer(larger, slots[i], room, cells[j], vector.at, vector.len), 34, 0), "%zu, %zu",
+                  slots[i], cells[j]);
+            CHECK(is(kez_table_offer(larger, slots[i], room, cells[j], NULL, 0), 34, 0), "%zu, %zu", slots[i],
+                  cells[j]);
+            CHECK(is(kez_table_slot(larger, slots[i], room, cells[j], 99, numbers, numbers + 1), 34, 0), "%zu, %zu",
+                  slots[i], cells[j]);
+            CHECK(untouched() && !memcmp(copy, larger, sizeof copy), "a refusal changed what was lent");
+            memset(larger, 0xff, sizeof larger);
+        }
+    /* emptied, whatever they hold, and nothing around them */
+    lend();
+    memset(larger, 0xff, sizeof larger);
+    CHECK(is(kez_table_empty(larger, KEZ_SLOTS_BYTES, room, KEZ_CELLS_BYTES), 0, 0), "not emptied");
+    CHECK(untouched_from(KEZ_CELLS_BYTES) && larger[KEZ_SLOTS_BYTES] == 0xff, "emptied too much");
+    memset(&wanted, 0, sizeof wanted);
+    CHECK(!memcmp(larger, wanted.slots, KEZ_SLOTS_BYTES) && !memcmp(room, wanted.cells, KEZ_CELLS_BYTES), "not zero");
+}
+
+/* Five rivals and a record of another key, in every order: the same two are kept. */
+static void any_order(void)
+{
+    static bytes all[6];
+    static const uint8_t ids[] = {5, 3, 4, 1, 2}, times[] = {9, 10, 10, 8, 9};
+    for (size_t i = 0; i < 5; i++)
+        record(&all[i], ids[i], 1, times[i], 30000, "map", 200 + i);
+    record(&all[5], 1, 1, 9, 30000, "test", 0);
+    for (unsigned order = 0; order < 720; order++) {
+        size_t left[] = {0, 1, 2, 3, 4, 5};
+        start_table();
+        for (unsigned rest = order, count = 6; count; rest /= count--) {
+            size_t next = left[rest % count];
+            left[rest % count] = left[count - 1];
+            kez_answer a = offer(all[next].at, all[next].len);
+            CHECK(!a.refusal && a.value <= KEZ_TABLE_LOSES, "%d, %d", (int)a.refusal, (int)a.value);
+        }
+        size_t map = !memcmp(lent.cells, all[5].at, all[5].len);
+        lend();
+        CHECK(is(view(map), 0, 0) && numbers[1] == all[1].len, "order %u", order);
+        CHECK(!memcmp(lent.cells + KEZ_CELL_BYTES * map, all[1].at, all[1].len), "order %u keeps another one", order);
+        changes_nothing(&all[5], 0, KEZ_TABLE_HELD);
+        not_viewed(2, 19, 0);
+    }
 }
 
 /* The buffer that is lent beside room. */
@@ -1013,6 +1444,14 @@ int main(void)
     left_over();
     string_limits();
     rivals();
+    offers();
+    cell_limits();
+    no_free_slot();
+    marks();
+    bad_slots();
+    twins();
+    table_sizes();
+    any_order();
     printf("%d passed, %d failed\n", passed, failed);
     return failed != 0;
 }

@@ -1,4 +1,5 @@
-/* Kezubimoryu: Nostr events as notepack, its string form, canonical text, NSON and plain JSON.
+/* Kezubimoryu: Nostr events as notepack, its string form, canonical text, NSON and plain JSON; a table of current
+ * records.
  *
  * The caller lends byte buffers and numbers to each entry for one call and keeps owning them. Any bytes may be passed
  * as input: every entry returns on every input, with a result or with a refusal.
@@ -47,8 +48,8 @@ extern "C" {
 
 /* The version of this header; the tool and the pkg-config file have it from here. As a number: 10,000 for a major
  * version, 100 for a minor one, 1 for a patch. */
-#define KEZ_VERSION "0.6.0"
-#define KEZ_VERSION_NUMBER 600
+#define KEZ_VERSION "0.7.0"
+#define KEZ_VERSION_NUMBER 700
 
 /* The version of the library that runs, as such a number. A host that was compiled with this header and runs with the
  * library of the same version has kez_version() == KEZ_VERSION_NUMBER.
@@ -83,11 +84,11 @@ uint64_t kez_version(void);
 
 /* What every entry but kez_version answers. Rules 12.1.2 to 12.1.8.
  * Success: refusal is 0, and value is what the entry's comment says.
- * Refusal: refusal is a number from 1 to 21, and value is the place in the input where the fault was found, or the
- * input's length if the fault is at its end. Rule 10.N says when refusal N is given, and its place. Refusals 1, 17, 19
- * and 20 have no place of their own: value is then 0. With refusal 11, an output buffer that is too short, value is the
- * length needed; 11 is given only if there is no other refusal. For kez_notepack_string_read the places of 2 to 10 are
- * in the bytes that the text holds.
+ * Refusal: refusal is a number from 1 to 23, or 34, and value is the place in the input where the fault was found, or
+ * the input's length if the fault is at its end. Rule 10.N says when refusal N is given, and its place. Refusals 1, 17,
+ * 19, 20, 22 and 23 have no place of their own: value is then 0. With refusal 11, an output buffer that is too short,
+ * value is the length needed; 11 is given only if there is no other refusal. For kez_notepack_string_read the places of
+ * 2 to 10 are in the bytes that the text holds. With refusal 34 value is the number of a slot.
  * So refusal alone tells whether the call succeeded. After a refusal every buffer and number that was passed still
  * holds what it held before the call. After success the bytes behind the written length are unchanged. */
 typedef struct {
@@ -212,6 +213,79 @@ static inline int kez_rivals_refused(const uint8_t *first, size_t first_len)
     return a.refusal ? 1 : 2;
 }
 
+/* A table of current records. It is two byte buffers of the caller's: 64 slots of 16 bytes, and 64 cells of 1,024
+ * bytes. Slot n, from 0, tells of cell n, which is bytes 1,024 n to 1,024 n + 1,023 of the cells:
+ *     byte 0         0: the slot is free; any other number: it is used
+ *     bytes 1 to 7   never looked at; 0 where the library stores something
+ *     bytes 8 to 15  the length of the event at the start of the cell, little endian
+ * Every used slot has one event in strict form. Of the events with a key (see kez_rivals) the table has one for each
+ * key, the current one; of those without a key one for each id. Kinds 20000 to 29999 are never kept.
+ *
+ * Start with two buffers of these lengths, emptied once. They are plain bytes: a host may copy them, save them to a
+ * file and lend them again later, together. Offers and views look through the whole table first, so one that is no
+ * table any more is refused with 34; but a changed content or signature is not seen, since only the id and the
+ * signature could show it. The two buffers overlap neither each other nor what else is passed. Two threads must not
+ * call with the same table at once, unless both only view it.
+ * Rules 15. */
+#define KEZ_SLOTS 64
+#define KEZ_SLOT_BYTES 16
+#define KEZ_CELL_BYTES 1024
+#define KEZ_SLOTS_BYTES (KEZ_SLOTS * KEZ_SLOT_BYTES)
+#define KEZ_CELLS_BYTES (KEZ_SLOTS * KEZ_CELL_BYTES)
+
+/* What became of an event that was offered: the value of kez_table_offer. */
+#define KEZ_TABLE_NEW 0
+#define KEZ_TABLE_REPLACED 1
+#define KEZ_TABLE_LOSES 2
+#define KEZ_TABLE_HELD 3
+#define KEZ_TABLE_NOT_KEPT 4
+
+/* Empties a table, whatever the buffers hold: all KEZ_SLOTS_BYTES and all KEZ_CELLS_BYTES of them become 0.
+ * Refusals: 34 at 0 if slots_len is not KEZ_SLOTS_BYTES or cells_len is not KEZ_CELLS_BYTES; no other.
+ * value: 0
+ * Cost: constant.
+ * Rules 15. */
+kez_answer kez_table_empty(uint8_t *slots, size_t slots_len,
+                           uint8_t *cells, size_t cells_len);
+
+/* Offers a packed event to a table, which keeps it in strict form if it is to be kept.
+ * value: one of these.
+ * - KEZ_TABLE_NEW, stored: nothing was kept under its key or, if it has none, its id. It takes the lowest free slot.
+ * - KEZ_TABLE_REPLACED, stored in the slot of the event with the same key, which is gone: that one was earlier, or as
+ *   late and its id higher.
+ * - KEZ_TABLE_LOSES, not stored: the kept event with the same key is another one, and later, or as late and its id not
+ *   higher.
+ * - KEZ_TABLE_HELD, not stored: the table has the very same event, in whatever spelling it was offered; or, if it has
+ *   no key, an event without a key and with the same id, whatever else that says.
+ * - KEZ_TABLE_NOT_KEPT, not stored: its kind is one of 20000 to 29999.
+ *
+ * Where it is stored, the 16 bytes of its slot are written (1, seven times 0, the length), and as many bytes at the
+ * start of its cell as the strict form has. The rest of that cell and every other slot and cell stay as they were.
+ * With the other three values no byte of the table changes, and with a refusal none does either.
+ * Refusals: 34 for a table that is none: at 0 if slots_len is not KEZ_SLOTS_BYTES or cells_len is not KEZ_CELLS_BYTES,
+ * else at the lowest bad slot. A used slot is bad if its length is above KEZ_CELL_BYTES, if its cell has no event of
+ * that length in strict form, if that event's kind is never kept, or if another used slot, not bad by itself, has an
+ * event of the same key or, both without a key, of the same id. Then those of kez_notepack_read for the packed event;
+ * then 22 if its strict form has more than KEZ_CELL_BYTES bytes, whatever its kind; then 23 if it is to be stored new
+ * and no slot is free.
+ * Cost: linear in packed_len, and on top of that the time for the whole table, which has a bound: each kept event is
+ * read, and its key or id compared with those of the others.
+ * Stack: some 25 KB, for what is known of the 64 slots while the call lasts.
+ * Rules 8.1 to 8.11, 15; of the input 2.1 to 2.17; of what is stored 3.1 to 3.3. */
+kez_answer kez_table_offer(uint8_t *slots, size_t slots_len,
+                           uint8_t *cells, size_t cells_len,
+                           const uint8_t *packed, size_t packed_len);
+
+/* Finds the event that is kept in slot n. Stores its place in cells, which is n * KEZ_CELL_BYTES, and its length. A
+ * host that wants all of them asks for slots 0 to KEZ_SLOTS - 1 and passes over those that are refused with 19.
+ * Refusals: 34 as kez_table_offer gives it; then 19 if the slot is free or n is above 63.
+ * value: 0
+ * Cost: the time for the whole table, as for kez_table_offer, for each call.
+ * Rules 15. */
+kez_answer kez_table_slot(const uint8_t *slots, size_t slots_len,
+                          const uint8_t *cells, size_t cells_len,
+                          uint64_t n, uint64_t *at, uint64_t *len);
+
 /* Writes the canonical text of NIP-01 to out: [0,"pubkey",created_at,kind,tags,"content"]. An event's id is the SHA-256
  * of this text; the library does not compute it. An out_len of 3 * packed_len is always enough.
  * Refusals: those of kez_notepack_read; then 11.
@@ -292,11 +366,16 @@ static inline const char *kez_refusal_text(uint64_t number)
     case 16: return "A field stands there twice."; /* rule 10.16 */
     case 17: return "NSON can't carry this event."; /* rule 10.17 */
     case 18: return "Arrays and objects are nested more than 16 deep."; /* rule 10.18 */
-    case 19: return "There is no such tag or element."; /* rule 10.19 */
+    case 19: return "There is no such tag or element, or nothing is kept in this slot."; /* rule 10.19 */
     case 20: return "The text does not start with notepack_."; /* rule 10.20 */
     case 21: /* rule 10.21 */
         return "What follows notepack_ is not base64: a character outside its alphabet, "
                "a lone last one, or leftover bits that are not zero.";
+    case 22: return "The event's strict form is longer than 1,024 bytes, which is a cell of a table."; /* rule 10.22 */
+    case 23: return "The table has no free slot for another event."; /* rule 10.23 */
+    case 34: /* rule 10.34 */
+        return "The table is not as it must be: not of 64 slots and cells, "
+               "or a used slot without a strict event to be kept, or with the name of another.";
     default: return "There is no refusal with this number.";
     }
 }

@@ -3,12 +3,16 @@
 #include "kezubimoryu.h"
 
 #include <errno.h>
+#include <fcntl.h>
 #include <inttypes.h>
+#include <limits.h>
 #include <stdarg.h>
 #include <stdio.h>
 #include <stdlib.h>
 #include <string.h>
 #include <strings.h>
+#include <sys/file.h>
+#include <sys/stat.h>
 #include <unistd.h>
 
 enum { ACCEPTED = 0, REFUSED = 1, USAGE = 2 };
@@ -16,6 +20,7 @@ enum { ACCEPTED = 0, REFUSED = 1, USAGE = 2 };
 static const char help[] =
     "usage: kez COMMAND [--hex | --hex=in | --hex=out] [FILE] > OUTPUT\n"
     "       kez keep [--hex] FIRST SECOND\n"
+    "       kez table [--json] [--hex] FILE [RECORD ..]\n"
     "       kez --help | --version\n"
     "\n"
     "  list [--all | --json]\n"
@@ -31,6 +36,10 @@ static const char help[] =
     "  from-json     an event in plain JSON as a packed event\n"
     "  both          one text, put to both readers: the event, and which of them show it\n"
     "  keep          which of two packed events is kept: 'first', 'second' or 'not rivals'\n"
+    "  table         a table of current records, kept in FILE, which is made if it is not there:\n"
+    "                offers it each RECORD, a packed event, and says what came of it: 'new',\n"
+    "                'replaced', 'loses to its rival', 'held already' or 'not kept'; then lists\n"
+    "                what the table holds; --json: all that on one line, for programs\n"
     "\n"
     "  --hex         bytes are hexadecimal digits on both sides; =in, =out: on one side\n"
     "\n"
@@ -295,6 +304,8 @@ static const char *advice(uint64_t refusal, int input)
     case 17:
         return "NSON takes times of ten digits, no control character but the line end, at most 127 bytes of counts, "
                "65,536 bytes in all. Send packed bytes instead.";
+    case 22: return "No table keeps a record of that size: keep it in a file of its own.";
+    case 23: return "All 64 slots are used, and none by a version of this record. Offer it to another table file.";
     default: return NULL;
     }
 }
@@ -619,6 +630,12 @@ static void tell_column(const bytes *held, uint64_t place)
     fprintf(stderr, ".\n");
 }
 
+/* The length of the strict form, told by lending no room for it. */
+static void tell_length(const bytes *b)
+{
+    fprintf(stderr, "     Its strict form has %" PRIu64 " bytes.\n", kez_notepack_write(b->at, b->len, NULL, 0).value);
+}
+
 static void tell_lack(const bytes *b, kez_answer a, int input)
 {
     const char *name;
@@ -632,6 +649,8 @@ static void tell_lack(const bytes *b, kez_answer a, int input)
         tell_character(b, a.value);
     if (a.refusal == 21 && a.value == b->len)
         tell_end(b);
+    if (a.refusal == 22)
+        tell_length(b);
     if (input != JSON)
         return;
     if (a.refusal == 12 && (name = name_before(b, a.value)))
@@ -648,7 +667,7 @@ static void tell_lack(const bytes *b, kez_answer a, int input)
 /* Do these numbers have a place that shows something? */
 static int has_place(uint64_t refusal)
 {
-    return refusal != 1 && refusal != 11 && refusal != 17 && refusal != 19;
+    return refusal != 1 && refusal != 11 && refusal != 17 && refusal != 19 && refusal != 22 && refusal != 23;
 }
 
 /* The bytes around the place, and a mark below it: a text as it is, packed bytes as hex. */
@@ -682,10 +701,15 @@ static const char *what_to_do(const bytes *b, kez_answer a, int input)
     return a.refusal == 21 ? string_advice(b, (size_t)a.value) : advice(a.refusal, input);
 }
 
+static void tell_refusal(kez_answer a)
+{
+    fprintf(stderr, "refused %" PRIu64 " at %" PRIu64 ": %s\n", a.refusal, a.value, kez_refusal_text(a.refusal));
+}
+
 static int refused(const bytes *b, kez_answer a, int input)
 {
     const char *what = what_to_do(b, a, input);
-    fprintf(stderr, "refused %" PRIu64 " at %" PRIu64 ": %s\n", a.refusal, a.value, kez_refusal_text(a.refusal));
+    tell_refusal(a);
     if (has_place(a.refusal) && a.value <= b->len)
         show_place(b, a.value, input != PACKED && input != HELD);
     if (b->len)
@@ -695,7 +719,7 @@ static int refused(const bytes *b, kez_answer a, int input)
     return REFUSED;
 }
 
-/* Commands. Each takes what stands in first; keep takes second too. */
+/* Commands. Each takes what stands in first; keep takes second too, and table the files that are named. */
 
 static void put_text(const uint8_t *at, size_t len, int is_bytes)
 {
@@ -719,9 +743,10 @@ typedef struct {
     const char *open, *close, *tags, *texts;
 } frame;
 
+static uint8_t list[KEZ_ELEMENTS_MOST];
+
 static void put_tags(const frame *f, int numbered)
 {
-    static uint8_t list[KEZ_ELEMENTS_MOST];
     uint64_t count = kez_notepack_elements(first.at, first.len, 0, list, sizeof list).value;
     for (uint64_t i = 0; i < count; i++) {
         const uint8_t *e = list + i * KEZ_ELEMENT_BYTES;
@@ -879,18 +904,355 @@ static int do_keep(void)
     return refused(of_first ? &first : &second, a, PACKED);
 }
 
+/* A table of current records, in a file: the slots, and behind them the cells. */
+enum { TABLE = KEZ_SLOTS_BYTES + KEZ_CELLS_BYTES };
+
+/* the words behind the command: the table's file, then the records; how many they are */
+static const char **files;
+static int named;
+/* what was read of the file, a byte more than a table has if it is longer; how many bytes these are */
+static uint8_t table[TABLE + 1];
+static size_t table_len;
+
+static size_t slots_len(void)
+{
+    return table_len < KEZ_SLOTS_BYTES ? table_len : KEZ_SLOTS_BYTES;
+}
+
+static kez_answer offer(const bytes *b)
+{
+    size_t len = slots_len();
+    return kez_table_offer(table, len, table + len, table_len - len, b->at, b->len);
+}
+
+/* The event that is kept in this slot. */
+static kez_answer kept(uint64_t slot, bytes *b)
+{
+    size_t slots = slots_len();
+    uint64_t at = 0, len = 0;
+    kez_answer a = kez_table_slot(table, slots, table + slots, table_len - slots, slot, &at, &len);
+    *b = (bytes){table + slots + at, (size_t)len, (size_t)len};
+    return a;
+}
+
+/* Says what is wrong with the table's file. */
+static int failed(const char *why)
+{
+    fprintf(stderr, "kez: %s: %s\n", files[0], why);
+    return 0;
+}
+
+/* Why a table is bad. */
+
+/* Which bytes a slot says that it uses, as far as its cell goes; 0: it is free. */
+static int said(uint64_t slot, bytes *b, uint64_t *len)
+{
+    const uint8_t *at = table + slot * KEZ_SLOT_BYTES + 8;
+    *len = number_at(at) | (uint64_t)number_at(at + 4) << 32;
+    b->at = table + KEZ_SLOTS_BYTES + slot * KEZ_CELL_BYTES;
+    b->len = b->room = *len < KEZ_CELL_BYTES ? (size_t)*len : KEZ_CELL_BYTES;
+    return table[slot * KEZ_SLOT_BYTES];
+}
+
+/* Are these two strict events kept under one name: one key, or, both without a key, one id? */
+static int same_name(const bytes *a, const bytes *b)
+{
+    return kez_rivals(a->at, a->len, b->at, b->len).value ||
+           (!kez_rivals(a->at, a->len, a->at, a->len).value && !kez_rivals(b->at, b->len, b->at, b->len).value &&
+            !memcmp(a->at + KEZ_ID_AT, b->at + KEZ_ID_AT, KEZ_ID_LEN));
+}
+
+/* Is this a strict event of a kind that is kept? */
+static int is_fit(const bytes *b)
+{
+    uint64_t kind = 0, n[4];
+    kez_answer a = kez_notepack_read(b->at, b->len, &n[0], &kind, &n[1], &n[2], &n[3]);
+    return !a.refusal && (kind < 20000 || kind > 29999) && kez_notepack_is_strict(b->at, b->len).value;
+}
+
+/* The lowest other slot with an event of the same name. */
+static uint64_t twin(uint64_t slot, const bytes *b)
+{
+    bytes other;
+    uint64_t len, i = 0;
+    while (i < KEZ_SLOTS && (i == slot || !said(i, &other, &len) || len > KEZ_CELL_BYTES || !is_fit(&other) ||
+                             !same_name(b, &other)))
+        i++;
+    return i;
+}
+
+static void tell_slot(uint64_t slot)
+{
+    bytes b;
+    uint64_t len, kind = 0, n[4];
+    said(slot, &b, &len);
+    kez_answer a = kez_notepack_read(b.at, b.len, &n[0], &kind, &n[1], &n[2], &n[3]);
+    fprintf(stderr, "     Slot %" PRIu64, slot);
+    if (len > KEZ_CELL_BYTES) {
+        fprintf(stderr, " says %" PRIu64 " bytes, and a cell has %d.\n", len, KEZ_CELL_BYTES);
+    } else if (a.refusal) {
+        fprintf(stderr, " says %" PRIu64 " bytes, and these are no packed event: ", len);
+        tell_refusal(a);
+    } else if (!kez_notepack_is_strict(b.at, b.len).value) {
+        fprintf(stderr, " has a packed event that is not in its strict form.\n");
+    } else if (kind >= 20000 && kind <= 29999) {
+        fprintf(stderr, " has an event of kind %" PRIu64 ", and these are never kept.\n", kind);
+    } else {
+        fprintf(stderr, " and slot %" PRIu64 " have two events of which one alone may be kept.\n", twin(slot, &b));
+    }
+}
+
+static int refused_table(kez_answer a)
+{
+    fprintf(stderr, "%s: ", files[0]);
+    tell_refusal(a);
+    if (table_len != TABLE)
+        fprintf(stderr, "     It has %s%zu bytes, and a table has %d: %d of slots, then %d of cells.\n",
+                table_len > TABLE ? "at least " : "", table_len, TABLE, KEZ_SLOTS_BYTES, KEZ_CELLS_BYTES);
+    else
+        tell_slot(a.value);
+    fprintf(stderr, "     The file is no table, or was damaged; it was left as it is. Take a good copy of it, or offer "
+                    "the records to a new file.\n");
+    return REFUSED;
+}
+
+/* Reading and writing the file. */
+
+/* Takes the table from its file; one that is not there yet is emptied, and fresh says so. */
+static int read_table(int *fresh)
+{
+    struct stat what;
+    FILE *file = fopen(files[0], "rb");
+    if ((*fresh = !file && errno == ENOENT)) {
+        table_len = TABLE;
+        return !kez_table_empty(table, KEZ_SLOTS_BYTES, table + KEZ_SLOTS_BYTES, KEZ_CELLS_BYTES).refusal;
+    }
+    if (!file)
+        return failed(strerror(errno));
+    table_len = fread(table, 1, sizeof table, file);
+    int good = !ferror(file) || failed(strerror(errno));
+    if (good && (fstat(fileno(file), &what) || !S_ISREG(what.st_mode)))
+        good = failed("a table is an ordinary file");
+    fclose(file);
+    return good;
+}
+
+/* The first bytes of a path, so many, and more behind them. */
+static char *joined(const char *path, size_t len, const char *more)
+{
+    char *made = NULL;
+    return asprintf(&made, "%.*s%s", (int)len, path, more) < 0 ? NULL : made;
+}
+
+/* Locks the file's folder, so that of several tools at one table each waits for the other; -1: it can't be. It is
+ * unlocked as the tool ends. */
+static int lock(const char *path)
+{
+    const char *slash = strrchr(path, '/');
+    char *folder = joined(path, slash ? (size_t)(slash - path) + 1 : 0, ".");
+    int at = folder ? open(folder, O_RDONLY | O_DIRECTORY | O_CLOEXEC) : -1;
+    if (at < 0 || flock(at, LOCK_EX)) {
+        failed(strerror(errno));
+        at = -1;
+    }
+    free(folder);
+    return at;
+}
+
+/* The mode of the file, or that of a new one. */
+static mode_t mode_of(const char *path)
+{
+    struct stat what;
+    mode_t mask = umask(0);
+    umask(mask);
+    return stat(path, &what) ? 0666 & ~mask : what.st_mode & 07777;
+}
+
+/* Writes the table to this descriptor, whole and down to the disk. */
+static int write_whole(int to)
+{
+    size_t done = 0;
+    while (done < TABLE) {
+        ssize_t some = write(to, table + done, TABLE - done);
+        if (some < 0 && errno != EINTR)
+            return 0;
+        done += some > 0 ? (size_t)some : 0;
+    }
+    return !fsync(to);
+}
+
+/* Writes the table to a new file beside its own, which then takes its name: a reader sees the one or the other. */
+static int write_table(const char *path, int folder)
+{
+    char *fresh = joined(path, strlen(path), ".XXXXXX");
+    int to = fresh ? mkstemp(fresh) : -1;
+    int good = to >= 0 && write_whole(to) && !fchmod(to, mode_of(path)) && !rename(fresh, path);
+    int why = errno;
+    if (to >= 0)
+        close(to);
+    if (to >= 0 && !good)
+        unlink(fresh);
+    free(fresh);
+    if (!good)
+        return failed(strerror(why));
+    fsync(folder);
+    return 1;
+}
+
+/* Listing what is kept. */
+
+/* The label of an event of kinds 30000 to 39999: the second text of the first tag with "d" in front. NULL: none. */
+static const uint8_t *label(const bytes *b, uint64_t kind)
+{
+    uint64_t count = kez_notepack_elements(b->at, b->len, 0, list, sizeof list).value;
+    for (uint64_t i = 0; kind >= 30000 && kind <= 39999 && i < count; i++) {
+        const uint8_t *e = list + i * KEZ_ELEMENT_BYTES;
+        int heads = !i || number_at(e - KEZ_ELEMENT_BYTES) != number_at(e);
+        if (heads && number_at(e + 8) == 1 && !number_at(e + 12) && b->at[number_at(e + 4)] == 'd')
+            return i + 1 < count && number_at(e + KEZ_ELEMENT_BYTES) == number_at(e) ? e + KEZ_ELEMENT_BYTES : NULL;
+    }
+    return NULL;
+}
+
+static void put_field(const bytes *b, const char *name, size_t at, size_t len)
+{
+    put(json ? ",\"%s\":\"" : " %s ", name);
+    put_hex(b->at + at, len);
+    put(json ? "\"" : "");
+}
+
+/* One kept event and what it is kept under: author and label, author alone, or the id. With --json all of them. */
+static void put_kept(uint64_t slot, const bytes *b)
+{
+    uint64_t created_at = 0, kind = 0, n[3];
+    kez_notepack_read(b->at, b->len, &created_at, &kind, &n[0], &n[1], &n[2]);
+    int has_key = kez_rivals(b->at, b->len, b->at, b->len).value != 0;
+    const uint8_t *e = label(b, kind);
+    put(json ? "{\"slot\":%" PRIu64 ",\"kind\":%" PRIu64 ",\"created_at\":%" PRIu64 ",\"length\":%zu"
+             : "slot %" PRIu64 " kind %" PRIu64 " created_at %" PRIu64 " length %zu",
+        slot, kind, created_at, b->len);
+    if (json || !has_key)
+        put_field(b, "id", KEZ_ID_AT, KEZ_ID_LEN);
+    if (json || has_key)
+        put_field(b, "pubkey", KEZ_PUBKEY_AT, KEZ_PUBKEY_LEN);
+    if (e) {
+        put(json ? ",\"label\":" : " label ");
+        put_text(b->at + number_at(e + 4), number_at(e + 8), number_at(e + 12) == 1);
+    }
+    put(json ? "}" : "\n");
+}
+
+static void put_table(void)
+{
+    int count = 0;
+    bytes b;
+    put(json ? "\"slots\":[" : "");
+    for (uint64_t i = 0; i < KEZ_SLOTS; i++)
+        if (!kept(i, &b).refusal) {
+            put(json && count ? "," : "");
+            put_kept(i, &b);
+            count++;
+        }
+    put(json ? "]}\n" : "%d of 64 slots are used\n", count);
+}
+
+/* What came of the records: the answers stand in the order of these. */
+
+static const char *const outcomes[] = {"new", "replaced", "loses to its rival", "held already", "not kept"};
+
+static void put_offer_json(int number, kez_answer a)
+{
+    put("%s", number ? "," : "");
+    if (a.refusal)
+        put("{\"refusal\":%" PRIu64 ",\"place\":%" PRIu64 "}", a.refusal, a.value);
+    else
+        put("{\"outcome\":\"%s\"}", outcomes[a.value]);
+}
+
+static void put_offer(const char *name, const bytes *b, kez_answer a)
+{
+    if (a.refusal) {
+        /* in their order, where both go to one place */
+        written(!fflush(stdout));
+        fprintf(stderr, "%s: ", name);
+        refused(b, a, PACKED);
+    } else if (!json) {
+        put_quoted((const uint8_t *)name, strlen(name));
+        put(": %s\n", outcomes[a.value]);
+    }
+}
+
+static const char *shown_name(const char *name)
+{
+    return is_standard(name) ? "standard input" : name;
+}
+
+static int put_offers(const bytes *records, const kez_answer *answers, int count)
+{
+    int status = ACCEPTED;
+    put(json ? "{\"offers\":[" : "");
+    for (int i = 0; json && i < count; i++)
+        put_offer_json(i, answers[i]);
+    put(json ? "]," : "");
+    for (int i = 0; i < count; i++) {
+        put_offer(shown_name(files[i + 1]), &records[i], answers[i]);
+        status = answers[i].refusal ? REFUSED : status;
+    }
+    return status;
+}
+
+/* Offers the records, writes the table if it changed or is new, and only then says what came of them. A table that is
+ * listed only is not locked: its file is whole at any time. */
+static int run_table(const char *path, const bytes *records, kez_answer *answers, int count)
+{
+    bytes none;
+    int fresh, changed = 0, folder = -1;
+    if ((count || access(path, F_OK)) && (folder = lock(path)) < 0)
+        return USAGE;
+    if (!read_table(&fresh))
+        return USAGE;
+    kez_answer a = kept(KEZ_SLOTS, &none);
+    if (a.refusal == 34)
+        return refused_table(a);
+    for (int i = 0; i < count; i++) {
+        answers[i] = offer(&records[i]);
+        changed |= !answers[i].refusal && answers[i].value <= KEZ_TABLE_REPLACED;
+    }
+    if ((fresh || changed) && !write_table(path, folder))
+        return USAGE;
+    if (fresh)
+        fprintf(stderr, "kez: %s: a new table\n", files[0]);
+    int status = put_offers(records, answers, count);
+    put_table();
+    return status;
+}
+
+/* All records are read before the table is: a tool that feeds this one may use the same table. */
+static int do_table(void)
+{
+    int count = named - 1, good = 1;
+    bytes *records = calloc((size_t)named, sizeof *records);
+    kez_answer *answers = calloc((size_t)named, sizeof *answers);
+    char *path = realpath(files[0], NULL);
+    for (int i = 0; records && answers && good && i < count; i++)
+        good = read_file(&records[i], files[i + 1]);
+    if (!records || !answers)
+        good = failed("there is no memory for so many records");
+    return good ? run_table(path ? path : files[0], records, answers, count) : USAGE;
+}
+
 typedef struct {
     const char *name;
     int files;
     int (*run)(void);
 } command;
 
-/* one file may be named, or none; with keep two must be */
+/* one file may be named, or none; with keep two must be; with table one or more */
 static const command commands[] = {
     {"list", 1, do_list},           {"strict", 1, do_strict},           {"pack", 1, do_pack},
     {"to-letter", 1, do_to_string}, {"from-letter", 1, do_from_string}, {"canonical", 1, do_canonical},
     {"to-nson", 1, do_to_nson},     {"from-nson", 1, do_from_nson},     {"from-json", 1, do_from_json},
-    {"both", 1, do_both},           {"keep", 2, do_keep},
+    {"both", 1, do_both},           {"keep", 2, do_keep},               {"table", INT_MAX, do_table},
 };
 
 static const command *find(const char *name)
@@ -912,19 +1274,50 @@ static int option(const char *word, const command *c)
         hex_out = 1;
     else if (!strcmp(word, "--all") && c && c->run == do_list)
         all = 1;
-    else if (!strcmp(word, "--json") && c && c->run == do_list)
+    else if (!strcmp(word, "--json") && c && (c->run == do_list || c->run == do_table))
         json = 1;
     else
         return 0;
     return 1;
 }
 
+/* Can the files be what the command takes? What is wrong is said. */
+static int are_files(const command *c)
+{
+    int standard = 0;
+    for (int i = 0; i < named; i++)
+        standard += is_standard(files[i]);
+    if (c->files == 2 && named < 2)
+        usage("two files are needed, the first and the second record", NULL);
+    else if (c->files == 2 && standard == 2)
+        usage("standard input can be one of the two records only", NULL);
+    else if (c->run == do_table && (!named || is_standard(files[0])))
+        usage("the table's file is needed first; it can't be standard input", NULL);
+    else if (c->run == do_table && standard > 1)
+        usage("standard input can be one of the records only", NULL);
+    else
+        return 1;
+    return 0;
+}
+
+/* The commands with a fixed number of files get them read. */
+static int run(const command *c)
+{
+    string_in = c->run == do_from_string;
+    if (c->run == do_table)
+        return do_table();
+    if (!read_file(&first, named ? files[0] : "-") || (c->files == 2 && !read_file(&second, files[1])))
+        return USAGE;
+    return c->run();
+}
+
 int main(int count, char **words)
 {
     const command *c = NULL;
-    const char *files[2] = {"-", NULL};
-    int given = 0;
     on_terminal = isatty(1);
+    files = calloc((size_t)count + 1, sizeof *files);
+    if (!files)
+        return usage("there is no memory", NULL);
     for (int i = 1; i < count; i++) {
         if (!strcmp(words[i], "--help") || !strcmp(words[i], "-h")) {
             put("%s", help);
@@ -940,8 +1333,8 @@ int main(int count, char **words)
         } else if (!c) {
             if (!(c = find(words[i])))
                 return usage("there is no such command", words[i]);
-        } else if (given < c->files) {
-            files[given++] = words[i];
+        } else if (named < c->files) {
+            files[named++] = words[i];
         } else {
             return usage(c->files == 2 ? "too many words; keep takes two files" : "too many words; one file is read",
                          words[i]);
@@ -949,12 +1342,5 @@ int main(int count, char **words)
     }
     if (!c)
         return usage("which command?", NULL);
-    if (c->files == 2 && given < 2)
-        return usage("two files are needed, the first and the second record", NULL);
-    if (c->files == 2 && is_standard(files[0]) && is_standard(files[1]))
-        return usage("standard input can be one of the two records only", NULL);
-    string_in = c->run == do_from_string;
-    if (!read_file(&first, files[0]) || (c->files == 2 && !read_file(&second, files[1])))
-        return USAGE;
-    return finish(c->run());
+    return are_files(c) ? finish(run(c)) : USAGE;
 }

@@ -15,13 +15,14 @@
 
 enum {
     READ, STRICT, PACK, TAG_LEN, ELEMENT, ELEMENTS, CANONICAL, NSON_WRITE, NSON_READ, JSON_READ, READ_BOTH, RIVALS,
-    STRING_WRITE, STRING_READ
+    STRING_WRITE, STRING_READ, TABLE_EMPTY, TABLE_OFFER, TABLE_SLOT
 };
 
 const char *const entry_names[ENTRIES] = {
     "kez_notepack_read", "kez_notepack_is_strict", "kez_notepack_write", "kez_notepack_tag_len", "kez_notepack_element",
     "kez_notepack_elements", "kez_canonical_write", "kez_nson_write", "kez_nson_read", "kez_json_read", "kez_read_both",
-    "kez_rivals", "kez_notepack_string_write", "kez_notepack_string_read",
+    "kez_rivals", "kez_notepack_string_write", "kez_notepack_string_read", "kez_table_empty", "kez_table_offer",
+    "kez_table_slot",
 };
 
 void (*answered)(int entry, uint64_t refusal, uint64_t value);
@@ -127,7 +128,8 @@ static void unchanged(const buffer *b, size_t written, const char *what)
 
 /* The refusals that the header allows each entry, one bit for each number. */
 enum { PACKED_ONES = 0x7fe, ROOM = 1 << 11, NO_SUCH = 1 << 19, NOT_CARRIED = 1 << 17 };
-static const uint32_t allowed[ENTRIES] = {
+#define BAD_TABLE (UINT64_C(1) << 34)
+static const uint64_t allowed[ENTRIES] = {
     [READ] = PACKED_ONES,
     [STRICT] = PACKED_ONES,
     [PACK] = PACKED_ONES | ROOM,
@@ -142,6 +144,9 @@ static const uint32_t allowed[ENTRIES] = {
     [RIVALS] = PACKED_ONES,
     [STRING_WRITE] = PACKED_ONES | ROOM,
     [STRING_READ] = 1 << 20 | 1 << 21 | PACKED_ONES | ROOM,
+    [TABLE_EMPTY] = BAD_TABLE,
+    [TABLE_OFFER] = BAD_TABLE | PACKED_ONES | 1 << 22 | 1 << 23,
+    [TABLE_SLOT] = BAD_TABLE | NO_SUCH,
 };
 
 /* No entry needs more room than this. */
@@ -157,7 +162,8 @@ static kez_answer checked(kez_answer a)
     must(a.refusal <= REFUSALS, "has a refusal that does not exist");
     must(!a.refusal || (allowed[current] >> a.refusal & 1), "has a refusal of another entry");
     size_t longest = current == RIVALS && in_second.len > in_first.len ? in_second.len : in_first.len;
-    must(!a.refusal || a.refusal == 11 || a.value <= longest, "has a place that is not in the input");
+    size_t last = a.refusal == 34 ? KEZ_SLOTS - 1 : longest;
+    must(!a.refusal || a.refusal == 11 || a.value <= last, "has a place that is not in the input");
     if (answered)
         answered(current, a.refusal, a.value);
     return a;
@@ -613,14 +619,342 @@ static void as_rivals(const uint8_t *data, size_t len, const uint8_t *other, siz
         must(!memcmp(data, other, 32), "ties though the ids differ");
 }
 
+/* A table of records, and an input that is offered to it */
+
+typedef struct {
+    uint8_t slots[KEZ_SLOTS_BYTES], cells[KEZ_CELLS_BYTES];
+} table;
+
+static table kept; /* the harness's own: the library is lent a copy */
+static buffer slots_buffer, cells_buffer;
+static uint8_t slots_copy[SIZE + BESIDE], cells_copy[SIZE + BESIDE];
+
+static uint8_t *cell_of(table *t, size_t n)
+{
+    return t->cells + KEZ_CELL_BYTES * n;
+}
+
+static int is_used(const table *t, size_t n)
+{
+    return t->slots[KEZ_SLOT_BYTES * n] != 0;
+}
+
+static uint64_t length_of(const table *t, size_t n)
+{
+    const uint8_t *slot = t->slots + KEZ_SLOT_BYTES * n;
+    return four_bytes(slot + 8) | four_bytes(slot + 12) << 32;
+}
+
+/* What is put into a slot by hand: any mark but 0 makes it a used one, and seven bytes of it are nobody's. */
+static void put_slot(table *t, size_t n, uint8_t used, uint8_t beside, uint64_t len)
+{
+    uint8_t *slot = t->slots + KEZ_SLOT_BYTES * n;
+    memset(slot, beside, 8);
+    slot[0] = used;
+    for (int i = 8; i < 16; i++, len >>= 8)
+        slot[i] = (uint8_t)len;
+}
+
+static void lend_table(void)
+{
+    lend_input(&slots_buffer, kept.slots, sizeof kept.slots, slots_copy);
+    lend_input(&cells_buffer, kept.cells, sizeof kept.cells, cells_copy);
+}
+
+/* After a call: nothing beside the two buffers changed, and they hold this table. */
+static void must_hold(const table *t, const char *what)
+{
+    unchanged(&slots_buffer, slots_buffer.len, "changes something beside the slots");
+    unchanged(&cells_buffer, cells_buffer.len, "changes something beside the cells");
+    must(!memcmp(slots_buffer.at, t->slots, sizeof t->slots), what);
+    must(!memcmp(cells_buffer.at, t->cells, sizeof t->cells), what);
+}
+
+/* What the other entries say of tables */
+
+static int kind_passes(const uint8_t *packed, size_t len)
+{
+    uint64_t kind, none;
+    kez_notepack_read(packed, len, &none, &kind, &none, &none, &none);
+    return kind >= 20000 && kind <= 29999;
+}
+
+/* Does the slot hold a strict event that may be kept? */
+static int is_fit(table *t, size_t n)
+{
+    if (length_of(t, n) > KEZ_CELL_BYTES)
+        return 0;
+    kez_answer strict = kez_notepack_is_strict(cell_of(t, n), length_of(t, n));
+    return !strict.refusal && strict.value && !kind_passes(cell_of(t, n), length_of(t, n));
+}
+
+/* An event that has a key is its own rival. */
+static int has_key(const uint8_t *packed, size_t len)
+{
+    return kez_rivals(packed, len, packed, len).value != 0;
+}
+
+static int one_name(const uint8_t *a, size_t a_len, const uint8_t *b, size_t b_len)
+{
+    if (kez_rivals(a, a_len, b, b_len).value)
+        return 1;
+    return !memcmp(a, b, KEZ_ID_LEN) && !has_key(a, a_len) && !has_key(b, b_len);
+}
+
+/* The lowest bad slot, or KEZ_SLOTS. */
+static size_t lowest_bad(table *t)
+{
+    int fit[KEZ_SLOTS];
+    for (size_t n = 0; n < KEZ_SLOTS; n++)
+        fit[n] = is_used(t, n) && is_fit(t, n);
+    for (size_t n = 0; n < KEZ_SLOTS; n++) {
+        if (is_used(t, n) && !fit[n])
+            return n;
+        for (size_t m = n + 1; m < KEZ_SLOTS && fit[n]; m++)
+            if (fit[m] && one_name(cell_of(t, n), length_of(t, n), cell_of(t, m), length_of(t, m)))
+                return n;
+    }
+    return KEZ_SLOTS;
+}
+
+/* The answer to a strict event that may be kept, and in n the slot that it is stored in, if it is. */
+static kez_answer placed(table *t, const uint8_t *strict, size_t len, size_t *n)
+{
+    size_t lowest_free = KEZ_SLOTS;
+    for (size_t i = KEZ_SLOTS; i-- > 0;) {
+        const uint8_t *cell = cell_of(t, i);
+        size_t cell_len = length_of(t, i);
+        if (!is_used(t, i)) {
+            lowest_free = i;
+        } else if (one_name(cell, cell_len, strict, len)) {
+            *n = i;
+            if (!has_key(strict, len) || (cell_len == len && !memcmp(cell, strict, len)))
+                return (kez_answer){0, KEZ_TABLE_HELD};
+            int wins = kez_rivals(cell, cell_len, strict, len).value == 2;
+            return (kez_answer){0, wins ? KEZ_TABLE_REPLACED : KEZ_TABLE_LOSES};
+        }
+    }
+    *n = lowest_free;
+    return lowest_free < KEZ_SLOTS ? (kez_answer){0, KEZ_TABLE_NEW} : (kez_answer){23, 0};
+}
+
+/* The answer to any offer; what is stored is left in strict. */
+static kez_answer foretold(table *t, const uint8_t *data, size_t len, own *strict, size_t *n)
+{
+    size_t bad = lowest_bad(t);
+    if (bad < KEZ_SLOTS)
+        return (kez_answer){34, bad};
+    kez_answer written = kez_notepack_write(data, len, strict->at, SIZE);
+    if (written.refusal)
+        return written;
+    strict->len = written.value;
+    if (strict->len > KEZ_CELL_BYTES)
+        return (kez_answer){22, 0};
+    if (kind_passes(data, len))
+        return (kez_answer){0, KEZ_TABLE_NOT_KEPT};
+    return placed(t, strict->at, strict->len, n);
+}
+
+static kez_answer view_slot(uint64_t n)
+{
+    current = TABLE_SLOT;
+    lend_table();
+    lend_numbers(2);
+    kez_answer a = checked(kez_table_slot(slots_buffer.at, slots_buffer.len, cells_buffer.at, cells_buffer.len, n,
+                                          number(0), number(1)));
+    take_numbers(a, 2);
+    must_hold(&kept, "changes the table");
+    return a;
+}
+
+/* A slot shows what stands in it; of a table that is none 34 is told, whichever slot is asked for. */
+static void viewed(size_t bad)
+{
+    uint64_t n = roll(8) ? roll(KEZ_SLOTS) : roll(2) ? KEZ_SLOTS + roll(9) : UINT64_MAX - roll(2);
+    kez_answer a = view_slot(n), wanted = {0, 0};
+    if (bad < KEZ_SLOTS)
+        wanted = (kez_answer){34, bad};
+    else if (n >= KEZ_SLOTS || !is_used(&kept, n))
+        wanted = (kez_answer){19, 0};
+    must(same(a, wanted), "answers otherwise than the slot stands there");
+    must(a.refusal || (numbers[0] == KEZ_CELL_BYTES * n && numbers[1] == length_of(&kept, n)), "shows another place");
+}
+
+/* What was stored is shown in slot n and in no other. */
+static void shown_once(const own *strict, size_t n)
+{
+    for (size_t i = 0; i < KEZ_SLOTS; i++) {
+        if (i != n && roll(32))
+            continue;
+        kez_answer a = view_slot(i);
+        int is_it = !a.refusal && numbers[1] == strict->len &&
+                    !memcmp(kept.cells + numbers[0], strict->at, strict->len);
+        must(is_it == (i == n), "does not show what was stored in one slot alone");
+    }
+}
+
+static kez_answer offer(const uint8_t *data, size_t len)
+{
+    current = TABLE_OFFER;
+    lend_input(&in_first, data, len, first_copy);
+    lend_table();
+    return checked(kez_table_offer(slots_buffer.at, slots_buffer.len, cells_buffer.at, cells_buffer.len,
+                                   lent(&in_first), in_first.len));
+}
+
+/* One offer: the answer and every byte of the table are what the other entries say. Then the same is held. */
+static void offered(const uint8_t *data, size_t len)
+{
+    static own strict;
+    size_t n = KEZ_SLOTS;
+    kez_answer wanted = foretold(&kept, data, len, &strict, &n);
+    kez_answer a = offer(data, len);
+    must(same(a, wanted), "answers otherwise than the other entries say");
+    if (a.refusal || a.value > KEZ_TABLE_REPLACED) {
+        must_hold(&kept, "stores nothing, and changes the table");
+        return;
+    }
+    put_slot(&kept, n, 1, 0, strict.len);
+    memcpy(cell_of(&kept, n), strict.at, strict.len);
+    must_hold(&kept, "stores something else than the strict form, or elsewhere too");
+    shown_once(&strict, n);
+    must(same(offer(data, len), (kez_answer){0, KEZ_TABLE_HELD}), "does not hold what it stored");
+    must_hold(&kept, "holds an event, and changes the table");
+}
+
+/* A strict record, one of few: of its kind, its author, its id, its time and its label there are some. It is small, or
+ * about as long as a cell. */
+static void small_record(own *r)
+{
+    static const uint16_t kinds[] = {0, 1, 3, 4, 10000, 19999, 20000, 29999, 30000, 30000, 30000, 39999, 40000};
+    static const char *const labels[] = {"", "g", "map", "Map", "maps"};
+    const char *label = labels[roll(5)];
+    uint16_t kind = kinds[roll(13)];
+    memset(r->at, 0x55, 128);
+    r->at[roll(2) ? 0 : 31] = (uint8_t)roll(4);
+    r->at[63] = (uint8_t)roll(2);
+    r->len = 128;
+    r->at[r->len++] = (uint8_t)roll(3);
+    for (; kind >= 0x80; kind >>= 7)
+        r->at[r->len++] = (uint8_t)(kind | 0x80);
+    r->at[r->len++] = (uint8_t)kind;
+    size_t content = roll(16) ? 0 : 870 + roll(30);
+    if (content)
+        r->at[r->len++] = (uint8_t)(content | 0x80);
+    r->at[r->len++] = (uint8_t)(content >> 7);
+    memset(r->at + r->len, 'x', content);
+    r->len += content;
+    r->at[r->len++] = roll(8) != 0;
+    if (!r->at[r->len - 1])
+        return;
+    r->at[r->len++] = 2;
+    r->at[r->len++] = 2;
+    r->at[r->len++] = 'd';
+    r->at[r->len++] = (uint8_t)(2 * strlen(label));
+    memcpy(r->at + r->len, label, strlen(label));
+    r->len += strlen(label);
+}
+
+/* Something that is wrong with a slot, or only looks so. */
+static void damage_slot(size_t n)
+{
+    uint8_t *slot = kept.slots + KEZ_SLOT_BYTES * n, *cell = cell_of(&kept, n);
+    size_t other = roll(KEZ_SLOTS);
+    switch (roll(7)) {
+    case 0: put_slot(&kept, n, 1, 0, roll(2) ? 0 : KEZ_CELL_BYTES + roll(3)); break;
+    case 1: slot[8] ^= 1; break;
+    case 2: slot[8 + roll(8)] ^= (uint8_t)(1 << roll(8)); break;
+    case 3: cell[128 + roll(16)] ^= (uint8_t)(1 << roll(8)); break;
+    case 4: slot[0] = 0; break;
+    case 5: slot[0] = 1; break;
+    default:
+        memcpy(slot, kept.slots + KEZ_SLOT_BYTES * other, KEZ_SLOT_BYTES);
+        memcpy(cell, cell_of(&kept, other), KEZ_CELL_BYTES);
+    }
+}
+
+/* Buffers of other sizes are refused by each of the three, and stay as they are. */
+static void other_sizes(void)
+{
+    size_t slots_len = roll(2) ? sizeof kept.slots : roll(2 * sizeof kept.slots);
+    size_t cells_len = roll(2) ? sizeof kept.cells : roll(2 * sizeof kept.cells);
+    static uint8_t bytes[2 * sizeof kept.cells];
+    uint64_t numbers_lent[2] = {1, 2};
+    if (slots_len == sizeof kept.slots && cells_len == sizeof kept.cells)
+        return;
+    memset(bytes, (int)roll(256), sizeof bytes);
+    lend_input(&slots_buffer, bytes, slots_len, slots_copy);
+    lend_input(&cells_buffer, bytes, cells_len, cells_copy);
+    uint8_t *slots = lent(&slots_buffer), *cells = lent(&cells_buffer);
+    kez_answer all[] = {
+        kez_table_empty(slots, slots_len, cells, cells_len),
+        kez_table_offer(slots, slots_len, cells, cells_len, lent(&in_first), in_first.len),
+        kez_table_slot(slots, slots_len, cells, cells_len, roll(99), numbers_lent, numbers_lent + 1),
+    };
+    for (int i = 0; i < 3; i++) {
+        current = TABLE_EMPTY + i;
+        must(same(checked(all[i]), (kez_answer){34, 0}), "takes buffers of another size");
+        unchanged(&slots_buffer, 0, "changes slots of another size");
+        unchanged(&cells_buffer, 0, "changes cells of another size");
+    }
+    must(numbers_lent[0] == 1 && numbers_lent[1] == 2, "changes a number that it must leave");
+}
+
+static void emptied(void)
+{
+    current = TABLE_EMPTY;
+    memset(&kept, (int)roll(256), sizeof kept);
+    lend_table();
+    kez_answer a = kez_table_empty(slots_buffer.at, slots_buffer.len, cells_buffer.at, cells_buffer.len);
+    accepted(checked(a), 0, "does not empty a table");
+    memset(&kept, 0, sizeof kept);
+    must_hold(&kept, "leaves something in an emptied table");
+}
+
+/* Some slots are filled by hand, in a full table all; a slot or two may be damaged. */
+static void fill_table(void)
+{
+    static own r;
+    size_t count = roll(12) ? roll(6) : KEZ_SLOTS;
+    for (size_t i = 0; i < count; i++) {
+        size_t n = count == KEZ_SLOTS ? i : roll(12) ? roll(KEZ_SLOTS) : roll(2) ? 0 : KEZ_SLOTS - 1;
+        small_record(&r);
+        if (count == KEZ_SLOTS)
+            r.at[40] = r.at[10] = (uint8_t)n; /* another author and another id for each */
+        memcpy(cell_of(&kept, n), r.at, r.len < KEZ_CELL_BYTES ? r.len : KEZ_CELL_BYTES);
+        put_slot(&kept, n, (uint8_t)(1 + roll(255)), (uint8_t)roll(256), r.len);
+        if (kind_passes(r.at, r.len) && roll(16))
+            kept.slots[KEZ_SLOT_BYTES * n] = 0;
+    }
+    for (uint64_t faults = roll(6) ? 0 : 1 + roll(2); faults > 0; faults--)
+        damage_slot(roll(KEZ_SLOTS));
+}
+
+static void as_offers(const uint8_t *data, size_t len, const uint8_t *other, size_t other_len)
+{
+    static own r;
+    emptied();
+    fill_table();
+    viewed(lowest_bad(&kept));
+    offered(data, len);
+    for (int i = 0; i < 4; i++) {
+        small_record(&r);
+        offered(r.at, r.len);
+    }
+    offered(other, other_len);
+    viewed(lowest_bad(&kept));
+    if (!roll(8))
+        other_sizes();
+}
+
 void properties(const uint8_t *data, size_t len, const uint8_t *other, size_t other_len, uint64_t choices)
 {
     dice = choices;
     if (!in_first.low) {
         for (size_t i = 0; i < sizeof pattern; i++)
             pattern[i] = (uint8_t)roll(256);
-        buffer *all[] = {&in_first, &in_second, &out_first, &out_second, &number_buffer};
-        for (int i = 0; i < 5; i++)
+        buffer *all[] = {&in_first, &in_second, &out_first, &out_second, &number_buffer, &slots_buffer, &cells_buffer};
+        for (size_t i = 0; i < sizeof all / sizeof *all; i++)
             make(all[i]);
         dice = choices;
     }
@@ -630,4 +964,7 @@ void properties(const uint8_t *data, size_t len, const uint8_t *other, size_t ot
     as_text(data, len);
     read_string(data, len);
     as_rivals(data, len, other, other_len);
+    /* a table is large: one input of four is offered to one */
+    if (!roll(4))
+        as_offers(data, len, other, other_len);
 }

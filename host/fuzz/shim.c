@@ -136,6 +136,48 @@ WRITER(kez_notepack_string_read)
         a.refusal = 20;
     return a;
 }
+#elif PLANTED >= 22 && PLANTED <= 26 /* of an offer to a table, see host/fuzz/planted */
+typedef kez_answer offers(uint8_t *slots, size_t slots_len, uint8_t *cells, size_t cells_len, const uint8_t *in, size_t in_len);
+offers __real_kez_table_offer, __wrap_kez_table_offer;
+kez_answer __wrap_kez_table_offer(uint8_t *slots, size_t slots_len, uint8_t *cells, size_t cells_len, const uint8_t *in, size_t in_len)
+{
+    kez_answer a = __real_kez_table_offer(slots, slots_len, cells, cells_len, in, in_len);
+    int stored = !a.refusal && a.value <= KEZ_TABLE_REPLACED;
+    if (!shows(in, in_len))
+        return a;
+    if (PLANTED == 22 && !stored && cells_len)
+        cells[cells_len / 2] ^= 1;
+    if (PLANTED == 23 && stored)
+        cells[KEZ_CELL_BYTES - 1] ^= 1;
+    if (PLANTED == 24 && !a.refusal && a.value == KEZ_TABLE_LOSES)
+        a.value = KEZ_TABLE_HELD;
+    if (PLANTED == 25 && a.refusal == 34 && a.value)
+        a.value--;
+    if (PLANTED == 26 && stored && slots[0])
+        slots[1] ^= 1;
+    return a;
+}
+#elif PLANTED == 27 /* a slot's event is shown a byte too long */
+typedef kez_answer views(const uint8_t *slots, size_t slots_len, const uint8_t *cells, size_t cells_len, uint64_t n, uint64_t *at, uint64_t *len);
+views __real_kez_table_slot, __wrap_kez_table_slot;
+kez_answer __wrap_kez_table_slot(const uint8_t *slots, size_t slots_len, const uint8_t *cells, size_t cells_len, uint64_t n, uint64_t *at, uint64_t *len)
+{
+    kez_answer a = __real_kez_table_slot(slots, slots_len, cells, cells_len, n, at, len);
+    if (!a.refusal && shows(slots, slots_len))
+        ++*len;
+    return a;
+}
+#elif PLANTED == 28 /* a byte is left in an emptied table */
+typedef kez_answer empties(uint8_t *slots, size_t slots_len, uint8_t *cells, size_t cells_len);
+empties __real_kez_table_empty, __wrap_kez_table_empty;
+kez_answer __wrap_kez_table_empty(uint8_t *slots, size_t slots_len, uint8_t *cells, size_t cells_len)
+{
+    int shown = slots_len && shows(slots, slots_len);
+    kez_answer a = __real_kez_table_empty(slots, slots_len, cells, cells_len);
+    if (!a.refusal && shown)
+        cells[cells_len - 1] = 1;
+    return a;
+}
 #elif PLANTED >= 9 /* a refusal of both readers is told as success; the length of what was written is one too many */
 typedef kez_answer both(const uint8_t *in, size_t in_len, uint8_t *first, size_t first_len, uint8_t *second, size_t second_len, uint64_t *written);
 both __real_kez_read_both, __wrap_kez_read_both;

@@ -29,6 +29,9 @@ pub const TOO_DEEP: u8 = 18;
 pub const NO_SUCH: u8 = 19;
 pub const NOT_A_STRING_FORM: u8 = 20;
 pub const NOT_BASE64: u8 = 21;
+pub const TOO_LONG_TO_KEEP: u8 = 22;
+pub const NO_FREE_SLOT: u8 = 23;
+pub const BAD_TABLE: u8 = 34;
 
 #[cold]
 pub fn refuse<T>(number: u8, place: usize) -> Answer<T> {

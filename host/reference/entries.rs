@@ -2,7 +2,8 @@
 
 use crate::answer::{Answer, Refusal};
 use crate::rivals::Choice;
-use crate::{both, canonical, json, notepack, nson, rivals, string_form};
+use crate::table::Offered;
+use crate::{both, canonical, json, notepack, nson, rivals, string_form, table};
 
 #[repr(C)]
 pub struct KezAnswer {
@@ -10,10 +11,10 @@ pub struct KezAnswer {
     value: u64,
 }
 
-/// 0.6.0: 10,000 for a major version, 100 for a minor one, 1 for a patch.
+/// 0.7.0: 10,000 for a major version, 100 for a minor one, 1 for a patch.
 #[no_mangle]
 pub extern "C" fn kez_version() -> u64 {
-    600
+    700
 }
 
 fn told(answer: Answer<u64>) -> KezAnswer {
@@ -149,5 +150,55 @@ pub unsafe extern "C" fn kez_read_both(
     told(both::read(text, first, second).map(|(value, length)| {
         unsafe { *written = length as u64 };
         value
+    }))
+}
+
+#[no_mangle]
+pub unsafe extern "C" fn kez_table_empty(
+    slots: *mut u8,
+    slots_len: usize,
+    cells: *mut u8,
+    cells_len: usize,
+) -> KezAnswer {
+    let (slots, cells) = unsafe { (lent_mut(slots, slots_len), lent_mut(cells, cells_len)) };
+    told(table::empty(slots, cells).map(|()| 0))
+}
+
+#[no_mangle]
+pub unsafe extern "C" fn kez_table_offer(
+    slots: *mut u8,
+    slots_len: usize,
+    cells: *mut u8,
+    cells_len: usize,
+    packed: *const u8,
+    packed_len: usize,
+) -> KezAnswer {
+    let (slots, cells) = unsafe { (lent_mut(slots, slots_len), lent_mut(cells, cells_len)) };
+    told(table::offer(slots, cells, unsafe { lent(packed, packed_len) }).map(|offered| match offered {
+        Offered::New => 0,
+        Offered::Replaced => 1,
+        Offered::Loses => 2,
+        Offered::Held => 3,
+        Offered::NotKept => 4,
+    }))
+}
+
+#[no_mangle]
+pub unsafe extern "C" fn kez_table_slot(
+    slots: *const u8,
+    slots_len: usize,
+    cells: *const u8,
+    cells_len: usize,
+    n: u64,
+    at: *mut u64,
+    len: *mut u64,
+) -> KezAnswer {
+    let (slots, cells) = unsafe { (lent(slots, slots_len), lent(cells, cells_len)) };
+    told(table::slot(slots, cells, n).map(|(found, length)| {
+        unsafe {
+            *at = found as u64;
+            *len = length as u64;
+        }
+        0
     }))
 }

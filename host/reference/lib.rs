@@ -12,3 +12,4 @@ pub mod notepack;
 pub mod nson;
 pub mod rivals;
 pub mod string_form;
+pub mod table;

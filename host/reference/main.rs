@@ -6,9 +6,11 @@
 use reference::answer::{Answer, Refusal};
 use reference::rivals::{Choice, Which};
 use reference::{both, canonical, json, notepack, nson, rivals, string_form};
+use session::Session;
 use std::io::{self, BufRead, Write};
 
 mod selftest;
+mod session;
 
 fn main() {
     let words: Vec<String> = std::env::args().skip(1).collect();
@@ -27,17 +29,22 @@ fn main() {
 
 fn answer_all() -> io::Result<()> {
     let mut out = io::BufWriter::new(io::stdout().lock());
+    let mut session = Session::new();
     for line in io::stdin().lock().lines() {
-        let answer = answer(&line?).unwrap_or_else(|| "no such request".into());
+        let line = line?;
+        let answer = session.answer(&line).or_else(|| answer(&line)).unwrap_or_else(|| "no such request".into());
         out.write_all(answer.as_bytes())?;
         out.write_all(b"\n")?;
     }
     out.flush()
 }
 
+fn told(answer: Answer<String>) -> String {
+    answer.unwrap_or_else(|r| format!("refused {} {}", r.number, r.place))
+}
+
 fn answer(line: &str) -> Option<String> {
     let words: Vec<&str> = line.split(' ').collect();
-    let told = |answer: Answer<String>| answer.unwrap_or_else(|r| format!("refused {} {}", r.number, r.place));
     let writes = |f: Writing, from: &str, room: &str| -> Option<String> {
         let (from, mut out) = (bytes(from)?, vec![0; number(room)? as usize]);
         Some(told(f(&from, &mut out).map(|length| format!("ok {length} {}", hex(&out[..length])))))

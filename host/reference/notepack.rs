@@ -125,7 +125,7 @@ pub fn is_strict(bytes: &[u8]) -> Answer<bool> {
 
 /// The event, the length of its strict form, and whether the bytes are that form already.
 #[inline(always)]
-fn measured(bytes: &[u8]) -> Answer<(Packed<'_>, usize, bool)> {
+pub fn measured(bytes: &[u8]) -> Answer<(Packed<'_>, usize, bool)> {
     let (mut needed, mut as_it_is) = (128, true);
     let packed = walk(bytes, |seen| match seen {
         Seen::Number(value, spelled) => {
@@ -254,7 +254,7 @@ impl<'a> Packed<'a> {
         Items { bytes: self.bytes, at: self.tags_at, texts_left: 0, tags_left: self.tag_count }
     }
 
-    fn put_strict(&self, out: &mut Out) {
+    pub fn put_strict(&self, out: &mut Out) {
         out.put(&self.bytes[..128]);
         put_varint(out, self.created_at);
         put_varint(out, self.kind);

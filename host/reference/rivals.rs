@@ -17,13 +17,30 @@ pub enum Which {
     Second,
 }
 
-/// The key's text beside pubkey and kind: none for a replaceable kind. No key at all is `None`.
-fn key<'a>(p: &Packed<'a>) -> Option<Option<Text<'a>>> {
-    match p.kind {
-        0 | 3 | 10_000..=19_999 => Some(None),
-        30_000..=39_999 => d_text(p).map(Some),
-        _ => None,
+/// What rivals have in common. The kinds that are replaceable without a label have no text.
+pub struct Key<'a> {
+    pubkey: &'a [u8],
+    kind: u64,
+    text: Option<Text<'a>>,
+}
+
+impl Key<'_> {
+    pub fn same(&self, other: &Key) -> bool {
+        // of one kind, either both have a text or neither has one
+        self.kind == other.kind
+            && self.pubkey == other.pubkey
+            && self.text.iter().zip(&other.text).all(|(a, b)| a.same(b))
     }
+}
+
+/// The event's key, if it has one.
+pub fn key<'a>(p: &Packed<'a>) -> Option<Key<'a>> {
+    let text = match p.kind {
+        0 | 3 | 10_000..=19_999 => None,
+        30_000..=39_999 => Some(d_text(p)?),
+        _ => return None,
+    };
+    Some(Key { pubkey: p.pubkey(), kind: p.kind, text })
 }
 
 /// The text behind `d`, in the first tag with `d` in front.
@@ -43,12 +60,12 @@ fn d_text<'a>(p: &Packed<'a>) -> Option<Text<'a>> {
 }
 
 fn same_key(a: &Packed, b: &Packed) -> bool {
-    let texts = match (key(a), key(b)) {
-        (Some(None), Some(None)) => true,
-        (Some(Some(x)), Some(Some(y))) => x.same(&y),
-        _ => false,
-    };
-    texts && a.kind == b.kind && a.pubkey() == b.pubkey()
+    matches!((key(a), key(b)), (Some(a), Some(b)) if a.same(&b))
+}
+
+/// Is the second of two rivals to be kept?
+pub fn later(a: &Packed, b: &Packed) -> bool {
+    b.created_at > a.created_at || b.created_at == a.created_at && b.id() < a.id()
 }
 
 pub fn choose(first: &[u8], second: &[u8]) -> Result<Choice, (Refusal, Which)> {
@@ -57,6 +74,5 @@ pub fn choose(first: &[u8], second: &[u8]) -> Result<Choice, (Refusal, Which)> {
     if !same_key(&a, &b) {
         return Ok(Choice::NotRivals);
     }
-    let second_wins = b.created_at > a.created_at || b.created_at == a.created_at && b.id() < a.id();
-    Ok(if second_wins { Choice::Second } else { Choice::First })
+    Ok(if later(&a, &b) { Choice::Second } else { Choice::First })
 }

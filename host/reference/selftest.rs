@@ -1,5 +1,6 @@
 //! The checked examples of rule 12.4, and more of docs/RULES.md.
 
+use crate::session::Session;
 use crate::{answer, hex};
 use reference::bytes::{varint, varint_len};
 
@@ -156,6 +157,8 @@ pub fn run() -> bool {
         }
     }
     string_forms(&mut same);
+    tables(&mut same);
+    bad_tables(&mut same);
     let lister = |s: &[u8]| ask(format!("lister {}", hex(s)));
     same("lister", lister(&packed(b"", &[0; 4])), "created_at 0\\nkind 0\\ncontent 0\\ntags 0\\n".into());
     same("lister, empty", lister(b""), "refused 2 at 0\\n".into());
@@ -215,6 +218,126 @@ fn string_forms(same: &mut impl FnMut(&str, String, String)) {
     let string = answer_bytes(&ask(format!("string_write {} 87391", hex(&longest))));
     same("the longest string form", string.len().to_string(), "87391".into());
     same("the longest string form, read", ask(format!("string_read {} 65536", hex(&string))), left(&longest));
+}
+
+/// A strict event by a number for each of id and author, with a label.
+fn record(id: u8, author: u8, time: u8, kind: u64, label: &str) -> Vec<u8> {
+    let mut s = [[id; 32], [author; 32], [7; 32], [7; 32]].concat();
+    s.push(time);
+    let mut kind = kind;
+    while kind >= 0x80 {
+        s.push(kind as u8 | 0x80);
+        kind >>= 7;
+    }
+    s.extend([kind as u8, 0, 1, 2, 2, b'd', 2 * label.len() as u8]);
+    s.extend(label.as_bytes());
+    s
+}
+
+/// Offers one after the other, and what the slots then hold. Part 15.
+fn tables(same: &mut impl FnMut(&str, String, String)) {
+    let mut session = Session::new();
+    let mut ask = |request: &str| session.answer(request).unwrap_or_default();
+    let offered = |s: &[u8]| format!("table_offer {}", hex(s));
+    let with_kind = |kind: u64| record(1, 1, 9, kind, "map");
+    for (what, event, wanted) in [
+        ("the first", record(5, 1, 9, 30_000, "map"), "new"),
+        ("the same", record(5, 1, 9, 30_000, "map"), "held"),
+        ("an earlier one", record(5, 1, 8, 30_000, "map"), "loses"),
+        ("as late, a higher id", record(6, 1, 9, 30_000, "map"), "loses"),
+        ("as late, a lower id", record(4, 1, 9, 30_000, "map"), "replaced"),
+        ("a later one", record(6, 1, 10, 30_000, "map"), "replaced"),
+        ("another label", record(6, 1, 9, 30_000, "test"), "new"),
+        ("another author", record(6, 2, 9, 30_000, "map"), "new"),
+        ("another kind", record(6, 1, 9, 30_001, "map"), "new"),
+        ("kind 0", with_kind(0), "new"),
+        ("kind 0, another label", record(1, 1, 9, 0, "test"), "loses"),
+        ("kind 1", with_kind(1), "new"),
+        ("kind 2, the same id", with_kind(2), "held"),
+        ("kind 1, later", record(1, 1, 10, 1, "map"), "held"),
+        ("kind 20000", with_kind(20_000), "not_kept"),
+        ("kind 29999", with_kind(29_999), "not_kept"),
+        ("kind 40000, another id", record(2, 1, 9, 40_000, ""), "new"),
+        ("nothing", vec![], "refused 2 0"),
+        ("cut", packed(b"\0", b"\0\x01"), "refused 2 130"),
+        ("too long", vec![0; 65_537], "refused 1 0"),
+    ] {
+        same(&format!("offer, {what}"), ask(&offered(&event)), wanted.into());
+    }
+    let kept = record(6, 1, 10, 30_000, "map");
+    same("slot 0", ask("table_look 0"), format!("used {} {}", kept.len(), hex(&kept)));
+    same("slot 0, viewed", ask("table_slot 0"), format!("ok 0 {}", kept.len()));
+    same("slot 3, viewed", ask("table_slot 3"), format!("ok 3072 {}", kept.len()));
+    for n in [7, 63, 64, u64::MAX] {
+        same(&format!("slot {n}, viewed"), ask(&format!("table_slot {n}")), "refused 19 0".into());
+    }
+    same("emptied", ask("table_empty"), "ok".into());
+    same("slot 0, emptied", ask("table_look 0"), "free 0 -".into());
+    // a cell holds 1,024 bytes and not one more, whatever the kind; the strict form is measured
+    let filled = |kind: &[u8], length: usize| {
+        let mut s = packed(b"\0", &[kind, &[0x80 | (length % 128) as u8, (length / 128) as u8]].concat());
+        s.resize(s.len() + length, b'x');
+        s.push(0);
+        s
+    };
+    for (kind, length, wanted) in
+        [(&b"\0"[..], 891, "new"), (b"\0", 892, "refused 22 0"), (b"\xa0\x9c\x01", 890, "refused 22 0")]
+    {
+        let s = filled(kind, length);
+        same(&format!("{} bytes", s.len()), ask(&offered(&s)), wanted.into());
+    }
+    let loose = packed(b"\x80\x80\x80\0", &filled(b"\x03", 891)[129..]);
+    same("1,027 bytes of 1,024", format!("{} {}", loose.len(), ask(&offered(&loose))), "1027 new".into());
+    // 62 more fill it; then there is room only for what replaces
+    for id in 2..64 {
+        same("filling", ask(&offered(&record(id, 1, 9, 1, ""))), "new".into());
+    }
+    same("full, another", ask(&offered(&record(99, 1, 9, 1, ""))), "refused 23 0".into());
+    same("full, a passing one", ask(&offered(&record(99, 1, 9, 20_000, ""))), "not_kept".into());
+    same("full, held", ask(&offered(&record(63, 1, 9, 1, ""))), "held".into());
+    same("full, a longer one", ask(&offered(&filled(b"\0", 892))), "refused 22 0".into());
+    let mut later = filled(b"\0", 200);
+    later[128] = 1;
+    same("full, a later one", ask(&offered(&later)), "replaced".into());
+    let rest = [&later[..], &vec![b'x'; 690], &[0]].concat();
+    same("behind the later one", ask("table_look 0"), format!("used 333 {}", hex(rest.strip_suffix(b"\0").unwrap())));
+}
+
+/// Tables that are none. Part 15.
+fn bad_tables(same: &mut impl FnMut(&str, String, String)) {
+    let mut session = Session::new();
+    let mut ask = |request: &str| session.answer(request).unwrap_or_default();
+    let (good, loose) = (record(1, 1, 9, 1, "a"), packed(b"\x80\0", b"\0\0\0"));
+    let other = record(2, 1, 9, 1, "a");
+    let (keyed, later) = (record(1, 1, 9, 0, "a"), record(2, 1, 10, 0, "b"));
+    let passing = record(1, 1, 9, 20_000, "a");
+    let at = |n: usize, s: &[u8]| format!("{n}:{}:{}", s.len(), hex(s));
+    let length = |n: usize, length: u64| format!("{n}:{length}:{}", hex(&good));
+    for (what, slots, words, wanted) in [
+        ("63 slots", 63, vec![], "refused 34 0"),
+        ("65 slots", 65, vec![], "refused 34 0"),
+        ("none", 0, vec![], "refused 34 0"),
+        ("a used slot without an event", 64, vec!["3:0:-".into()], "refused 34 3"),
+        ("a length too little", 64, vec![length(5, good.len() as u64 - 1)], "refused 34 5"),
+        ("a length too much", 64, vec![length(63, good.len() as u64 + 1)], "refused 34 63"),
+        ("a length past the cell", 64, vec![length(1, 1_025)], "refused 34 1"),
+        ("the greatest length", 64, vec![length(1, u64::MAX)], "refused 34 1"),
+        ("not strict", 64, vec![at(9, &loose)], "refused 34 9"),
+        ("a passing kind", 64, vec![at(9, &passing)], "refused 34 9"),
+        ("two of one id", 64, vec![at(9, &good), at(30, &good)], "refused 34 9"),
+        ("two of one key", 64, vec![at(9, &keyed), at(8, &later)], "refused 34 8"),
+        ("the twin of a bad slot", 64, vec![at(0, &good), at(9, &passing)], "refused 34 9"),
+        ("two bad slots", 64, vec![at(20, &loose), at(9, &passing)], "refused 34 9"),
+        ("one id with a key and without", 64, vec![at(0, &good), at(1, &keyed)], "refused 2 0"),
+        ("different ids", 64, vec![at(0, &good), at(1, &other)], "refused 2 0"),
+        ("a free slot that is not zero", 64, vec![format!("~0:9:{}", hex(&good)), at(1, &good)], "refused 2 0"),
+    ] {
+        same(what, ask(&[vec![format!("table_load {slots}")], words].concat().join(" ")), "ok".into());
+        same(what, ask("table_offer -"), wanted.into());
+        let view = if wanted == "refused 2 0" { "refused 19 0" } else { wanted };
+        same(&format!("{what}, viewed"), ask("table_slot 64"), view.into());
+        same(&format!("{what}, emptied"), ask("table_empty"), if slots == 64 { "ok" } else { "refused 34 0" }.into());
+    }
 }
 
 fn ask(request: String) -> String {

@@ -77,7 +77,7 @@ const ODD_BYTES: [u8; 28] = [
 ];
 
 /// One or two random changes of bytes.
-fn spoil_bytes(d: &mut Dice, bytes: &mut Vec<u8>) {
+pub fn spoil_bytes(d: &mut Dice, bytes: &mut Vec<u8>) {
     for _ in 0..1 + d.below(2) {
         let place = d.below(bytes.len() + 1);
         let other = d.below(bytes.len() + 1);
@@ -109,6 +109,7 @@ pub fn random(g: &mut Requests) {
     let kind = g.dice.pick(&g.kinds.clone());
     match kind.as_str() {
         "rivals" => random_rivals(g, e),
+        "table" | "table_slot" => g.next_of_table(),
         "nson_read" => {
             let text = random_nson(&mut g.dice, &mut e);
             g.any(&["nson_read"], &text, &e);

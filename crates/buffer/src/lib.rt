@@ -1,7 +1,8 @@
 // Bytes into a lent buffer. Every writer is total: it stores what there is room for and hands back the place behind it.
 ghost use Prim.Native.Nat.{_+_, _≤_};
+ghost use mathlib.Core.Path.{_≡_};
 ghost use mathlib.Core.List.{[], _∷_};
-ghost use lib.ListN.{length, take, drop};
+ghost use lib.ListN.{length, take, drop, replicate};
 ghost use Rattle.buffer.specs.inner.Store.{Wrote};
 
 // One byte.
@@ -49,4 +50,15 @@ pub fn put_part(out: &mut [u8], at: usize, s: &[u8], from: usize, n: usize) -> u
     ensures { λ r. ⌜ Wrote (now (out .entry)) at (take n (drop from (now (s .entry)))) (now (out .exit)) r ⌝ }
 {
     put_bytes(out, at, scan::part(s, from, n))
+}
+
+// Every byte becomes b.
+pub fn fill_bytes(out: &mut [u8], b: u8)
+    ensures { λ _. ⌜ now (out .exit) ≡ replicate (length (now (out .entry))) b ⌝ }
+{
+    let mut i = 0;
+    while i < out.len() {
+        out[i] = b;
+        i += 1;
+    }
 }

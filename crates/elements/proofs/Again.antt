@@ -8,11 +8,13 @@ use mathlib.Core.Logic.{dite}
 use native.Mathlib.Numerals.{sub-one}
 use native.Mathlib.Omega.{arith}
 use native.Mathlib.Decide.{decLe}
-use lib.ListN.{length, take, drop, length-drop, drop-of-length-le}
+use lib.ListN.{length, take, drop, length-append, length-drop, drop-of-length-le}
 use lib.Seq.{take-all}
-use Rattle.scan.specs.Choice.{shown, Read, many}
+use Rattle.scan.specs.Choice.{pick, shown, Read, many}
 use Rattle.scan.proofs.Reading.{read-same}
 use Rattle.scan.proofs.Many.{many-apart}
+use Rattle.littleendian.specs.LittleEndian.{lowFirst}
+use Rattle.littleendian.proofs.Laws.{length-low}
 use Rattle.notepack.specs.declared.Part.{Part}
 use Rattle.notepack.specs.Unpack.{elementAt, elementsAt, tagAt, tagsAt}
 use Rattle.notepack.specs.inner.Again.{partAgain, countAgain, textsEnd}
@@ -27,11 +29,18 @@ pub rows-append : (a b : List TagElement) → rows (a ++ b) ≡ rows a ++ rows b
 rows-append [] b = refl
 rows-append (e ∷ a) b = rw (rows-append a b) (sym (append-assoc (row e) (rows a) (rows b)))
 
+row-length : (e : TagElement) → length (row e) ≡ 16
+unfolding row
+row-length e = four (e .tag) (e .part .at) (e .part .len) (pick (e .part .raw) 1 0)
+  where
+    four : (a b c d : ℕ) → length (lowFirst 4 a ++ lowFirst 4 b ++ lowFirst 4 c ++ lowFirst 4 d) ≡ 16
+    four a b c d =
+        omega (arith, length-append (lowFirst 4 a ++ lowFirst 4 b ++ lowFirst 4 c) (lowFirst 4 d), length-append (lowFirst 4 a ++ lowFirst 4 b) (lowFirst 4 c), length-append (lowFirst 4 a) (lowFirst 4 b), length-low 4 a, length-low 4 b, length-low 4 c, length-low 4 d)
+
 -- an element takes 16 bytes
 pub rows-length : (l : List TagElement) → length (rows l) ≡ 16 * length l
-unfolding row
 rows-length [] = refl
-rows-length (e ∷ l) = let h = rows-length l in omega (arith, h)
+rows-length (e ∷ l) = omega (arith, length-append (row e) (rows l), row-length e, rows-length l)
 
 -- ---- what is listed of two lists, one behind the other
 

@@ -1,9 +1,10 @@
 -- The elements of all tags as a list, and what is told of them in a lent buffer (rules 4.12 to 4.15). Assumes nothing.
-use Prim.Native.Nat.{ℕ, suc, _/_, _%_}
+use Prim.Native.Nat.{ℕ, suc, _/_}
 use mathlib.Core.List.{List, [], _∷_, _++_}
 use lib.ListN.{length, take, drop}
 use Rattle.scan.specs.Choice.{pick, Answer, shown, andThen}
 use Rattle.buffer.specs.Entry.{leaves}
+use Rattle.littleendian.specs.LittleEndian.{lowFirst}
 use Rattle.notepack.specs.declared.Part.{Part}
 use Rattle.notepack.specs.Unpack.{Packed, packedAt}
 
@@ -22,13 +23,9 @@ abbrev pub inTags : ℕ → List (List Part) → List TagElement
 inTags i [] = []
 inTags i (t ∷ ts) = inTag i t ++ inTags (suc i) ts
 
--- a number in four bytes, the lowest first
-abbrev pub fourBytes : ℕ → List ℕ
-fourBytes n = n % 256 ∷ n / 256 % 256 ∷ n / 65_536 % 256 ∷ n / 16_777_216 % 256 ∷ []
-
 -- what is told of an element in 16 bytes: its tag's number, its payload's place and length, and 1 for raw bytes
 unfoldable pub row : TagElement → List ℕ
-row e = fourBytes (e .tag) ++ fourBytes (e .part .at) ++ fourBytes (e .part .len) ++ fourBytes (pick (e .part .raw) 1 0)
+row e = lowFirst 4 (e .tag) ++ lowFirst 4 (e .part .at) ++ lowFirst 4 (e .part .len) ++ lowFirst 4 (pick (e .part .raw) 1 0)
 
 abbrev pub rows : List TagElement → List ℕ
 rows [] = []

@@ -2,14 +2,14 @@
 use event::Writing;
 use notepack::HeadRead;
 use notepack::Part;
-ghost use Prim.Native.Nat.{min, _-_, _%_};
+ghost use Prim.Native.Nat.{min, _-_};
 ghost use mathlib.Core.Path.{_≡_};
 ghost use lib.ListN.{length, take, drop};
 ghost use Rattle.scan.specs.Choice.{pick};
 ghost use Rattle.buffer.specs.inner.Store.{Wrote};
 ghost use Rattle.event.specs.inner.Told.{writing};
 ghost use Rattle.notepack.specs.inner.Again.{textsEnd};
-ghost use Rattle.elements.specs.Elements.{fourBytes, row, rows, elementsTold, elementsLeft};
+ghost use Rattle.elements.specs.Elements.{row, rows, elementsTold, elementsLeft};
 ghost use Rattle.elements.specs.inner.Again.{tagAgain, allAgain};
 
 // The bytes that one element takes.
@@ -30,23 +30,6 @@ struct Copied {
     next: usize,
 }
 
-// The byte that a number leaves over 256.
-fn low_byte(n: u64) -> u8
-    ensures { λ r. ⌜ r ≡ n % 256 ⌝ }
-{
-    (n % 256) as u8
-}
-
-// A number in four bytes, the lowest first.
-fn put_number(out: &mut [u8], at: usize, n: u64) -> usize
-    ensures { λ r. ⌜ Wrote (now (out .entry)) at (fourBytes n) (now (out .exit)) r ⌝ }
-{
-    let a = buffer::put_byte(out, at, low_byte(n));
-    let b = buffer::put_byte(out, a, low_byte(n / 256));
-    let c = buffer::put_byte(out, b, low_byte(n / 65536));
-    buffer::put_byte(out, c, low_byte(n / 16777216))
-}
-
 // 1 for raw bytes, 0 for text.
 fn raw_number(raw: bool) -> u64
     ensures { λ r. ⌜ r ≡ pick raw 1 0 ⌝ }
@@ -58,10 +41,10 @@ fn raw_number(raw: bool) -> u64
 fn put_row(out: &mut [u8], at: usize, tag: u64, p: Part) -> usize
     ensures { λ r. ⌜ Wrote (now (out .entry)) at (row (record { tag = tag; part = p })) (now (out .exit)) r ⌝ }
 {
-    let a = put_number(out, at, tag);
-    let b = put_number(out, a, p.at as u64);
-    let c = put_number(out, b, p.len as u64);
-    put_number(out, c, raw_number(p.raw))
+    let a = littleendian::put_number(out, at, tag, 4);
+    let b = littleendian::put_number(out, a, p.at as u64, 4);
+    let c = littleendian::put_number(out, b, p.len as u64, 4);
+    littleendian::put_number(out, c, raw_number(p.raw), 4)
 }
 
 // count elements of a tag from a place on.

@@ -4,10 +4,10 @@ use Prim.{Unit, tt}
 use Prim.Native.Nat.{ℕ}
 use mathlib.Core.Path.{_≡_, refl}
 use mathlib.Core.Bool.{Bool, true, false}
-use mathlib.Core.List.{List}
+use mathlib.Core.List.{List, [], _∷_}
 use native.Mathlib.Omega.{arith}
 use lib.ListN.{length}
-use lib.Dec.{leb}
+use lib.Dec.{eqb, leb}
 use borrow.Author.Tests.{leb-false}
 use Rattle.scan.specs.Choice.{pick, Answer, shown, refused, andThen}
 use Rattle.buffer.specs.Entry.{written, filled, writes, leaves}
@@ -33,6 +33,13 @@ use Rattle.json.proofs.Telling.{json-tells}
 use Rattle.bothreaders.specs.Both.{Compared, compared, bothOf, firstOf, secondOf, both, bothFirst, bothSecond}
 use Rattle.nson.specs.Read.{readNson}
 use Rattle.rivals.proofs.Telling.{rivals-tells}
+use Rattle.table.specs.Standing.{Stand}
+use Rattle.table.specs.Offer.{Offer, outcomeOf, cellsAfter}
+use Rattle.tablebytes.specs.Entries.{tableOffer, bytesAfter, tableSlot, sized, zeroed}
+use Rattle.tablebytes.specs.inner.Telling as telling
+use Rattle.tablebytes.specs.inner.Telling.{OfferTells, outcome, of-event, over-a-cell, full, SlotTells, found, no-event}
+use Rattle.tablebytes.proofs.Telling.{table-offer-tells, table-slot-tells}
+use Rattle.kezubimoryu.specs.Entries.{outcomeNumber}
 use Rattle.kezubimoryu.specs.inner.Refusals.{Asks, Fills, too-short, FillsBoth, first-short, second-short, writerNumbers, Refusals}
 
 -- a question of which only the answer's being there is told, or a number of it
@@ -136,6 +143,36 @@ elements-keep i s d n p = go (packedAt s)
     go (shown x) h = no-value h
     go (refused k q) h = refl
 
+-- ---- a table
+
+offer-told : {A B : Type 0} {s : List ℕ} {a : Answer A} (f : A → B) → OfferTells s a → OfferTells s (andThen a (λ (x : A). shown (f x)))
+offer-told f outcome = outcome
+offer-told f (telling.OfferTells.bad-table h) = telling.OfferTells.bad-table h
+offer-told f (of-event h k) = of-event h k
+offer-told f over-a-cell = over-a-cell
+offer-told f full = full
+
+slot-told : {A B : Type 0} {a : Answer A} (f : A → B) → SlotTells a → SlotTells (andThen a (λ (x : A). shown (f x)))
+slot-told f found = found
+slot-told f (telling.SlotTells.bad-table h) = telling.SlotTells.bad-table h
+slot-told f no-event = no-event
+
+sized-tells : (slots cells : List ℕ) → Tells (34 ∷ []) 0 (λ (v : ℕ). Unit {0}) (sized slots cells)
+sized-tells slots cells = go (eqb (length slots) 1_024) (eqb (length cells) 65_536)
+  where
+    go : (t u : Bool) → Tells (34 ∷ []) 0 (λ (v : ℕ). Unit {0}) (pick t (pick u (shown 0) (refused 34 0)) (refused 34 0))
+    go true true = value tt
+    go true false = refusal {p = 0} refl (omega arith)
+    go false u = refusal {p = 0} refl (omega arith)
+
+offer-keeps : (slots cells s : List ℕ) (n p : ℕ) → tableOffer slots cells s ≡ refused n p
+    → (bytesAfter (tableOffer slots cells s) slots ≡ slots) × (cellsAfter (tableOffer slots cells s) cells ≡ cells)
+offer-keeps slots cells s n p e = rw e (refl, refl)
+
+empty-keeps : (slots cells : List ℕ) (n p : ℕ) → sized slots cells ≡ refused n p
+    → (zeroed (sized slots cells) slots ≡ slots) × (zeroed (sized slots cells) cells ≡ cells)
+empty-keeps slots cells n p e = rw e (refl, refl)
+
 -- THE refusals of the C entries
 pub entries-refuse : Refusals
 entries-refuse =
@@ -154,10 +191,15 @@ entries-refuse =
       json-read = λ s d. fills s pack (readJson s) d (json-tells s);
       read-both = both-fills;
       which-is-kept = rivals-tells;
+      table-offer = λ slots cells s. offer-told outcomeNumber (offer-told (λ (o : Offer). o .outcome) (table-offer-tells s slots cells));
+      table-slot = λ slots cells n. slot-told (λ (p : Stand). 0) (table-slot-tells slots cells n);
+      table-empty = sized-tells;
       write-keeps = write-keeps;
       string-keeps = λ t d. write-keeps itself (readString t) d;
       elements-keep = elements-keep;
       both-keeps = both-keeps;
+      offer-keeps = offer-keeps;
+      empty-keeps = empty-keeps;
       packed-not-0 = refl;
       string-not-0 = refl;
       view-not-0 = refl;

@@ -3,6 +3,8 @@ use Prim.Native.Nat.{ℕ}
 use mathlib.Core.Bool.{Bool}
 use Rattle.rivals.specs.declared.Kept.{Kept}
 use Rattle.rivals.specs.declared.Kept.the-variants.{First, Second, NotRivals}
+use Rattle.archive.specs.declared.Outcome.{Outcome}
+use Rattle.archive.specs.declared.Outcome.the-variants.{New, Replaced, Loses, Held, NotKept}
 use Rattle.scan.specs.Choice.{pick, Answer, shown, refused, andThen}
 use Rattle.rivals.specs.Rivals.{Chosen, chosen, first-refused, second-refused}
 
@@ -30,3 +32,14 @@ abbrev pub keptAnswer : Chosen → Answer ℕ
 keptAnswer (chosen k) = shown (keptNumber k)
 keptAnswer (first-refused n p) = refused n p
 keptAnswer (second-refused n p) = refused n p
+
+-- what an offer comes to: new is 0, replaced 1, loses 2, held 3, not kept 4
+abbrev pub outcomeNumber : Outcome → ℕ
+outcomeNumber New = 0
+outcomeNumber Replaced = 1
+outcomeNumber Loses = 2
+outcomeNumber Held = 3
+outcomeNumber NotKept = 4
+
+abbrev pub outcomeTold : Answer Outcome → Answer ℕ
+outcomeTold a = andThen a λ r. shown (outcomeNumber r)

@@ -1,4 +1,5 @@
 // The C entries: thin and total over the crates below. Each takes numbers and byte buffers and answers two numbers.
+use archive::Outcome;
 use bothreaders::BothRead;
 use event::Refusal;
 use event::Writing;
@@ -8,6 +9,8 @@ use notepack::HeadRead;
 use rivals::Kept;
 use rivals::RivalsRead;
 use strict::StrictRead;
+use tableoffer::Offering;
+use tableslot::SlotRead;
 ghost use mathlib.Core.Path.{_≡_};
 ghost use Rattle.scan.specs.Choice.{pick, andThen, shown};
 ghost use Rattle.event.specs.Answers.{twoNumbers};
@@ -24,7 +27,10 @@ ghost use Rattle.nson.specs.Entries.{nsonReads, nsonLeaves, nsonWrites, writerL
 ghost use Rattle.json.specs.Entries.{jsonReads, jsonLeaves};
 ghost use Rattle.bothreaders.specs.Both.{both, bothFirst, bothSecond};
 ghost use Rattle.rivals.specs.Rivals.{rivals};
-ghost use Rattle.kezubimoryu.specs.Entries.{ok, yesNo, lent, keptNumber, keptAnswer};
+ghost use Rattle.table.specs.Offer.{outcomeOf, cellsAfter};
+ghost use Rattle.tableoffer.specs.inner.Decision.{offering};
+ghost use Rattle.tablebytes.specs.Entries.{tableOffer, bytesAfter, tableSlot, sized, zeroed};
+ghost use Rattle.kezubimoryu.specs.Entries.{ok, yesNo, lent, keptNumber, keptAnswer, outcomeNumber, outcomeTold};
 
 // `kez_answer` of the header: refusal 0 and a value, or the number of refusal and its place.
 #[repr(C)]
@@ -261,7 +267,70 @@ pub extern "C" fn kez_rivals(first: &[u8], second: &[u8]) -> KezAnswer
 // The version as one number: 10,000 for a major one, 100 for a minor one, 1 for a patch.
 #[no_mangle]
 pub extern "C" fn kez_version() -> u64
-    ensures { λ r. ⌜ r ≡ 600 ⌝ }
+    ensures { λ r. ⌜ r ≡ 700 ⌝ }
 {
-    600
+    700
+}
+
+fn outcome_number(o: Outcome) -> u64
+    ensures { λ r. ⌜ r ≡ outcomeNumber o ⌝ }
+{
+    match o {
+        Outcome::New => 0,
+        Outcome::Replaced => 1,
+        Outcome::Loses => 2,
+        Outcome::Held => 3,
+        Outcome::NotKept => 4,
+    }
+}
+
+// What an offer comes to, or the refusal.
+fn offered(o: Offering) -> KezAnswer
+    ensures { λ a. ⌜ (a .refusal, a .value) ≡ twoNumbers (outcomeTold (offering o)) ⌝ }
+{
+    match o {
+        Offering::Told(r) => { shown(outcome_number(r)) }
+        Offering::Refused(r) => refused(r),
+    }
+}
+
+#[no_mangle]
+pub extern "C" fn kez_table_empty(slots: &mut [u8], cells: &mut [u8]) -> KezAnswer
+    ensures { λ a. ⌜ (a .refusal, a .value) ≡ twoNumbers (sized (now (slots .entry)) (now (cells .entry))) ⌝ }
+    ensures { λ _. ⌜ now (slots .exit) ≡ zeroed (sized (now (slots .entry)) (now (cells .entry))) (now (slots .entry)) ⌝ }
+    ensures { λ _. ⌜ now (cells .exit) ≡ zeroed (sized (now (slots .entry)) (now (cells .entry))) (now (cells .entry)) ⌝ }
+{
+    written(bytetable::empty(slots, cells))
+}
+
+#[no_mangle]
+pub extern "C" fn kez_table_offer(slots: &mut [u8], cells: &mut [u8], packed: &[u8]) -> KezAnswer
+    ensures { λ a. ⌜ (a .refusal, a .value) ≡ twoNumbers (outcomeTold (outcomeOf (tableOffer (now (slots .entry)) (now (cells .entry)) (now (packed .entry))))) ⌝ }
+    ensures { λ _. ⌜ now (slots .exit) ≡ bytesAfter (tableOffer (now (slots .entry)) (now (cells .entry)) (now (packed .entry))) (now (slots .entry)) ⌝ }
+    ensures { λ _. ⌜ now (cells .exit) ≡ cellsAfter (tableOffer (now (slots .entry)) (now (cells .entry)) (now (packed .entry))) (now (cells .entry)) ⌝ }
+{
+    offered(bytetable::offer(slots, cells, packed))
+}
+
+#[no_mangle]
+pub extern "C" fn kez_table_slot(
+    slots: &[u8],
+    cells: &[u8],
+    n: u64,
+    at: &mut u64,
+    len: &mut u64,
+) -> KezAnswer
+    ensures { λ a. ⌜ (a .refusal, a .value) ≡ twoNumbers (ok (tableSlot (now (slots .entry)) (now (cells .entry)) n)) ⌝ }
+    ensures { λ _. ⌜ now (at .exit) ≡ lent (tableSlot (now (slots .entry)) (now (cells .entry)) n) (λ p. p .at) (now (at .entry)) ⌝ }
+    ensures { λ _. ⌜ now (len .exit) ≡ lent (tableSlot (now (slots .entry)) (now (cells .entry)) n) (λ p. p .len) (now (len .entry)) ⌝ }
+{
+    let found = bytetable::find_slot(slots, cells, n);
+    match found {
+        SlotRead::Found(place, bytes) => {
+            *at = place as u64;
+            *len = bytes as u64;
+            shown(0)
+        }
+        SlotRead::Refused(r) => refused(r),
+    }
 }

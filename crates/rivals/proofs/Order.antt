@@ -92,14 +92,14 @@ step-trans a b c p q r f h k =
 
 -- ---- lower as bytes is a strict total order
 
-lower-asym : (a b : List ℕ) → lower a b ≡ true → lower b a ≡ false
+pub lower-asym : (a b : List ℕ) → lower a b ≡ true → lower b a ≡ false
 unfolding lower step
 lower-asym [] [] h = refl
 lower-asym [] (y ∷ b) h = refl
 lower-asym (x ∷ a) [] h = absurd (false-true h)
 lower-asym (x ∷ a) (y ∷ b) h = step-asym x y (lower a b) (lower b a) (λ k. lower-asym a b k) h
 
-lower-total : (a b : List ℕ) → lower a b ≡ false → lower b a ≡ false → a ≡ b
+pub lower-total : (a b : List ℕ) → lower a b ≡ false → lower b a ≡ false → a ≡ b
 unfolding lower step
 lower-total [] [] h k = refl
 lower-total [] (y ∷ b) h k = absurd (false-true (sym h))
@@ -110,7 +110,7 @@ lower-total (x ∷ a) (y ∷ b) h k =
     let f = lower-total a b (t .1) (t .2) in
     cc
 
-lower-trans : (a b c : List ℕ) → lower a b ≡ true → lower b c ≡ true → lower a c ≡ true
+pub lower-trans : (a b c : List ℕ) → lower a b ≡ true → lower b c ≡ true → lower a c ≡ true
 unfolding lower step
 lower-trans [] [] [] h k = k
 lower-trans [] [] (z ∷ c) h k = refl

@@ -22,14 +22,14 @@ pub enum RivalsRead {
     SecondRefused(Refusal),
 }
 
-// Which of two rivals is kept.
-fn kept_of(s: &[u8], h: Head, t: &[u8], k: Head) -> Kept
-    ensures { λ r. ⌜ r ≡ keepsBy (h .«created_at») (k .«created_at») (take 32 (now (s .entry))) (take 32 (now (t .entry))) ⌝ }
+// Which of two rivals is kept, by the created_at of each and its packed bytes.
+pub fn kept_of(s: &[u8], time: u64, t: &[u8], other: u64) -> Kept
+    ensures { λ r. ⌜ r ≡ keepsBy time other (take 32 (now (s .entry))) (take 32 (now (t .entry))) ⌝ }
 {
-    if k.created_at < h.created_at {
+    if other < time {
         return Kept::First;
     }
-    if h.created_at < k.created_at {
+    if time < other {
         return Kept::Second;
     }
     if scan::is_lower(scan::part(t, 0, 32), scan::part(s, 0, 32)) {
@@ -64,7 +64,7 @@ pub fn compare(s: &[u8], t: &[u8]) -> RivalsRead
                 HeadRead::Refused(r) => RivalsRead::SecondRefused(r),
                 HeadRead::Found(k) => {
                     if same_keys(s, h, t, k) {
-                        return RivalsRead::Told(kept_of(s, h, t, k));
+                        return RivalsRead::Told(kept_of(s, h.created_at, t, k.created_at));
                     }
                     RivalsRead::Told(Kept::NotRivals)
                 }

@@ -1,6 +1,8 @@
-// Two packed records of one length on standard input: what is seen of the first, and which is kept.
+// Two packed records of one length on standard input: what is seen of the first, which is kept, and what a table holds
+// after both were offered.
 use libc::STDIN_FILENO;
 use libc::STDOUT_FILENO;
+use slots::Slot;
 
 fn say(text: &[u8]) {
     io::write_all(STDOUT_FILENO, text);
@@ -32,6 +34,21 @@ fn kept<'a>(label: &[u8], s: &'a [u8], t: &'a [u8]) {
     content(label, rivals::choose(s, t));
 }
 
+// The content of what slot 0 of a table holds after two records were offered to it.
+fn tabled(label: &[u8], s: &[u8], t: &[u8]) {
+    let mut cells = [0u8; 65536];
+    let free = Slot {
+        mark: 0,
+        spare: 0,
+        len: 0,
+    };
+    let first = lenttable::offer_in([free; 64], &mut cells, s);
+    let once = first.slots;
+    let second = lenttable::offer_in(once, &mut cells, t);
+    let twice = second.slots;
+    content(label, tableslot::slot_event(twice, &cells, 0));
+}
+
 fn main() {
     let mut input = [0u8; 65537];
     let n = io::read_full(STDIN_FILENO, &mut input);
@@ -47,4 +64,6 @@ fn main() {
     kept(b"second and first: ", second, first);
     kept(b"first and itself: ", first, first);
     kept(b"cut short and second: ", scan::part(first, 0, 127), second);
+    tabled(b"a table, first and second: ", first, second);
+    tabled(b"a table, second and first: ", second, first);
 }

@@ -4,7 +4,7 @@ use Prim.{Unit}
 use Prim.Native.Nat.{ℕ, _≤_, _<_}
 use mathlib.Core.Path.{_≡_}
 use mathlib.Core.Bool.{true, false}
-use mathlib.Core.List.{List, _∷_}
+use mathlib.Core.List.{List, [], _∷_}
 use lib.ListN.{length}
 use Rattle.scan.specs.Choice.{Answer, shown, refused, andThen}
 use Rattle.buffer.specs.Entry.{writes, leaves}
@@ -26,7 +26,10 @@ use Rattle.json.specs.Entries.{jsonReads}
 use Rattle.bothreaders.specs.Both.{both, bothFirst, bothSecond}
 use Rattle.rivals.specs.Rivals.{rivals}
 use Rattle.rivals.specs.inner.Telling.{RivalsTell}
-use Rattle.kezubimoryu.specs.Entries.{ok, yesNo}
+use Rattle.table.specs.Offer.{outcomeOf, cellsAfter}
+use Rattle.tablebytes.specs.Entries.{tableOffer, bytesAfter, tableSlot, sized, zeroed}
+use Rattle.tablebytes.specs.inner.Telling.{OfferTells, SlotTells}
+use Rattle.kezubimoryu.specs.Entries.{ok, yesNo, outcomeTold}
 
 -- an entry that only asks: a value, or one of the numbers at a place of the input
 abbrev pub Asks : List ℕ → List ℕ → Answer ℕ → Type 0
@@ -65,12 +68,20 @@ pub record Refusals : Type 0 where
   pub read-both : (s d₁ d₂ : List ℕ) → FillsBoth jsonNumbers s d₁ d₂ (andThen (both s d₁ d₂) (λ c. shown (c .which)))
   -- of two inputs: whose refusal it is stands in `RivalsTell`
   pub which-is-kept : (s t : List ℕ) → RivalsTell s t (rivals s t)
+  -- a table: its numbers and places stand in `OfferTells` and `SlotTells`; emptying refuses with 34 at 0
+  pub table-offer : (slots cells s : List ℕ) → OfferTells s (outcomeTold (outcomeOf (tableOffer slots cells s)))
+  pub table-slot : (slots cells : List ℕ) (n : ℕ) → SlotTells (ok (tableSlot slots cells n))
+  pub table-empty : (slots cells : List ℕ) → Tells (34 ∷ []) 0 (λ (v : ℕ). Unit {0}) (sized slots cells)
   -- after a refusal a lent buffer is as it was (rule 12.1.5): of an entry that writes the text of an event, and of both
   -- readers over one text
   pub write-keeps : (text : Event → List ℕ) (a : Answer Event) (d : List ℕ) (n p : ℕ) → writes text a d ≡ refused n p → leaves text a d ≡ d
   pub string-keeps : (t d : List ℕ) (n p : ℕ) → writes itself (readString t) d ≡ refused n p → leaves itself (readString t) d ≡ d
   pub elements-keep : (i : ℕ) (s d : List ℕ) (n p : ℕ) → elementsTold i s d ≡ refused n p → elementsLeft i s d ≡ d
   pub both-keeps : (s d₁ d₂ : List ℕ) (n p : ℕ) → both s d₁ d₂ ≡ refused n p → (bothFirst s d₁ d₂ ≡ d₁) × (bothSecond s d₁ d₂ ≡ d₂)
+  pub offer-keeps : (slots cells s : List ℕ) (n p : ℕ) → tableOffer slots cells s ≡ refused n p
+      → (bytesAfter (tableOffer slots cells s) slots ≡ slots) × (cellsAfter (tableOffer slots cells s) cells ≡ cells)
+  pub empty-keeps : (slots cells : List ℕ) (n p : ℕ) → sized slots cells ≡ refused n p
+      → (zeroed (sized slots cells) slots ≡ slots) × (zeroed (sized slots cells) cells ≡ cells)
   -- no number is 0
   pub packed-not-0 : among writerNumbers 0 ≡ false
   pub string-not-0 : among stringNumbers 0 ≡ false

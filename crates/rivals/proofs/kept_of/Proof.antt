@@ -13,7 +13,7 @@ returns c = simp (lt-ltb _ _ (c .if1 .taken))
 returns-2 : tie.Need-returns-2
 unfolding keepsBy
 returns-2 c =
-    let at-if1 = c .before .before .before in
+    let at-if1 = c .before in
     simp (le-ltb _ _ (at-if1 .if1 .left), lt-ltb _ _ (c .if2 .taken))
 
 returns-3 : tie.Need-returns-3
@@ -22,7 +22,7 @@ returns-3 c =
     let at-part2 = c .before .before in
     let at-part = at-part2 .before in
     let at-if2 = at-part .before in
-    let at-if1 = at-if2 .before .before .before in
+    let at-if1 = at-if2 .before in
     simp (le-ltb _ _ (at-if1 .if1 .left), le-ltb _ _ (at-if2 .if2 .left), ← at-part .part .ensures, ← at-part2 .part2 .ensures, ← c .before .is-lower .ensures, c .if3 .taken)
 
 returns-4 : tie.Need-returns-4
@@ -31,7 +31,7 @@ returns-4 c =
     let at-part2 = c .before .before in
     let at-part = at-part2 .before in
     let at-if2 = at-part .before in
-    let at-if1 = at-if2 .before .before .before in
+    let at-if1 = at-if2 .before in
     simp (le-ltb _ _ (at-if1 .if1 .left), le-ltb _ _ (at-if2 .if2 .left), ← at-part .part .ensures, ← at-part2 .part2 .ensures, ← c .before .is-lower .ensures, c .if3 .left)
 
 pub kept-of-spec : {M : Type 1} → statement M

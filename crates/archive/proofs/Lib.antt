@@ -1,0 +1,7 @@
+pub mod Lookup
+pub mod Laws
+pub mod Run
+pub mod Current
+pub mod Alone
+pub mod Distinct
+pub mod Places

@@ -1,0 +1,3 @@
+pub mod Archive
+pub mod Current
+pub mod inner

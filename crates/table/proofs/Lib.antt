@@ -1,0 +1,6 @@
+pub mod Cells
+pub mod Entries
+pub mod Good
+pub mod Offers
+pub mod Lowest
+pub mod Shown

@@ -1,0 +1,5 @@
+pub mod Cells
+pub mod Table
+pub mod Offer
+pub mod Standing
+pub mod inner
