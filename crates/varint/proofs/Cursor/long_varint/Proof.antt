@@ -3,15 +3,15 @@
 -- Each turn is one law of `turns`; `Held` keeps every sum and product in 64 bits.
 use native.Mathlib.Omega.{arith}
 use borrow.Author.Needs.{needs}
-use Rattle.varint.proofs.Turn.{Held, held, Gathered, turns}
+use Rattle.varint.proofs.Turn.{Held, held, Gathered, turns, turn-tenth}
 use Rattle.varint.proofs.Cursor.long_varint.Statement.{statement}
 use Rattle.varint.proofs.Cursor.long_varint.Tie as tie
 
 abbrev Inv-loop : tie.InvT-loop
-Inv-loop s start value₀ scale₀ i₀ left₀ value scale i left = Gathered s start value scale i left × Held value scale left
+Inv-loop s start first value₀ scale₀ i₀ left₀ value scale i left = Gathered s start value scale i left × Held value scale left
 
 abbrev μ-loop : tie.MeasureT-loop
-μ-loop s start value₀ scale₀ i₀ left₀ value scale i left = left
+μ-loop s start first value₀ scale₀ i₀ left₀ value scale i left = left
 
 pub long-varint-spec : {M : Type 1} → statement M
 long-varint-spec =
@@ -21,29 +21,38 @@ long-varint-spec =
     μ-loop
     (λ c κs. search needs)
     (λ c. search turns)
-    (λ c. (search turns, search held))
-    (λ c κs. search needs)
-    (λ c. search turns)
     (λ c. search needs)
-    (λ c. omega (arith, c .shared-slice-known2 .given (c .before .before .before .loop .i)))
-    (λ c. search held)
-    (λ c. search held)
+    (λ c. omega (arith, c .shared-slice-known2 .given (c .before .before .before .args .self .at)))
     (λ c. omega arith)
     (λ c. search turns)
-    (λ c. search (held, c .before .shared-slice-known2 .given (c .before .before .before .before .loop .i)))
-    (λ c. search (held, c .before .shared-slice-known2 .given (c .before .before .before .before .loop .i)))
-    (λ c. search held)
     (λ c. omega arith)
-    (λ c. omega arith)
-    (λ c. omega arith)
-    (λ c. (search turns, search (held, c .before .shared-slice-known2 .given (c .before .before .before .before .loop .i))))
+    (λ c. (search turns, search (held, c .before .shared-slice-known2 .given (c .before .before .before .before .args .self .at))))
     (λ c κs. search needs)
     (λ c. search turns)
     (λ c. search needs)
     (λ c. omega (arith, c .shared-slice-known3 .given (c .before .before .before .loop .i)))
+    (λ c κs. search needs)
+    (λ c. search turns)
     (λ c. search held)
     (λ c. search held)
     (λ c. omega arith)
     (λ c. search turns)
+    (λ c. search (held, c .before .before .shared-slice-known3 .given (c .before .before .before .before .before .loop .i)))
+    (λ c. search (held, c .before .before .shared-slice-known3 .given (c .before .before .before .before .before .loop .i)))
+    (λ c. search held)
+    (λ c. omega arith)
+    (λ c. omega arith)
+    (λ c. omega arith)
+    (λ c. (search turns, search (held, c .before .before .shared-slice-known3 .given (c .before .before .before .before .before .loop .i))))
+    (λ c κs. search needs)
+    (λ c. search turns)
+    (λ c. search needs)
+    (λ c. omega (arith, c .shared-slice-known4 .given (c .before .before .before .loop .i)))
+    (λ c κs. search needs)
+    (λ c. search turns)
+    (λ c. search held)
+    (λ c. search held)
+    (λ c. omega arith)
+    (λ c. turn-tenth _ _ _ _ _ _ (c .before .before .before .before .before .loop .inv .0) (c .before .before .before .before .loop-test .left) (c .before .before .before .if6 .left) (c .before .if7 .left) (c .if8 .taken))
     (λ c κs. search needs)
     (λ c. search turns))
