@@ -114,7 +114,7 @@ kez_answer kez_notepack_read(const uint8_t *packed, size_t packed_len,
  * Refusals: those of kez_notepack_read.
  * value: 1 strict, 0 not strict
  * Cost: linear in packed_len.
- * Rules 3.1 to 3.5, 12.2.7; of the input 2.1 to 2.17. */
+ * Rules 3.1 to 3.5, 12.2.7, 12.2.11; of the input 2.1 to 2.17. */
 kez_answer kez_notepack_is_strict(const uint8_t *packed, size_t packed_len);
 
 /* Writes the strict form of a packed event to out. Every event has exactly one, and it reads as the same event. Strict
