@@ -3,7 +3,7 @@
 -- whole, they agree element by element.
 use Prim.Native.Nat.{ℕ, _+_, _≤_}
 use mathlib.Core.Path.{_≡_, refl, sym, ap, _∙_}
-use mathlib.Core.List.{List, [], _∷_, _++_, map}
+use mathlib.Core.List.{List, [], _∷_, _++_, map, flatten}
 use mathlib.Core.Bool.{true}
 use mathlib.Core.Logic.{_↔_}
 use native.Mathlib.Omega.{arith}
@@ -18,14 +18,15 @@ use Rattle.notepack.specs.Unpack.{unpack}
 use Rattle.notepack.proofs.Piece.{text-piece, bytes-piece, halves}
 use Rattle.strict.specs.Strict.{strict}
 use Rattle.strict.proofs.Laws.{strict-exactly}
-use Rattle.agreement.specs.Stored.{StoredTag, Stored, inARow, tagsWith, packedWith, storedStrict}
+use Rattle.agreement.specs.Stored.{StoredTag, Stored, tagsWith, packedWith, storedStrict}
 
 -- ---- the layout, by its elements
 
 join : {a b c d : List ℕ} → a ≡ c → b ≡ d → a ++ b ≡ c ++ d
 join p q = cc
 
-elements-stored : {ts : Tag} {l : List ℕ} → Elements ts l → (ls : List (List ℕ)) × StoredTag ts ls × (l ≡ inARow ls)
+elements-stored : {ts : Tag} {l : List ℕ} → Elements ts l → (ls : List (List ℕ)) × StoredTag ts ls × (l ≡ flatten ls)
+unfolding flatten
 elements-stored Elements.none = ([], StoredTag.none, refl)
 elements-stored (Elements.more {l = l} g h) = let r = elements-stored h in (l ∷ r .0, StoredTag.more g (r .1), ap (λ (m : List ℕ). l ++ m) (r .2))
 
@@ -33,7 +34,7 @@ stored-count : {ts : Tag} {ls : List (List ℕ)} → StoredTag ts ls → length 
 stored-count StoredTag.none = refl
 stored-count (StoredTag.more g h) = let e = stored-count h in omega (arith, e)
 
-tag-stored : {ts : Tag} {l : List ℕ} → TagLays ts l → (ls : List (List ℕ)) × StoredTag ts ls × (l ≡ uleb (length ls) ++ inARow ls)
+tag-stored : {ts : Tag} {l : List ℕ} → TagLays ts l → (ls : List (List ℕ)) × StoredTag ts ls × (l ≡ uleb (length ls) ++ flatten ls)
 tag-stored (TagLays.tag d h) =
     let r = elements-stored h in
     (r .0, r .1, join (spells-only d ∙ ap uleb (stored-count (r .1))) (r .2))
@@ -55,7 +56,8 @@ elements-decide s e (lays a b c d t) =
 
 -- ---- the strict elements
 
-strict-row : (ts : Tag) → inARow (map packElement ts) ≡ packElements ts
+strict-row : (ts : Tag) → flatten (map packElement ts) ≡ packElements ts
+unfolding flatten
 strict-row [] = refl
 strict-row (t ∷ ts) = ap (λ (m : List ℕ). packElement t ++ m) (strict-row ts)
 
@@ -77,21 +79,22 @@ element-least : {t l : List ℕ} → Element t l → length (packElement t) ≤ 
 element-least (as-text {t = t} d) = text-piece t d .least
 element-least (as-bytes {p = p} b d) = bytes-piece p b d .least
 
-row-least : {ts : Tag} {ls : List (List ℕ)} → StoredTag ts ls → length (packElements ts) ≤ length (inARow ls)
+row-least : {ts : Tag} {ls : List (List ℕ)} → StoredTag ts ls → length (packElements ts) ≤ length (flatten ls)
+unfolding flatten
 row-least StoredTag.none = omega arith
 row-least (StoredTag.more {t = t} {l = l} {ts = ts} {ls = ls} g h) =
-    omega (arith, element-least g, row-least h, length-append (packElement t) (packElements ts), length-append l (inARow ls))
+    omega (arith, element-least g, row-least h, length-append (packElement t) (packElements ts), length-append l (flatten ls))
 
-tag-least : {ts : Tag} {ls : List (List ℕ)} → StoredTag ts ls → length (packTag ts) ≤ length (uleb (length ls) ++ inARow ls)
+tag-least : {ts : Tag} {ls : List (List ℕ)} → StoredTag ts ls → length (packTag ts) ≤ length (uleb (length ls) ++ flatten ls)
 unfolding packTag
 tag-least {ts} {ls} h =
     rw (stored-count h)
-    (omega (arith, row-least h, length-append (uleb (length ls)) (packElements ts), length-append (uleb (length ls)) (inARow ls)))
+    (omega (arith, row-least h, length-append (uleb (length ls)) (packElements ts), length-append (uleb (length ls)) (flatten ls)))
 
 tags-least : {ts : List Tag} {ls : List (List (List ℕ))} → Stored ts ls → length (packTags ts) ≤ length (tagsWith ls)
 tags-least Stored.none = omega arith
 tags-least (Stored.more {t = t} {l = l} {ts = ts} {ls = ls} g h) =
-    omega (arith, tag-least g, tags-least h, length-append (packTag t) (packTags ts), length-append (uleb (length l) ++ inARow l) (tagsWith ls))
+    omega (arith, tag-least g, tags-least h, length-append (packTag t) (packTags ts), length-append (uleb (length l) ++ flatten l) (tagsWith ls))
 
 -- ---- the same bytes, so the same elements
 
@@ -99,22 +102,23 @@ tags-least (Stored.more {t = t} {l = l} {ts = ts} {ls = ls} g h) =
 parts : (a b c d : List ℕ) → length c ≤ length a → length d ≤ length b → a ++ b ≡ c ++ d → (a ≡ c) × (b ≡ d)
 parts a b c d h k e = halves a b c d (omega (arith, ap length e, length-append a b, length-append c d)) e
 
-row-same : {ts : Tag} {ls : List (List ℕ)} → StoredTag ts ls → inARow ls ≡ packElements ts → ls ≡ map packElement ts
+row-same : {ts : Tag} {ls : List (List ℕ)} → StoredTag ts ls → flatten ls ≡ packElements ts → ls ≡ map packElement ts
+unfolding flatten
 row-same StoredTag.none e = refl
 row-same (StoredTag.more {t = t} {l = l} {ts = ts} {ls = ls} g h) e =
-    let p = parts l (inARow ls) (packElement t) (packElements ts) (element-least g) (row-least h) e in
+    let p = parts l (flatten ls) (packElement t) (packElements ts) (element-least g) (row-least h) e in
     rw (p .0, row-same h (p .1))
 
-tag-same : {ts : Tag} {ls : List (List ℕ)} → StoredTag ts ls → uleb (length ls) ++ inARow ls ≡ packTag ts → ls ≡ map packElement ts
+tag-same : {ts : Tag} {ls : List (List ℕ)} → StoredTag ts ls → uleb (length ls) ++ flatten ls ≡ packTag ts → ls ≡ map packElement ts
 unfolding packTag
 tag-same {ts} {ls} h e =
-    let f : uleb (length ls) ++ inARow ls ≡ uleb (length ls) ++ packElements ts = e ∙ ap (λ (n : ℕ). uleb n ++ packElements ts) (stored-count h) in
-    row-same h (halves (uleb (length ls)) (inARow ls) (uleb (length ls)) (packElements ts) refl f .1)
+    let f : uleb (length ls) ++ flatten ls ≡ uleb (length ls) ++ packElements ts = e ∙ ap (λ (n : ℕ). uleb n ++ packElements ts) (stored-count h) in
+    row-same h (halves (uleb (length ls)) (flatten ls) (uleb (length ls)) (packElements ts) refl f .1)
 
 tags-same : {ts : List Tag} {ls : List (List (List ℕ))} → Stored ts ls → tagsWith ls ≡ packTags ts → ls ≡ storedStrict ts
 tags-same Stored.none e = refl
 tags-same (Stored.more {t = t} {l = l} {ts = ts} {ls = ls} g h) e =
-    let p = parts (uleb (length l) ++ inARow l) (tagsWith ls) (packTag t) (packTags ts) (tag-least g) (tags-least h) e in
+    let p = parts (uleb (length l) ++ flatten l) (tagsWith ls) (packTag t) (packTags ts) (tag-least g) (tags-least h) e in
     rw (tag-same g (p .0), tags-same h (p .1))
 
 -- what stands behind the same bytes

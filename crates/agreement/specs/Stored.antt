@@ -1,6 +1,6 @@
 -- Packed bytes by how the elements of the event are stored (rule 12.2.11). Assumes nothing.
 use Prim.Native.Nat.{ℕ}
-use mathlib.Core.List.{List, [], _∷_, _++_, map}
+use mathlib.Core.List.{List, [], _∷_, _++_, map, flatten}
 use lib.ListN.{length}
 use Rattle.varint.specs.Uleb.{uleb}
 use Rattle.event.specs.Event.{Tag, Event}
@@ -17,15 +17,10 @@ pub data Stored : List Tag → List (List (List ℕ)) → Type 0 where
   none : Stored [] []
   more : {t : Tag} {l : List (List ℕ)} {ts : List Tag} {ls : List (List (List ℕ))} → StoredTag t l → Stored ts ls → Stored (t ∷ ts) (l ∷ ls)
 
--- elements, one after the other
-abbrev pub inARow : List (List ℕ) → List ℕ
-inARow [] = []
-inARow (l ∷ ls) = l ++ inARow ls
-
--- each tag: how many elements it has, and behind that these
+-- each tag: how many elements it has, and behind that these, one after the other
 abbrev pub tagsWith : List (List (List ℕ)) → List ℕ
 tagsWith [] = []
-tagsWith (l ∷ ls) = (uleb (length l) ++ inARow l) ++ tagsWith ls
+tagsWith (l ∷ ls) = (uleb (length l) ++ flatten l) ++ tagsWith ls
 
 -- the packed event whose elements are stored so
 unfoldable pub packedWith : Event → List (List (List ℕ)) → List ℕ
