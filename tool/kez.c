@@ -307,7 +307,8 @@ static const char *advice(uint64_t refusal, int input)
     case 22: return "No table keeps a record of that size: keep it in a file of its own.";
     case 23: return "All 64 slots are used, and none by a version of this record. Offer it to another table file.";
     case 24:
-        return "The tool that wrote it pads its numbers: its maker has to mend that, nothing is repaired here.";
+        return "Either the tool that wrote it pads its numbers, and its maker has to mend that, or the record is "
+               "damaged: ask for it anew. Nothing is repaired here.";
     default: return NULL;
     }
 }

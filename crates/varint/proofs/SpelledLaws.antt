@@ -1,5 +1,5 @@
 -- What the bytes of a list spell from its start is `Uleb` of the bytes in front, in both directions.
--- By induction on the spelling and on the list; ten bytes whose last is 00 or 01 are a number below 2 * 128 ^ 9, that
+-- By induction on the spelling and on the list; ten bytes whose last is 01 are a number below 2 * 128 ^ 9, that
 -- is 2 ^ 64.
 use Prim.Native.Nat.{ℕ, zero, suc, _+_, _*_, _-_, _^_, _≤_, _<_}
 use mathlib.Core.Path.{_≡_, refl, ap}

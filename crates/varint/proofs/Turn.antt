@@ -31,6 +31,10 @@ pub record Held (value scale left : ℕ) : Type 0 where
 pub held-start : {d : ℕ} → d < 128 → Held d 128 8
 held-start h = record { below = h; room = omega arith }
 
+-- and of the second
+pub held-two : {d e : ℕ} → d < 128 → e < 128 → Held (d + 128 * e) 16_384 7
+held-two h k = record { below = omega arith; room = omega arith }
+
 -- the next scale has its room
 held-next : {v c left : ℕ} → Held v c left → 0 < left → (c * 128 * 128 ^ (left - 1) ≤ 2 ^ 63) × (c * 128 ≤ 2 ^ 63)
 held-next {c = c} {left = left} h p = go left p (h .room)
@@ -189,5 +193,10 @@ module _ (s : List ℕ) (start v c i left : ℕ) where
       → r ≡ Refused (record { number = 3; place = start }) → varintRead r ≡ varintAt s start
   unfolding onward
   turn-over r e p h k q = rw q (sym (e ∙ rw (rest-more s i h, spelled-end left (getD s i 0) (drop (i + 1) s) p, lt-leb (getD s i 0) 1 k)))
+
+-- two bytes with the top bit set
+pub turn-two : (s : List ℕ) (start : ℕ) → start < length s → 128 ≤ getD s start 0 → start + 1 < length s → 128 ≤ getD s (start + 1) 0
+    → Gathered s start (getD s start 0 - 128 + 128 * (getD s (start + 1) 0 - 128)) 16_384 (start + 1 + 1) 7
+turn-two s start a b c d = turn-again s start (getD s start 0 - 128) 128 (start + 1) 8 (turn-start s start a b) (omega arith) c d
 
 pub ruleset turns = (turn-start, turn-none, turn-again, turn-last, turn-padded, turn-cut, turn-tenth, tenth-padded, turn-over, one-byte)

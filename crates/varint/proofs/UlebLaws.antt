@@ -12,7 +12,7 @@ use lib.Dec.{ltb}
 use borrow.Author.Tests.{lt-ltb, le-ltb}
 use Rattle.scan.specs.Choice.{pick}
 use Rattle.scan.specs.Bytes.{All, none, also, IsBytes}
-use Rattle.varint.specs.Uleb.{Uleb, last, more, Spells, ulebIn, uleb}
+use Rattle.varint.specs.Uleb.{Uleb, last, more, Groups, top, below, Spells, ulebIn, uleb}
 
 -- ---- the steps of the shortest spelling
 
@@ -110,9 +110,36 @@ digits-only : {n : ℕ} {l : List ℕ} → Uleb n l → l ≡ uleb n
 digits-only (last {b = b} h) = sym (uleb-last b h)
 digits-only (more {b = b} {n = n} h z u) = ap (λ (t : List ℕ). (128 + b) ∷ t) (digits-only u) ∙ sym (uleb-rest b n h (omega (arith, z)))
 
+-- ---- among all groups of seven bits
+
+groups-one : {n : ℕ} {l : List ℕ} → Groups n l → 1 ≤ length l
+groups-one (top h) = omega arith
+groups-one (below h u) = omega arith
+
+-- none that make n are fewer than `uleb n`
+pub groups-least : {n : ℕ} {l : List ℕ} → Groups n l → length (uleb n) ≤ length l
+groups-least (top {b = b} h) = omega (arith, length-last b h)
+groups-least (below {b = b} {n = n} h u) =
+    dite (decLt (b + 128 * n) 128) (λ p. omega (arith, length-last (b + 128 * n) p))
+    (λ q. omega (arith, ap length (uleb-rest b n h (omega (arith, q))), groups-least u))
+
+-- a spelling is such groups
+pub spelled-groups : {n : ℕ} {l : List ℕ} → Uleb n l → Groups n l
+spelled-groups (last h) = top h
+spelled-groups (more h z u) = below h (spelled-groups u)
+
 -- so no spelling is shorter
 pub uleb-shortest : {n : ℕ} {l : List ℕ} → Uleb n l → length (uleb n) ≤ length l
-uleb-shortest {n} u = rw (digits-only u) (omega arith)
+uleb-shortest u = groups-least (spelled-groups u)
+
+-- and groups that are no more than needed are a spelling: what is refused as padded is longer than its number needs
+pub groups-spelled : {n : ℕ} {l : List ℕ} → Groups n l → length l ≡ length (uleb n) → Uleb n l
+groups-spelled (top h) e = last h
+groups-spelled (below {b = b} {n = n} h u) e =
+    dite (decLt (b + 128 * n) 128) (λ p. absurd (omega (arith, length-last (b + 128 * n) p, groups-one u)))
+    (λ q.
+    let s = uleb-rest b n h (omega (arith, q)) in
+    more h (omega (arith, q, h)) (groups-spelled u (omega (arith, e, ap length s))))
 
 -- ---- how long it is
 

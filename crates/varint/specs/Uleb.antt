@@ -10,6 +10,11 @@ pub data Uleb : ℕ → List ℕ → Type 0 where
   last : {b : ℕ} → b < 128 → Uleb b (b ∷ [])
   more : {b n : ℕ} {l : List ℕ} → b < 128 → 0 < n → Uleb n l → Uleb (b + 128 * n) ((128 + b) ∷ l)
 
+-- the same without that condition: a number in groups of seven bits, which may be more than it needs
+pub data Groups : ℕ → List ℕ → Type 0 where
+  top : {b : ℕ} → b < 128 → Groups b (b ∷ [])
+  below : {b n : ℕ} {l : List ℕ} → b < 128 → Groups n l → Groups (b + 128 * n) ((128 + b) ∷ l)
+
 -- A varint: the spelling of a number that 64 bits hold. (It has at most ten bytes, and a tenth is then 01.)
 pub record Spells (n : ℕ) (l : List ℕ) : Type 0 where
   pub digits : Uleb n l

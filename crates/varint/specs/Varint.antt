@@ -22,7 +22,7 @@ carry b padded = padded
 carry b over = over
 carry b cut = cut
 
--- `left` bytes may follow the one at hand; the last that is allowed, the tenth, is 00 or 01
+-- `left` bytes may follow the one at hand; the last that is allowed, the tenth, is 01, or 00, which is padding
 unfoldable pub spelled : ℕ → List ℕ → Spelled
 spelled left [] = cut
 spelled zero (b ∷ l) = pick (leb b 1) (number b 1) over

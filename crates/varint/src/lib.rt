@@ -51,10 +51,21 @@ impl Cursor {
         if first < 128 {
             return VarintRead::Value(first, Cursor { at: start + 1 });
         }
-        let mut value: u64 = first - 128;
-        let mut scale: u64 = 128;
         let mut i: usize = start + 1;
-        let mut left: usize = 8;
+        if s.len() <= i {
+            return refuse(event::VARINT_UNTERMINATED, start);
+        }
+        let second = s[i] as u64;
+        if second < 128 {
+            if second == 0 {
+                return refuse(event::VARINT_PADDED, start);
+            }
+            return VarintRead::Value(first - 128 + 128 * second, Cursor { at: i + 1 });
+        }
+        i += 1;
+        let mut value: u64 = first - 128 + 128 * (second - 128);
+        let mut scale: u64 = 16384;
+        let mut left: usize = 7;
         while 0 < left {
             if s.len() <= i {
                 return refuse(event::VARINT_UNTERMINATED, start);
