@@ -31,7 +31,7 @@ import os
 import struct
 from typing import Any, Dict, Iterator, List, NamedTuple, Optional, Tuple, Union
 
-__version__ = "0.7.0"
+__version__ = "0.8.0"
 
 __all__ = [
     "KEZ_MOST", "KEZ_CANONICAL_MOST", "KEZ_NOTEPACK_STRING_MOST", "KEZ_ELEMENT_BYTES", "KEZ_ELEMENTS_MOST",
@@ -178,7 +178,8 @@ SENTENCES: Tuple[str, ...] = (
     "or leftover bits that are not zero.",
     "The event's strict form is longer than 1,024 bytes, which is a cell of a table.",
     "The table has no free slot for another event.",
-    *10 * ("There is no refusal with this number.",),
+    "A varint is longer than its number needs.",
+    *9 * ("There is no refusal with this number.",),
     "The table is not as it must be: not of 64 slots and cells, "
     "or a used slot without a strict event to be kept, or with the name of another.",
 )
@@ -186,8 +187,8 @@ SENTENCES: Tuple[str, ...] = (
 
 class Refused(Exception):
     """A refusal: its number, the place in the input where the fault was found, and as text a sentence. Where
-    kez_notepack_string_read tells one from 2 to 10, the place is in the bytes that its text holds. With 34 it is the
-    number of a slot.
+    kez_notepack_string_read tells one from 2 to 10, or 24, the place is in the bytes that its text holds. With 34 it is
+    the number of a slot.
 
     It may be pickled, so it comes whole out of a process pool.
 
@@ -382,8 +383,13 @@ def kez_notepack_is_strict(packed: Bytes) -> bool:
 
     >>> kez_notepack_is_strict(bytes(132))
     True
-    >>> kez_notepack_is_strict(bytes(128) + bytes.fromhex("8000 00 00 00"))
+    >>> kez_notepack_is_strict(bytes(131) + bytes.fromhex("01 01 01"))
     False
+    >>> try:
+    ...     kez_notepack_is_strict(bytes(128) + bytes.fromhex("8000 00 00 00"))
+    ... except Refused as refused:
+    ...     print(refused.number, refused.place)
+    24 128
 
     Rules 3.1 to 3.5, 12.2.7."""
     return bool(_call("kez_notepack_is_strict", *_lend(packed)))
@@ -392,7 +398,7 @@ def kez_notepack_is_strict(packed: Bytes) -> bool:
 def kez_notepack_write(packed: Bytes) -> bytes:
     """The strict form of a packed event.
 
-    >>> kez_notepack_write(bytes(128) + bytes.fromhex("8000 00 00 00")) == bytes(132)
+    >>> kez_notepack_write(bytes(131) + bytes.fromhex("01 01 04 6162")) == bytes(131) + bytes.fromhex("01 01 03 ab")
     True
 
     Rules 3.1 to 3.3, 3.6, 3.7, 12.2.4 to 12.2.6."""

@@ -20,7 +20,7 @@
 use std::fmt;
 
 /// The version of the library, as in the header.
-pub const KEZ_VERSION: &str = "0.7.0";
+pub const KEZ_VERSION: &str = "0.8.0";
 /// No accepted input is longer, but for a string form, of which the bytes that it holds are counted; nor is an event in
 /// strict form, nor NSON (rules 1.9 and 14.3). A strict form is never longer than what it was read from, so a buffer as
 /// long as the packed bytes or the text is always enough (rules 3.7 and 12.3.6).
@@ -43,7 +43,7 @@ pub const KEZ_CELL_BYTES: usize = 1024;
 pub const KEZ_SLOTS_BYTES: usize = KEZ_SLOTS * KEZ_SLOT_BYTES;
 pub const KEZ_CELLS_BYTES: usize = KEZ_SLOTS * KEZ_CELL_BYTES;
 
-/// Refusal 0 and a value, or a refusal from 1 to 23, or 34, and its place (rules 12.1.2 to 12.1.4). Rule 10.N is
+/// Refusal 0 and a value, or a refusal from 1 to 24, or 34, and its place (rules 12.1.2 to 12.1.4). Rule 10.N is
 /// refusal N.
 #[repr(C)]
 #[derive(Clone, Copy, Debug, PartialEq, Eq)]
@@ -170,6 +170,7 @@ pub fn kez_refusal_text(number: u64) -> &'static str {
         }
         22 => "The event's strict form is longer than 1,024 bytes, which is a cell of a table.",
         23 => "The table has no free slot for another event.",
+        24 => "A varint is longer than its number needs.",
         34 => {
             "The table is not as it must be: not of 64 slots and cells, \
              or a used slot without a strict event to be kept, or with the name of another."
@@ -178,9 +179,9 @@ pub fn kez_refusal_text(number: u64) -> &'static str {
     }
 }
 
-/// A refusal from 1 to 23, or 34: its number, and the place in the input where the fault was found; with 11 the length
-/// needed, with 34 the number of a slot. Where notepack_string_read tells one from 2 to 10, the place is in the bytes
-/// that its text holds.
+/// A refusal from 1 to 24, or 34: its number, and the place in the input where the fault was found; with 11 the length
+/// needed, with 34 the number of a slot. Where notepack_string_read tells one from 2 to 10, or 24, the place is in the
+/// bytes that its text holds.
 #[derive(Clone, Copy, Debug, PartialEq, Eq)]
 pub struct Refused {
     pub number: u64,

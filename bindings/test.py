@@ -92,6 +92,10 @@ check("no such tag", refusal(kez.kez_notepack_tag_len, form, 2), (19, 0))
 check("cut", refusal(kez.kez_notepack_read, form[:-1]), (2, form.index(b"wss:") - 1))
 check("empty", refusal(kez.kez_notepack_write, b""), (2, 0))
 check("too long", refusal(kez.kez_notepack_is_strict, bytes(65537)), (1, 0))
+check("not strict", kez.kez_notepack_is_strict(bytes(131) + b"\1\1\1"), False)
+padded = bytes(128) + bytes.fromhex("8000 00 00 00")
+for call in (kez.kez_notepack_read, kez.kez_notepack_is_strict, kez.kez_notepack_write, kez.kez_canonical_write):
+    check("a padded number", refusal(call, padded), (24, 128))
 check("too long to be written", refusal(kez.kez_notepack_write, bytes(65537)), (1, 0))
 canonical = kez.kez_canonical_write(form)
 wanted = [0, event["pubkey"], event["created_at"], event["kind"], event["tags"], event["content"]]
@@ -139,8 +143,8 @@ with open("samples/record.string", "rb") as file:
 with open("samples/record.notepack", "rb") as file:
     check("the draft's string form", kez.kez_notepack_string_read(sample), file.read())
 check("the draft's string form, written", kez.kez_notepack_string_write(kez.kez_notepack_string_read(sample)), sample)
-loose = bytes(128) + bytes.fromhex("8000 00 00 00")
-check("written strict", kez.kez_notepack_string_write(loose), string_form(bytes(132)))
+loose = bytes(131) + bytes.fromhex("01 01 01")
+check("written strict", kez.kez_notepack_string_write(loose), string_form(bytes(131) + b"\1\1\0"))
 check("read as it is", kez.kez_notepack_string_read(string_form(loose)), loose)
 for n in range(6):
     some = bytes(130) + varint(n) + b"\xc3\xbf" * (n // 2) + b"?" * (n % 2) + varint(0)
@@ -159,6 +163,7 @@ for what, data, wanted in (
         ("a fault before an odd length", b"notepack_AAAA-", (21, 13)), ("too much", string_form(bytes(65537)), (1, 0)),
         ("a fault behind too much", string_form(bytes(66000)) + b"-", (21, 88009)),
         ("a damaged record", string_form(form[:-1]), (2, form.index(b"wss:") - 1)),
+        ("a padded number", string_form(padded), (24, 128)),
         ("more than a record", string_form(form + b"\0"), (10, len(form)))):
     check("a string form: %s" % what, refusal(kez.kez_notepack_string_read, data), wanted)
 check("no event, as a string form", refusal(kez.kez_notepack_string_write, form[:-1]), (2, form.index(b"wss:") - 1))
@@ -173,7 +178,7 @@ table = kez.Table()
 check("an emptied table", (bytes(table), list(table)), (bytes(66560), []))
 for data, outcome in ((form, "NEW"), (offered(1, 5, 0), "NEW"), (offered(2, 6, 0), "REPLACED"),
                       (offered(1, 6, 0), "REPLACED"), (offered(2, 6, 0), "LOSES"), (offered(9, 5, 0), "LOSES"),
-                      (offered(1, 6, 0, b"\x80\0\0"), "HELD"), (offered(7, 6, 1), "NEW"), (offered(7, 9, 2), "HELD"),
+                      (offered(1, 6, 0), "HELD"), (offered(7, 6, 1), "NEW"), (offered(7, 9, 2), "HELD"),
                       (offered(1, 5, 20000), "NOT_KEPT"), (offered(1, 5, 29999), "NOT_KEPT"),
                       (offered(8, 5, 30000), "NEW")):
     check("offered, to be %s" % outcome, table.offer(data), kez.Outcome[outcome])

@@ -64,7 +64,10 @@ fn safe_functions(record: &[u8], text: &[u8]) -> Result<(), Box<dyn std::error::
     assert_eq!(notepack_read(record)?, numbers);
     assert_eq!(&record[numbers.content_at..][..numbers.content_len], b"hello");
     assert!(notepack_is_strict(record)?);
-    assert!(!notepack_is_strict(&[&[0; 128][..], &[0x80, 0, 0, 0, 0]].concat())?);
+    assert!(!notepack_is_strict(&[&[0; 131][..], &[1, 1, 1]].concat())?);
+    let padded = [&[0; 128][..], &[0x80, 0, 0, 0, 0]].concat();
+    assert_eq!(notepack_is_strict(&padded), Err(Refused { number: 24, place: 128 }));
+    assert_eq!(notepack_write(&padded, &mut []), Err(Refused { number: 24, place: 128 }));
     assert_eq!(written(notepack_write, record)?, record);
     assert_eq!(notepack_tag_len(record, 0)?, 3);
     assert_eq!(notepack_tag_len(record, u64::MAX), Err(Refused { number: 19, place: 0 }));
@@ -101,10 +104,11 @@ fn string_form(record: &[u8]) -> Result<(), Refused> {
     let text = std::fs::read("samples/record.string").expect("run this in the repository's root");
     assert_eq!(written(notepack_string_write, record)?, text);
     assert_eq!(written(notepack_string_read, &text)?, record);
-    let loose = [&[0; 128][..], &[0x80, 0, 0, 0, 0]].concat();
-    assert_eq!(written(notepack_string_write, &loose)?, [&b"notepack_"[..], &[b'A'; 176]].concat());
-    let as_it_is = [&b"notepack_"[..], &[b'A'; 170], b"CAAAAAAA"].concat();
+    let loose = [&[0; 131][..], &[1, 1, 1]].concat();
+    assert_eq!(written(notepack_string_write, &loose)?, [&b"notepack_"[..], &[b'A'; 175], b"BAQA"].concat());
+    let as_it_is = [&b"notepack_"[..], &[b'A'; 175], b"BAQE"].concat();
     assert_eq!(written(notepack_string_read, &as_it_is)?, loose);
+    let padded = [&b"notepack_"[..], &[b'A'; 170], b"CAAAAAAA"].concat();
     let most = [&[0; 130][..], &[0xfa, 0xfe, 3], &[0; 65403]].concat();
     let longest = written(notepack_string_write, &most)?;
     assert_eq!((most.len(), longest.len()), (KEZ_MOST, KEZ_NOTEPACK_STRING_MOST));
@@ -122,6 +126,7 @@ fn string_form(record: &[u8]) -> Result<(), Refused> {
         (b"notepack_AAAAA", 21, 14),
         (&too_much, 1, 0),
         (&text[..193], 2, 134),
+        (&padded, 24, 128),
     ] {
         let mut out = vec![0xa5; KEZ_MOST];
         assert_eq!(notepack_string_read(bad, &mut out), Err(Refused { number, place: place as u64 }));
@@ -175,7 +180,7 @@ fn table(record: &[u8]) -> Result<(), Refused> {
         (&event(2, 6, &[0]), Outcome::Replaced),
         (&event(1, 6, &[0]), Outcome::Replaced),
         (&event(2, 6, &[0]), Outcome::Loses),
-        (&event(1, 6, &[0x80, 0]), Outcome::Held),
+        (&event(1, 6, &[0]), Outcome::Held),
         (&event(7, 6, &[1]), Outcome::New),
         (&event(7, 9, &[2]), Outcome::Held),
         (&ephemeral, Outcome::NotKept),
@@ -187,7 +192,8 @@ fn table(record: &[u8]) -> Result<(), Refused> {
     assert_eq!((table.slot(0)?, table.slot(2)?), (kept[0].1, kept[2].1));
     let before = table.clone();
     let big = [&event(9, 5, &[0])[..130], &[0x80, 8], &[0; 1025]].concat();
-    for (packed, number, place) in [(&big[..], 22, 0), (&[], 2, 0), (&[0; 65537], 1, 0)] {
+    let padded = event(1, 6, &[0x80, 0]);
+    for (packed, number, place) in [(&big[..], 22, 0), (&[], 2, 0), (&[0; 65537], 1, 0), (&padded, 24, 129)] {
         assert_eq!(table.offer(packed), Err(Refused { number, place }));
         assert_eq!(table, before);
     }

@@ -50,11 +50,13 @@ static void put_varint(record *r, uint64_t n)
     put(r, &(uint8_t){(uint8_t)n}, 1);
 }
 
+static const char relay[] = "wss://relay.example.com";
+enum { TAG_BYTES = 1 + 2 + 33 + sizeof relay };
+
 /* A strict record of `size` bytes: `tags` tags of a name, 32 raw bytes and a relay, and a content that
  * repeats `text`. */
 static void make(record *r, const char *name, size_t size, size_t tags, const char *text)
 {
-    static const char relay[] = "wss://relay.example.com";
     r->name = name;
     r->packed_len = 128;
     for (size_t i = 0; i < 128; i++)
@@ -62,7 +64,7 @@ static void make(record *r, const char *name, size_t size, size_t tags, const ch
     put_varint(r, 1720000000);
     put_varint(r, 10002);
     /* the number of tags is one byte, the content's length one to three */
-    size_t content = size - r->packed_len - 1 - tags * (1 + 2 + 33 + sizeof relay);
+    size_t content = size - r->packed_len - 1 - tags * TAG_BYTES;
     content -= content < 130 ? 1 : content < 16386 ? 2 : 3;
     put_varint(r, content);
     size_t unit = strlen(text), whole = content / unit * unit;
@@ -111,13 +113,12 @@ static void make_empty_texts(record *r, const char *name)
     }
 }
 
-/* A record of `size` bytes that is not strict: its time is a byte longer than it need be. */
+/* A record of `size` bytes that is not strict: one tag more has hex digits as text. */
 static void make_loose(record *r, const char *name, size_t size, size_t tags, const char *text)
 {
-    make(r, name, size - 1, tags, text);
-    memmove(r->packed + 134, r->packed + 133, r->packed_len++ - 133);
-    r->packed[132] |= 0x80;
-    r->packed[133] = 0;
+    make(r, name, size - 4, tags, text);
+    r->packed[r->packed_len - tags * TAG_BYTES - 1]++;
+    put(r, "\x01\x04""ab", 4);
 }
 
 /* The string form of the bytes as they are. */

@@ -153,7 +153,7 @@ static void check_numbers(int lent, kez_answer a)
 
 static void check_answer(kez_answer a)
 {
-    if (a.refusal > 23 && a.refusal != 34)
+    if (a.refusal > 24 && a.refusal != 34)
         wrong("has a refusal that does not exist");
 }
 

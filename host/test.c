@@ -311,29 +311,55 @@ static void truncations(void)
     refused(more.at, more.len, 10, 237);
 }
 
-/* A varint that is longer than needed is read, and isn't strict. */
+/* A varint that is longer than needed is refused at its first byte, in each place and of each length. Cut, it is 4;
+ * with a tenth byte of more than one bit it is 3. */
 static void padded(void)
 {
-    bytes b, form;
-    event(&form, 0, 0);
-    put_varint(&form, 0);
+    bytes b;
     start(&b);
     PUT(&b, "\x80\x00\x00\x00\x00");
-    reads(&b, 0, 0, 132, 0, 0);
-    strict_form(&b, &form);
+    refused(b.at, b.len, 24, 128);
     for (size_t i = 0; i < sizeof varints / sizeof *varints; i++) {
+        size_t at = varints[i].at, last = at + varints[i].len - 1;
         for (size_t extra = 1; extra <= 10 - varints[i].len; extra++) {
-            size_t last = varints[i].at + varints[i].len - 1;
             b.len = 0;
             put(&b, vector.at, last);
             fill(&b, vector.at[last] | 0x80, 1);
             fill(&b, 0x80, extra - 1);
+            refused(b.at, b.len, 4, at);
             fill(&b, 0, 1);
+            refused(b.at, b.len, 24, at);
             put(&b, vector.at + last + 1, vector.len - last - 1);
-            reads(&b, 1720000000, 0, 135 + (i < 3 ? extra : 0), 5, 2);
-            strict_form(&b, &vector);
-            shows(&b, 1, 1, 205 + extra, 32, 1);
+            refused(b.at, b.len, 24, at);
         }
+        b.at[at + 9] = 2;
+        refused(b.at, b.len, 3, at);
+    }
+}
+
+/* 24 comes before all that the number would decide. */
+static void padded_first(void)
+{
+    static const struct {
+        const char *spelled;
+        size_t len, place;
+    } cases[] = {
+        {"\x80\x80\x80\x80\x80\x80\x80\x90\x80\x00", 10, 128},             /* a time that is too large */
+        {"\x00\x80\x80\x84\x00", 5, 129},                                   /* such a kind */
+        {"\x00\x00\x85\x00", 4, 130},                                       /* a length beyond the rest */
+        {"\x00\x00\x81\x00\xff\x00", 6, 130},                               /* no UTF-8 */
+        {"\x00\x00\x00\xe9\x87\x00", 6, 131},                               /* 1,001 tags */
+        {"\x00\x00\x00\x01\x80\x00", 6, 132},                               /* a tag of no elements */
+        {"\x00\x00\x00\x01\x80\x82\x00", 7, 132},                           /* 256 elements */
+        {"\x00\x00\x00\x01\x01\x8a\x00", 7, 133},                           /* a word beyond the rest */
+        {"\x00\x00\x00\x01\x01\x82\x00\xff", 8, 133},                       /* no UTF-8 */
+        {"\x00\x00\x00\x80\x00\x00", 6, 131},                               /* something behind the end */
+    };
+    for (size_t i = 0; i < sizeof cases / sizeof *cases; i++) {
+        bytes b;
+        start(&b);
+        put(&b, cases[i].spelled, cases[i].len);
+        refused(b.at, b.len, 24, cases[i].place);
     }
 }
 
@@ -891,11 +917,11 @@ static void sentences(void)
 {
     for (uint64_t i = 0; i <= 35; i++)
         for (uint64_t j = 0; j < i; j++) {
-            int none = i > 23 && i != 34 && j > 23 && j != 34;
+            int none = i > 24 && i != 34 && j > 24 && j != 34;
             int same = !strcmp(kez_refusal_text(i), kez_refusal_text(j));
             CHECK(same == none, "%d and %d", (int)i, (int)j);
         }
-    CHECK(!strcmp(kez_refusal_text(UINT64_MAX), kez_refusal_text(24)), "no such number");
+    CHECK(!strcmp(kez_refusal_text(UINT64_MAX), kez_refusal_text(25)), "no such number");
 }
 
 /* With length 0 every entry takes a null pointer, one that is not aligned to anything, and one to a page that can't be
@@ -1062,9 +1088,9 @@ static void offers(void)
         record(&b, 1, 1, 9, kind, "map", 0);
         changes_nothing(&b, 0, KEZ_TABLE_NOT_KEPT);
     }
-    /* a loose spelling is kept in strict form: padded numbers, and hex that goes as text */
+    /* a loose spelling is kept in strict form: hex that goes as text */
     start(&loose);
-    PUT(&loose, "\x80\x00\x03\x00\x01\x02\x02x\x08""beef");
+    PUT(&loose, "\x00\x03\x00\x01\x02\x02x\x08""beef");
     start(&b);
     PUT(&b, "\x00\x03\x00\x01\x02\x02x\x05\xbe\xef");
     stored(&loose, &b, KEZ_TABLE_NEW, 7);
@@ -1074,6 +1100,9 @@ static void offers(void)
     not_viewed((uint64_t)1 << 32, 19, 0);
     /* refused inputs */
     changes_nothing(&(bytes){.len = 0}, 2, 0);
+    start(&loose);
+    PUT(&loose, "\x80\x00\x03\x00\x00");
+    changes_nothing(&loose, 24, 128);
     b.len--;
     changes_nothing(&b, 2, 135);
     b.len = 0;
@@ -1107,13 +1136,14 @@ static void cell_limits(void)
     fill(&b, 0, 1);
     changes_nothing(&b, 1, 0);
     /* more than a cell as it is given, and no more in strict form */
-    record(&b, 2, 1, 9, 1, "", KEZ_CELL_BYTES);
+    start(&b);
+    PUT(&b, "\x00\x01\x00\x01\x01");
     loose = b;
-    memmove(loose.at + 138, loose.at + 129, loose.len - 129);
-    memset(loose.at + 128, 0x80, 10);
-    loose.at[128] = 0x89;
-    loose.at[137] = 0;
-    loose.len += 9;
+    put_varint(&b, 2 * 889 + 1);
+    fill(&b, 0xaa, 889);
+    put_varint(&loose, 4 * 889);
+    fill(&loose, 'a', 2 * 889);
+    CHECK(b.len == KEZ_CELL_BYTES, "%zu", b.len);
     stored(&loose, &b, KEZ_TABLE_NEW, 1);
 }
 
@@ -1197,7 +1227,7 @@ static void bad_table(uint64_t place)
 /* What makes a slot a bad one by itself, in a table with nothing else and in a full one. */
 static void bad_slots(void)
 {
-    static bytes good, passing, loose, long_one;
+    static bytes good, passing, loose, long_one, padded_one;
     static const size_t places[] = {0, 1, 40, 63};
     static const uint64_t lengths[] = {0,    1,     127, 199, 201, 1024,
                                        1025, 65536, UINT64_C(0x1000000c8), UINT64_C(1) << 63, UINT64_MAX};
@@ -1205,22 +1235,25 @@ static void bad_slots(void)
     record(&passing, 99, 1, 9, 20000, "map", 200);
     record(&long_one, 99, 1, 9, 1, "map", KEZ_CELL_BYTES);
     start(&loose);
-    PUT(&loose, "\x80\x00\x01\x00\x00");
+    PUT(&loose, "\x00\x01\x00\x01\x01\x01");
+    start(&padded_one);
+    PUT(&padded_one, "\x80\x00\x01\x00\x00");
     for (int full = 0; full < 2; full++)
         for (size_t i = 0; i < 4; i++) {
             size_t n = places[i];
             const struct {
                 const bytes *event;
                 uint64_t len;
-            } bad[] = {{&passing, passing.len}, {&loose, loose.len}, {&long_one, 1025}, {&long_one, 1023}};
+            } bad[] = {{&passing, passing.len}, {&loose, loose.len}, {&padded_one, padded_one.len}, {&long_one, 1025},
+                     {&long_one, 1023}};
             for (size_t j = 0; j < sizeof bad / sizeof *bad + sizeof lengths / sizeof *lengths; j++) {
                 full ? full_table() : start_table();
                 wanted = lent;
                 memset(wanted.cells + KEZ_CELL_BYTES * n, 0, KEZ_CELL_BYTES);
-                if (j < 4)
+                if (j < 5)
                     want(n, 1, bad[j].len, bad[j].event->at, bad[j].event->len);
                 else
-                    want(n, 1, lengths[j - 4], good.at, good.len);
+                    want(n, 1, lengths[j - 5], good.at, good.len);
                 lent = wanted;
                 bad_table(n);
             }
@@ -1271,7 +1304,7 @@ static void twins(void)
     lent = wanted;
     bad_table(30);
     start(&loose); /* its id is 0 too */
-    PUT(&loose, "\x80\x00\x01\x00\x00");
+    PUT(&loose, "\x00\x01\x00\x01\x01\x01");
     want_record(2, &one);
     want_record(30, &loose);
     lent = wanted;
@@ -1428,6 +1461,7 @@ int main(void)
     the_vector();
     truncations();
     padded();
+    padded_first();
     elements();
     listed_elements();
     many_elements();

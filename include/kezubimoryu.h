@@ -48,8 +48,8 @@ extern "C" {
 
 /* The version of this header; the tool and the pkg-config file have it from here. As a number: 10,000 for a major
  * version, 100 for a minor one, 1 for a patch. */
-#define KEZ_VERSION "0.7.0"
-#define KEZ_VERSION_NUMBER 700
+#define KEZ_VERSION "0.8.0"
+#define KEZ_VERSION_NUMBER 800
 
 /* The version of the library that runs, as such a number. A host that was compiled with this header and runs with the
  * library of the same version has kez_version() == KEZ_VERSION_NUMBER.
@@ -84,11 +84,11 @@ uint64_t kez_version(void);
 
 /* What every entry but kez_version answers. Rules 12.1.2 to 12.1.8.
  * Success: refusal is 0, and value is what the entry's comment says.
- * Refusal: refusal is a number from 1 to 23, or 34, and value is the place in the input where the fault was found, or
+ * Refusal: refusal is a number from 1 to 24, or 34, and value is the place in the input where the fault was found, or
  * the input's length if the fault is at its end. Rule 10.N says when refusal N is given, and its place. Refusals 1, 17,
  * 19, 20, 22 and 23 have no place of their own: value is then 0. With refusal 11, an output buffer that is too short,
  * value is the length needed; 11 is given only if there is no other refusal. For kez_notepack_string_read the places of
- * 2 to 10 are in the bytes that the text holds. With refusal 34 value is the number of a slot.
+ * 2 to 10 and of 24 are in the bytes that the text holds. With refusal 34 value is the number of a slot.
  * So refusal alone tells whether the call succeeded. After a refusal every buffer and number that was passed still
  * holds what it held before the call. After success the bytes behind the written length are unchanged. */
 typedef struct {
@@ -97,9 +97,10 @@ typedef struct {
 } kez_answer;
 
 /* Reads a packed event and stores five numbers of it: created_at (in seconds), the kind, the place of the content in
- * packed, the content's length, and the number of tags. A varint may be longer than its number needs. The place of an
- * empty content is that of the byte behind its length.
- * Refusals: 1 to 10.
+ * packed, the content's length, and the number of tags. The place of an empty content is that of the byte behind its
+ * length.
+ * Refusals: 1 to 10; and 24 at a varint that is longer than its number needs (80 00 for 0), before all that the number
+ * would decide.
  * value: 0
  * Cost: linear in packed_len.
  * Rules 2.1 to 2.18, 4.1, 4.8, 4.9, 12.2.1 to 12.2.3. */
@@ -108,12 +109,12 @@ kez_answer kez_notepack_read(const uint8_t *packed, size_t packed_len,
                              uint64_t *content_at, uint64_t *content_len,
                              uint64_t *tag_count);
 
-/* Are these bytes in strict form? They are if every varint is as short as its number allows, and if an element is
- * stored as raw bytes exactly if its text is not empty, has an even length and consists of 0-9 and a-f alone.
+/* Are these bytes in strict form? They are if every element is stored as raw bytes exactly if its text is not empty,
+ * has an even length and consists of 0-9 and a-f alone. (A varint longer than its number needs is refused with 24.)
  * Refusals: those of kez_notepack_read.
  * value: 1 strict, 0 not strict
  * Cost: linear in packed_len.
- * Rules 3.1 to 3.5, 12.2.7; of the input 2.1 to 2.17. */
+ * Rules 3.1 to 3.5, 12.2.7, 12.2.11; of the input 2.1 to 2.17. */
 kez_answer kez_notepack_is_strict(const uint8_t *packed, size_t packed_len);
 
 /* Writes the strict form of a packed event to out. Every event has exactly one, and it reads as the same event. Strict
@@ -180,8 +181,8 @@ kez_answer kez_notepack_string_write(const uint8_t *packed, size_t packed_len,
  * out_len of text_len is always enough, and so is KEZ_MOST.
  * Refusals: 20 if the text does not start with notepack_; then 21, at the first character outside the alphabet, counted
  * in the whole text, or if there is none at the text's length, for a lone last character or leftover bits that are not
- * zero; then 1 if the text holds more than 65,536 bytes; then 2 to 10 as kez_notepack_read gives them, with places in
- * the bytes that the text holds (2 at 0 with nothing behind the prefix); then 11.
+ * zero; then 1 if the text holds more than 65,536 bytes; then 2 to 10 and 24 as kez_notepack_read gives them, with
+ * places in the bytes that the text holds (2 at 0 with nothing behind the prefix); then 11.
  * value: the length written
  * Cost: linear in text_len.
  * Stack: some 75 KB, since the bytes are held there until no refusal is left.
@@ -373,6 +374,7 @@ static inline const char *kez_refusal_text(uint64_t number)
                "a lone last one, or leftover bits that are not zero.";
     case 22: return "The event's strict form is longer than 1,024 bytes, which is a cell of a table."; /* rule 10.22 */
     case 23: return "The table has no free slot for another event."; /* rule 10.23 */
+    case 24: return "A varint is longer than its number needs."; /* rule 10.24 */
     case 34: /* rule 10.34 */
         return "The table is not as it must be: not of 64 slots and cells, "
                "or a used slot without a strict event to be kept, or with the name of another.";

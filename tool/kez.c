@@ -306,6 +306,9 @@ static const char *advice(uint64_t refusal, int input)
                "65,536 bytes in all. Send packed bytes instead.";
     case 22: return "No table keeps a record of that size: keep it in a file of its own.";
     case 23: return "All 64 slots are used, and none by a version of this record. Offer it to another table file.";
+    case 24:
+        return "Either the tool that wrote it pads its numbers, and its maker has to mend that, or the record is "
+               "damaged: ask for it anew. Nothing is repaired here.";
     default: return NULL;
     }
 }
@@ -690,6 +693,8 @@ static void show_place(const bytes *b, uint64_t place, int is_text)
 
 static const char *what_to_do(const bytes *b, kez_answer a, int input)
 {
+    if (a.refusal == 24)
+        return advice(a.refusal, input);
     if (input == HELD)
         return b->len ? "The text is base64, but the record in it is damaged: characters are missing, added or "
                         "changed. Ask for it anew."
@@ -801,7 +806,7 @@ static uint8_t out[KEZ_CANONICAL_MOST];
 
 typedef kez_answer writer(const uint8_t *, size_t, uint8_t *, size_t);
 
-/* Where the strict form first differs. It does differ, in a byte that both have: no event goes on behind its end. */
+/* Where the strict form first differs: in an element's word. Both have that byte: no event goes on behind its end. */
 static void tell_difference(void)
 {
     size_t at = 0;
@@ -810,8 +815,8 @@ static void tell_difference(void)
         at++;
     if (at == len)
         return;
-    fprintf(stderr, "the strict form differs first at byte %zu, where it has %02x for %02x\n", at, out[at],
-            first.at[at]);
+    fprintf(stderr, "the strict form differs first at byte %zu, an element's word, where it has %02x for %02x\n", at,
+            out[at], first.at[at]);
     show_place(&first, at, 0);
 }
 
@@ -852,11 +857,11 @@ static size_t decode(const uint8_t *at, size_t len, uint8_t *to)
     return count;
 }
 
-/* Refusals 2 to 10 are of the bytes that the text holds, and their places are in these. */
+/* Refusals 2 to 10 and 24 are of the bytes that the text holds, and their places are in these. */
 static int do_from_string(void)
 {
     kez_answer a = kez_notepack_string_read(first.at, first.len, out, sizeof out);
-    if (a.refusal >= 2 && a.refusal <= 10) {
+    if ((a.refusal >= 2 && a.refusal <= 10) || a.refusal == 24) {
         bytes held = {out, decode(first.at + PREFIX, first.len - PREFIX, out), sizeof out};
         return refused(&held, a, HELD);
     }

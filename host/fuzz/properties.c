@@ -127,7 +127,7 @@ static void unchanged(const buffer *b, size_t written, const char *what)
 }
 
 /* The refusals that the header allows each entry, one bit for each number. */
-enum { PACKED_ONES = 0x7fe, ROOM = 1 << 11, NO_SUCH = 1 << 19, NOT_CARRIED = 1 << 17 };
+enum { PACKED_ONES = 0x7fe | 1 << 24, ROOM = 1 << 11, NO_SUCH = 1 << 19, NOT_CARRIED = 1 << 17 };
 #define BAD_TABLE (UINT64_C(1) << 34)
 static const uint64_t allowed[ENTRIES] = {
     [READ] = PACKED_ONES,
@@ -486,6 +486,24 @@ static int is_strict(void)
     return a.refusal ? -1 : (int)a.value;
 }
 
+/* A record that is read is refused at its time if that is spelled by one byte more. */
+static void padded(const uint8_t *data, size_t len)
+{
+    static uint8_t longer[KEZ_MOST];
+    size_t last = 128;
+    if (len == KEZ_MOST)
+        return;
+    while (data[last] & 0x80)
+        last++;
+    must(last < 137, "reads a time of more bytes than it needs");
+    memcpy(longer, data, last + 1);
+    longer[last] |= 0x80;
+    longer[last + 1] = 0;
+    memcpy(longer + last + 2, data + last + 1, len - last - 1);
+    lend_input(&in_first, longer, len + 1, first_copy);
+    must(same(read_numbers(), (kez_answer){24, 128}), "does not refuse a padded number");
+}
+
 static void as_packed(const uint8_t *data, size_t len)
 {
     static uint8_t content[KEZ_MOST];
@@ -520,6 +538,7 @@ static void as_packed(const uint8_t *data, size_t len)
     must(strict_form.answer.value <= len, "writes a strict form that is longer than what was read");
     current = STRICT;
     must(strict == leaves(&strict_form, data, len), "disagrees with the strict form");
+    padded(data, len);
     /* the strict form reads back */
     lend_input(&in_first, strict_form.bytes, strict_form.answer.value, first_copy);
     accepted(read_numbers(), 0, "does not read the strict form back");

@@ -31,6 +31,7 @@ pub const NOT_A_STRING_FORM: u8 = 20;
 pub const NOT_BASE64: u8 = 21;
 pub const TOO_LONG_TO_KEEP: u8 = 22;
 pub const NO_FREE_SLOT: u8 = 23;
+pub const PADDED: u8 = 24;
 pub const BAD_TABLE: u8 = 34;
 
 #[cold]

@@ -6,7 +6,7 @@ pub fn is_utf8(bytes: &[u8]) -> bool {
     std::str::from_utf8(bytes).is_ok()
 }
 
-/// The varint at `at`: its value and where it ends.
+/// The varint at `at`: its value and where it ends. One that is longer than its number needs is 24.
 #[inline]
 pub fn varint(s: &[u8], at: usize) -> Answer<(u64, usize)> {
     match s.get(at) {
@@ -24,12 +24,16 @@ fn longer_varint(s: &[u8], at: usize, first: u8) -> Answer<(u64, usize)> {
         if i == 9 && b > 1 {
             return refuse(OVERFLOW, at);
         }
+        // a last byte without a bit in it adds nothing
+        if b == 0 {
+            return refuse(PADDED, at);
+        }
         value |= ((b & 0x7f) as u64) << (7 * i);
         if b < 0x80 {
             return Ok((value, at + i + 1));
         }
     }
-    unreachable!("a tenth byte of 00 or 01 ends the varint")
+    unreachable!("a tenth byte ends the varint, if it is 01, or is refused")
 }
 
 /// The length of the shortest varint of `value`.

@@ -35,9 +35,10 @@ pub enum Item<'a> {
     Text(Text<'a>),
 }
 
-/// What the walk over the bytes comes past, each with the length of its varint as spelled.
+/// What the walk over the bytes comes past, each with the length of its varint. No varint is longer than it need be, so
+/// only elements can be spelled in another way than the strict one.
 enum Seen<'a> {
-    Number(u64, usize),
+    Number(usize),
     Text(Text<'a>, usize),
 }
 
@@ -59,7 +60,7 @@ fn walk<'a>(bytes: &'a [u8], mut see: impl FnMut(Seen<'a>)) -> Answer<Packed<'a>
         if value > most {
             return refuse(number_of_refusal, start);
         }
-        see(Seen::Number(value, end - start));
+        see(Seen::Number(end - start));
         *at = end;
         Ok(value)
     };
@@ -86,7 +87,7 @@ fn walk<'a>(bytes: &'a [u8], mut see: impl FnMut(Seen<'a>)) -> Answer<Packed<'a>
         if count == 0 {
             return refuse(EMPTY_TAG, start);
         }
-        see(Seen::Number(count, end - start));
+        see(Seen::Number(end - start));
         at = end;
         for _ in 0..count {
             let start = at;
@@ -115,9 +116,8 @@ pub fn read(bytes: &[u8]) -> Answer<Packed<'_>> {
 pub fn is_strict(bytes: &[u8]) -> Answer<bool> {
     let mut strict = true;
     walk(bytes, |seen| {
-        strict &= match seen {
-            Seen::Number(value, spelled) => spelled == varint_len(value),
-            Seen::Text(text, spelled) => spelled == text.strict_word_len() && text.raw == text.goes_raw(),
+        if let Seen::Text(text, _) = seen {
+            strict &= text.raw == text.goes_raw();
         }
     })?;
     Ok(strict)
@@ -128,10 +128,7 @@ pub fn is_strict(bytes: &[u8]) -> Answer<bool> {
 pub fn measured(bytes: &[u8]) -> Answer<(Packed<'_>, usize, bool)> {
     let (mut needed, mut as_it_is) = (128, true);
     let packed = walk(bytes, |seen| match seen {
-        Seen::Number(value, spelled) => {
-            needed += varint_len(value);
-            as_it_is &= spelled == varint_len(value);
-        }
+        Seen::Number(spelled) => needed += spelled,
         Seen::Text(text, spelled) => {
             let length = text.strict_len();
             needed += length;
@@ -189,11 +186,6 @@ impl<'a> Text<'a> {
             (true, true) => 2 * length + 1,
             (true, false) => length + 1,
         }
-    }
-
-    #[inline]
-    fn strict_word_len(&self) -> usize {
-        varint_len(self.strict_word())
     }
 
     #[inline]

@@ -88,9 +88,7 @@ pub fn run() -> bool {
     let at = |s: &[u8]| ask(format!("read {}", hex(&packed(s, b""))));
     same("(5)", at(b"\xff\xff\xff\xff\xff\xff\xff\xff\xff\x02"), "refused 3 128".into());
     same("(6)", at(b"\x80"), "refused 4 128".into());
-    let padded = packed(b"\x80\0", b"\0\0\0");
-    same("(7) read", ask(format!("read {}", hex(&padded))), "ok 0 0 132 0 0".into());
-    same("(7) strict", ask(format!("strict {}", hex(&padded))), "no".into());
+    same("(7)", at(b"\x80\0"), "refused 24 128".into());
     for (n, text, strict) in [
         (8, &b"\x04ab"[..], &b"\x03\xab"[..]),
         (8, b"\x03\xab", b"\x03\xab"),
@@ -156,6 +154,7 @@ pub fn run() -> bool {
             same(&what, written, "refused 17 0".into());
         }
     }
+    padded_numbers(&mut same);
     string_forms(&mut same);
     tables(&mut same);
     bad_tables(&mut same);
@@ -165,6 +164,42 @@ pub fn run() -> bool {
     same("lister, cut", lister(&packed(b"\x80", b"")), "refused 4 at 128\\n".into());
     println!("{passed} passed, {failed} failed");
     failed == 0
+}
+
+/// Numbers longer than need be, in each place and of each length, beside cut and overlong ones. Rules 2.4 to 2.7.
+fn padded_numbers(same: &mut impl FnMut(&str, String, String)) {
+    let (nine, most) = ([0x80; 9], [0xff; 9]);
+    for (spelled, number) in [
+        (&b"\x80\0"[..], 24),
+        (b"\xff\0", 24),
+        (b"\x85\0", 24),
+        (b"\x80\x80\0", 24),
+        (b"\xff\xff\0", 24),
+        (&[&nine[..8], &[0]].concat(), 24),
+        (&[&nine[..], &[0]].concat(), 24),
+        (&[&most[..], &[0]].concat(), 24),
+        (&[&most[..], &[2]].concat(), 3),
+        (&[&nine[..], &[0x80]].concat(), 3),
+        (b"\x80", 4),
+        (&nine, 4),
+    ] {
+        // created_at, kind, the content's length, the number of tags, a tag's number of elements, an element's word
+        for before in [&b""[..], b"\0", b"\0\0", b"\0\0\0", b"\0\0\0\x01", b"\0\0\0\x01\x01"] {
+            let s = packed(before, spelled);
+            let what = format!("{} behind {}", hex(spelled), hex(before));
+            let wanted = format!("refused {number} {}", 128 + before.len());
+            same(&what, ask(format!("read {}", hex(&s))), wanted.clone());
+            if number != 4 {
+                let more = [&s[..], b"\0\0\0\0\0"].concat();
+                same(&format!("{what}, with more behind"), ask(format!("strict {}", hex(&more))), wanted);
+            }
+        }
+    }
+    // a tenth byte 01 is needed; the number is then too large, wherever it stands
+    let top = [&nine[..], &[1]].concat();
+    for (before, wanted) in [(&b""[..], "7 128"), (b"\0", "6 129"), (b"\0\0", "2 130"), (b"\0\0\0", "8 131")] {
+        same("2 to the power 63", ask(format!("read {}", hex(&packed(before, &top)))), format!("refused {wanted}"));
+    }
 }
 
 /// The vector's string form, what differs from one, and the limit. Part 14.
@@ -179,10 +214,14 @@ fn string_forms(same: &mut impl FnMut(&str, String, String)) {
             same(&format!("{entry} in {room}"), got, format!("refused 11 {most}"));
         }
     }
-    let (loose, strict) = (packed(b"\x80\0", b"\0\0\0"), packed(b"\0", b"\0\0\0"));
-    same("string form of a padded number", room("string_write", &loose), room("string_write", &strict));
-    let of_loose = format!("notepack_{}C{}", "A".repeat(170), "A".repeat(7));
-    same("a padded number by its string form", room("string_read", of_loose.as_bytes()), left(&loose));
+    let (hollow, strict) = (packed(b"\0", b"\0\0\x01\x01\x01"), packed(b"\0", b"\0\0\x01\x01\0"));
+    same("string form of the word 01", room("string_write", &hollow), room("string_write", &strict));
+    let of_hollow = format!("notepack_{}BAQE", "A".repeat(175));
+    same("the word 01 by its string form", room("string_read", of_hollow.as_bytes()), left(&hollow));
+    let of_padded = format!("notepack_{}C{}", "A".repeat(170), "A".repeat(7));
+    same("a padded number by its string form", room("string_read", of_padded.as_bytes()), "refused 24 128".into());
+    let padded = packed(b"\x80\0", b"\0\0\0");
+    same("string form of a padded number", room("string_write", &padded), "refused 24 128".into());
     for (text, wanted) in [
         ("", "refused 20 0"),
         ("notepack", "refused 20 0"),
@@ -286,8 +325,11 @@ fn tables(same: &mut impl FnMut(&str, String, String)) {
         let s = filled(kind, length);
         same(&format!("{} bytes", s.len()), ask(&offered(&s)), wanted.into());
     }
-    let loose = packed(b"\x80\x80\x80\0", &filled(b"\x03", 891)[129..]);
-    same("1,027 bytes of 1,024", format!("{} {}", loose.len(), ask(&offered(&loose))), "1027 new".into());
+    let mut as_text = packed(b"\0", b"\x03\0\x01\x01\x90\x0e");
+    as_text.extend([b'a'; 904]);
+    same("1,039 bytes of 587", format!("{} {}", as_text.len(), ask(&offered(&as_text))), "1039 new".into());
+    let padded = packed(b"\x80\0", &filled(b"\x04", 891)[129..]);
+    same("a padded number, offered", ask(&offered(&padded)), "refused 24 128".into());
     // 62 more fill it; then there is room only for what replaces
     for id in 2..64 {
         same("filling", ask(&offered(&record(id, 1, 9, 1, ""))), "new".into());
@@ -307,7 +349,8 @@ fn tables(same: &mut impl FnMut(&str, String, String)) {
 fn bad_tables(same: &mut impl FnMut(&str, String, String)) {
     let mut session = Session::new();
     let mut ask = |request: &str| session.answer(request).unwrap_or_default();
-    let (good, loose) = (record(1, 1, 9, 1, "a"), packed(b"\x80\0", b"\0\0\0"));
+    let (good, loose) = (record(1, 1, 9, 1, "a"), packed(b"\0", b"\0\0\x01\x01\x01"));
+    let padded = packed(b"\x80\0", b"\0\0\0");
     let other = record(2, 1, 9, 1, "a");
     let (keyed, later) = (record(1, 1, 9, 0, "a"), record(2, 1, 10, 0, "b"));
     let passing = record(1, 1, 9, 20_000, "a");
@@ -323,6 +366,7 @@ fn bad_tables(same: &mut impl FnMut(&str, String, String)) {
         ("a length past the cell", 64, vec![length(1, 1_025)], "refused 34 1"),
         ("the greatest length", 64, vec![length(1, u64::MAX)], "refused 34 1"),
         ("not strict", 64, vec![at(9, &loose)], "refused 34 9"),
+        ("a padded number", 64, vec![at(9, &padded)], "refused 34 9"),
         ("a passing kind", 64, vec![at(9, &passing)], "refused 34 9"),
         ("two of one id", 64, vec![at(9, &good), at(30, &good)], "refused 34 9"),
         ("two of one key", 64, vec![at(9, &keyed), at(8, &later)], "refused 34 8"),

@@ -27,6 +27,8 @@ fn packed_boundaries(g: &mut Requests) {
         g.all(&PACKED, &strict(&e), &e);
         let loose = loose(&mut g.dice, &e);
         g.all(&PACKED, &loose, &e);
+        let padded = with_padded(&mut g.dice, &e);
+        g.all(&PACKED, &padded, &e);
     }
     for length in [0, 1, 31, 32, 33, 63, 64, 65, 127, 128, 129, 130, 131, 132, 133] {
         g.all(&PACKED, &vec![0; length], &small());
@@ -52,12 +54,19 @@ fn packed_boundaries(g: &mut Requests) {
         let e = Event { tags: vec![vec![b"t".to_vec()], vec![b"".to_vec(); count]], ..small() };
         g.all(&PACKED, &strict(&e), &e);
     }
-    // each number in turn: every edge, every length of spelling, every tenth byte, with what follows and at the end
+    number_boundaries(g);
+    padded_boundaries(g);
+}
+
+/// Each number in turn: every edge, padded or not, every length of spelling, every tenth byte, with what follows and at
+/// the end.
+fn number_boundaries(g: &mut Requests) {
     let e = vector();
     let pieces = packed_pieces(&e, |text| !text.is_empty());
     for i in (0..pieces.len()).filter(|&i| matches!(pieces[i], Piece::Number(_))) {
         let Piece::Number(n) = pieces[i] else { continue };
         let mut spellings: Vec<Vec<u8>> = EDGES.iter().map(|&n| varint(n)).collect();
+        spellings.extend(EDGES.iter().map(|&n| padded(n, varint(n).len() + 1)));
         spellings.extend((1..=10).map(|length| padded(n, length)));
         for tenth in [0, 1, 2, 0x7f, 0x80, 0x81, 0xff] {
             spellings.extend([[vec![0x80; 9], vec![tenth]].concat(), [vec![0xff; 9], vec![tenth]].concat()]);
@@ -71,6 +80,36 @@ fn packed_boundaries(g: &mut Requests) {
             g.any(&PACKED, &spelled(&changed, varint), &e);
         }
     }
+}
+
+/// Each number in turn with 2, 3, 9 and 10 bytes, put to every kind of request; and padded where what it counts is
+/// ill-formed UTF-8, where more is padded further on, and where the input is cut behind it.
+fn padded_boundaries(g: &mut Requests) {
+    let e = vector();
+    let mut pieces = packed_pieces(&e, |text| !text.is_empty());
+    for i in (0..pieces.len()).filter(|&i| matches!(pieces[i], Piece::Number(_))).collect::<Vec<_>>() {
+        let Piece::Number(n) = pieces[i] else { continue };
+        for length in [2, 3, 9, 10] {
+            let mut changed = pieces.clone();
+            changed[i] = Piece::Spelled(padded(n, length));
+            let whole = spelled(&changed, varint);
+            g.all(&PACKED, &whole, &e);
+            g.all(&["string_read"], &string_of(&whole), &e);
+            g.rivals(&whole, &strict(&e));
+            g.rivals(&strict(&e), &whole);
+            g.any(&PACKED, &spelled(&changed, |n| padded(n, 2)), &e);
+            if let Some(Piece::Bytes(counted)) = changed.get_mut(i + 1) {
+                counted.fill(0xff);
+            }
+            g.any(&PACKED, &spelled(&changed, varint), &e);
+            changed.truncate(i + 1);
+            g.all(&["read", "strict", "pack"], &spelled(&changed, varint), &e);
+        }
+    }
+    // the word 01 is as short as can be
+    pieces.truncate(6);
+    pieces.extend([Piece::Bytes(b"hello".to_vec()), Piece::Spelled(vec![1, 1, 1])]);
+    g.all(&PACKED, &spelled(&pieces, varint), &Event { tags: vec![vec![vec![]]], ..e });
 }
 
 /// Every first with every room: no tags, a tag of one text, of many, and as many texts as a record can hold. The same
@@ -433,8 +472,8 @@ fn string_boundaries(g: &mut Requests) {
     }
     let ask = |g: &mut Requests, text: &[u8], e: &Event| g.all(&["string_read"], text, e);
     for e in [small(), carried(), vector(), mixed()] {
-        let loose = loose(&mut g.dice, &e);
-        for packed in [strict(&e), loose] {
+        let (loose, padded) = (loose(&mut g.dice, &e), with_padded(&mut g.dice, &e));
+        for packed in [strict(&e), loose, padded] {
             ask(g, &string_of(&packed), &e);
             for prefix in ODD_PREFIXES {
                 ask(g, &[prefix, &base64(&packed, 0)].concat(), &e);
@@ -560,7 +599,8 @@ fn rival_boundaries(g: &mut Requests) {
     // refusals, and sizes
     let good = strict(&vector());
     let long = vec![0; 65_537];
-    for bad in [&b""[..], b"x", &good[..130], &good[..236], &long] {
+    let padded = with_padded(&mut g.dice, &vector());
+    for bad in [&b""[..], b"x", &good[..130], &good[..236], &long, &padded] {
         g.rivals(bad, &good);
         g.rivals(&good, bad);
         g.rivals(&strict(&carried()), bad);

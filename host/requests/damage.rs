@@ -139,11 +139,13 @@ pub fn random(g: &mut Requests) {
 fn random_packed(d: &mut Dice, e: &Event) -> Vec<u8> {
     match d.below(10) {
         0..=2 => strict(e),
-        3..=5 => loose(d, e),
+        3..=4 => loose(d, e),
+        5 => with_padded(d, e),
         6 | 7 => {
             let mut pieces = packed_pieces(e, |_| d.percent(70));
             spoil_pieces(d, &mut pieces);
-            spelled(&pieces, |n| if d.percent(10) { padded(n, 1 + d.below(10)) } else { varint(n) })
+            let share = d.pick(&[0, 0, 0, 10]);
+            spelled(&pieces, |n| if d.percent(share) { padded(n, 1 + d.below(10)) } else { varint(n) })
         }
         _ => {
             let mut bytes = loose(d, e);
@@ -249,6 +251,9 @@ fn random_rivals(g: &mut Requests, mut a: Event) {
     }
     if d.percent(10) {
         spoil_bytes(d, &mut second);
+    }
+    if d.percent(5) {
+        second = with_padded(d, &b);
     }
     g.rivals(&first, &second);
 }

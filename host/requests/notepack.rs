@@ -21,7 +21,7 @@ pub fn varint(mut n: u64) -> Vec<u8> {
     bytes
 }
 
-/// The varint with so many bytes in all, as far as there is room for.
+/// The varint with so many bytes in all, as far as there is room for: refused, where that is more than it needs.
 pub fn padded(n: u64, length: usize) -> Vec<u8> {
     let mut bytes = varint(n);
     while bytes.len() < length.min(10) {
@@ -78,19 +78,40 @@ pub fn strict(e: &Event) -> Vec<u8> {
     spelled(&packed_pieces(e, |text| !text.is_empty()), varint)
 }
 
-/// Packed with some padded varints, and with hex as text here and there.
+/// Packed with hex as text here and there, and with empty texts as raw bytes.
 pub fn loose(d: &mut Dice, e: &Event) -> Vec<u8> {
-    let pieces = packed_pieces(e, |_| d.percent(60));
-    let share = d.pick(&[0, 10, 50]);
-    spelled(&pieces, |n| if d.percent(share) { padded(n, 1 + d.below(10)) } else { varint(n) })
+    spelled(&packed_pieces(e, |_| d.percent(60)), varint)
+}
+
+/// The same with one number that is longer than need be, or with several.
+pub fn with_padded(d: &mut Dice, e: &Event) -> Vec<u8> {
+    let mut pieces = packed_pieces(e, |_| d.percent(60));
+    let i = any_number(d, &pieces);
+    pad_piece(d, &mut pieces[i]);
+    let share = d.pick(&[0, 0, 10, 50]);
+    spelled(&pieces, |n| if d.percent(share) { padded(n, 2 + d.below(9)) } else { varint(n) })
+}
+
+/// Which piece is a number? One of those that are.
+fn any_number(d: &mut Dice, pieces: &[Piece]) -> usize {
+    let numbers: Vec<usize> = (0..pieces.len()).filter(|&i| matches!(pieces[i], Piece::Number(_))).collect();
+    d.pick(&numbers)
+}
+
+/// The number by one byte more than it needs, by some, or by all that there can be.
+fn pad_piece(d: &mut Dice, piece: &mut Piece) {
+    if let Piece::Number(n) = *piece {
+        let needed = varint(n).len();
+        let length = d.pick(&[needed + 1, needed + 1, needed + 2, 9, 10]).max(needed + 1);
+        *piece = Piece::Spelled(padded(n, length));
+    }
 }
 
 /// A fault in one piece, with all others as they should be.
 pub fn spoil_pieces(d: &mut Dice, pieces: &mut Vec<Piece>) {
-    let numbers: Vec<usize> = (0..pieces.len()).filter(|&i| matches!(pieces[i], Piece::Number(_))).collect();
-    let (i, j) = (d.pick(&numbers), d.pick(&numbers));
+    let (i, j) = (any_number(d, pieces), any_number(d, pieces));
     let any = d.below(pieces.len());
-    match d.below(8) {
+    match d.below(10) {
         0 => pieces[i] = Piece::Number(d.pick(&EDGES)),
         1 => {
             if let Piece::Number(n) = pieces[i] {
@@ -99,6 +120,12 @@ pub fn spoil_pieces(d: &mut Dice, pieces: &mut Vec<Piece>) {
         }
         2 => pieces[i] = Piece::Spelled(odd_varint(d)),
         3 => pieces.swap(i, j),
+        8 => pad_piece(d, &mut pieces[i]),
+        9 => {
+            // padded, and wrong too: 24 comes before what the number would decide
+            pieces[i] = Piece::Number(d.pick(&EDGES));
+            pad_piece(d, &mut pieces[i]);
+        }
         4 => {
             pieces.remove(any);
         }
@@ -117,11 +144,14 @@ pub fn spoil_pieces(d: &mut Dice, pieces: &mut Vec<Piece>) {
     }
 }
 
-/// A varint of full length, too long, or cut.
+/// A varint of full length, too long, cut, or padded.
 pub fn odd_varint(d: &mut Dice) -> Vec<u8> {
     let mut bytes: Vec<u8> = (0..9).map(|_| 0x80 | d.pick(&[0, 0x7f])).collect();
-    bytes.push(d.pick(&[0, 1, 2, 0x7f, 0x80, 0x81, 0xff]));
+    bytes.push(d.pick(&[0, 0, 1, 2, 0x7f, 0x80, 0x81, 0xff]));
     let keep = d.pick(&[1, 2, 8, 9, 10, 10, 10]);
     bytes.truncate(keep);
+    if keep < 10 && d.percent(30) {
+        bytes.push(0);
+    }
     bytes
 }

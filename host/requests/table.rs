@@ -115,11 +115,12 @@ fn near(d: &mut Dice, e: &Event) -> Event {
     e
 }
 
-/// An event as it is offered: strict, loose, or about as long as a cell; now and then wrong.
+/// An event as it is offered: strict, loose, or about as long as a cell; now and then padded or wrong.
 fn spelling(d: &mut Dice, e: &Event) -> Vec<u8> {
     match d.below(20) {
         0..=9 => strict(e),
-        10..=14 => loose(d, e),
+        10..=13 => loose(d, e),
+        14 => with_padded(d, e),
         15 => {
             let length = d.pick(&[1_023, 1_024, 1_025, 1_026, 2_000]);
             let e = of_length(e.clone(), length);
@@ -428,6 +429,7 @@ fn full(g: &mut Requests) {
         lines.push(offer(&strict(&of_length(passing, 1_025))));
         let cut = strict(&e);
         lines.push(offer(&cut[..cut.len() - 1]));
+        lines.push(offer(&with_padded(&mut g.dice, &later)));
         look(&mut lines, SLOTS);
         view(g, &mut lines);
         group(g, lines);

@@ -23,6 +23,7 @@ use Rattle.json.proofs.Whole as whole
 use Rattle.json.proofs.OneEvent.{event-one}
 use Rattle.agreement.specs.Demand2.{Demand2}
 use Rattle.agreement.proofs.Entries.{fits}
+use Rattle.agreement.proofs.Stored.{elements-decide, strict-elements}
 
 -- six items between brackets, with all brackets to the right
 items-right : (key time kind tags content : List ℕ)
@@ -60,6 +61,8 @@ demand-2 =
       one-strict = equal-exactly;
       reads-again = λ s bytes e r. reads-again s e r bytes;
       strict-question = strict-exactly;
+      elements-decide = elements-decide;
+      strict-elements = strict-elements;
       writes-canonical = λ s d e r h. fits canonical d r h;
       reads-json = λ s e. ((λ r. let h = whole.sound r in (h .value, h .text, h .event, h .short)), (λ h. whole.complete (h .1) (h .2) (h .3)));
       one-tree = λ s v w g h. one-value g h;

@@ -13,5 +13,6 @@ pub mod Writer
 pub mod OneField
 pub mod Counts
 pub mod Demand3
+pub mod Stored
 pub mod Demand2
 pub mod Example

@@ -19,6 +19,7 @@ use Rattle.strict.specs.Strict.{strict}
 use Rattle.canonical.specs.Canonical.{canonical}
 use Rattle.json.specs.Meaning.{IsEvent}
 use Rattle.json.specs.Object.{readJson}
+use Rattle.agreement.specs.Stored.{Stored, packedWith, storedStrict}
 
 pub record Demand2 : Type 0 where
   -- ---- notepack. (`IsBytes s`: the input is bytes.)
@@ -39,6 +40,11 @@ pub record Demand2 : Type 0 where
   pub reads-again : (s : List ℕ) → IsBytes s → (e : Event) → unpack s ≡ shown e → unpack (pack e) ≡ shown e
   -- Given bytes are strict exactly if they are the strict form of what they show.
   pub strict-question : (s : List ℕ) → (strict s ≡ shown true) ↔ ((e : Event) × (unpack s ≡ shown e) × (s ≡ pack e))
+  -- Two packed forms of one event differ in how its elements are stored, and in nothing else.
+  pub elements-decide : (s : List ℕ) (e : Event) → Lays e s → (ls : List (List (List ℕ))) × Stored (e .tags) ls × (s ≡ packedWith e ls)
+  -- They are strict exactly if each element is stored as the strict form has it.
+  pub strict-elements : (s : List ℕ) (e : Event) (ls : List (List (List ℕ))) → unpack s ≡ shown e → Stored (e .tags) ls → s ≡ packedWith e ls
+      → (strict s ≡ shown true) ↔ (ls ≡ storedStrict (e .tags))
   -- ---- the canonical text. `canonical` is NIP-01's; `proofs/Demand2.canonical-text` has it byte by byte.
 
   -- It is what is written, given room.

@@ -1,3 +1,4 @@
 pub mod Counted
+pub mod Stored
 pub mod Demand3
 pub mod Demand2

@@ -61,6 +61,8 @@ pub const NO_BASE64: u8 = 21;
 pub const OVER_A_CELL: u8 = 22;
 // table: no free slot for an event that needs a new one
 pub const TABLE_FULL: u8 = 23;
+// varint: more bytes than its number needs
+pub const VARINT_PADDED: u8 = 24;
 // table: another size, or a bad slot, which is the place
 pub const BAD_TABLE: u8 = 34;
 

@@ -47,12 +47,7 @@ fn read(label: &[u8], bytes: &[u8]) {
         VarintRead::Value(n, _) => {
             say(b" reads as ");
             say_number(n);
-            let start = Cursor { at: 0 };
-            if start.is_shortest(bytes) {
-                say(b", strict\n");
-            } else {
-                say(b", not strict\n");
-            }
+            say(b"\n");
         }
         VarintRead::Refused(r) => {
             say(b" is refusal ");

@@ -4,14 +4,13 @@ use mathlib.Core.Path.{refl}
 use Rattle.scan.specs.Place.{within}
 use Rattle.varint.specs.Uleb.{ulebIn, uleb}
 use Rattle.varint.specs.Varint.{spelled, varintAt}
-use Rattle.varint.specs.inner.Shortest.{shortestAt}
 use Rattle.hex.specs.Hex.{valueOf, unhex, allDigits, goesAsBytes}
 use Rattle.notepack.specs.Strict.{packElement}
 use Rattle.nson.proofs.Example.{example-field, example-length, example-read, example-refused}
 use Rattle.exampletable.specs.inner.Table.{CheckedExamples}
 
 pub checked-examples : CheckedExamples
-unfolding ulebIn uleb spelled varintAt shortestAt within valueOf unhex allDigits goesAsBytes packElement
+unfolding ulebIn uleb spelled varintAt within valueOf unhex allDigits goesAsBytes packElement
 checked-examples =
     record {
       example-1 = refl;
@@ -20,7 +19,7 @@ checked-examples =
       example-4 = refl;
       example-5 = refl;
       example-6 = refl;
-      example-7 = (refl, refl);
+      example-7 = refl;
       example-8 = refl;
       example-9 = refl;
       example-10 = refl;

@@ -267,9 +267,9 @@ pub extern "C" fn kez_rivals(first: &[u8], second: &[u8]) -> KezAnswer
 // The version as one number: 10,000 for a major one, 100 for a minor one, 1 for a patch.
 #[no_mangle]
 pub extern "C" fn kez_version() -> u64
-    ensures { λ r. ⌜ r ≡ 700 ⌝ }
+    ensures { λ r. ⌜ r ≡ 800 ⌝ }
 {
-    700
+    800
 }
 
 fn outcome_number(o: Outcome) -> u64

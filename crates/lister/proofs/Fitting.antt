@@ -48,7 +48,7 @@ numbers-fit h t k c n =
     simp length-append (omega (arith, a, b, d, e))
 
 -- a text of two numbers of at most 2 and 20 digits
-refusal-fits : (n p : ℕ) → n ≤ 10 → p < 2 ^ 64 → length (refusalText n p) ≤ 128
+refusal-fits : (n p : ℕ) → n ≤ 24 → p < 2 ^ 64 → length (refusalText n p) ≤ 128
 unfolding refusalText
 refusal-fits n p h k =
     let a = length-most 1 n (omega arith) in
@@ -94,7 +94,7 @@ listing-fits s bytes small = go (numbersOf s) refl (numbers-tells s)
         let long : h .content .len ≤ length s = rw same at (content-short s (n .event) q) in
         let count : h .«tag_count» ≡ length (n .event .tags) = rw same at (q .count) in
         numbers-fit h (omega (arith, v .time, n .time)) (omega (arith, v .kind16, n .kind)) (omega (arith, long, small)) (omega (arith, v .few, count))
-    go (refused n p) e (refusal o k) = refusal-fits n p (among-most packedNumbers 10 n refl o) (omega (arith, k, small))
+    go (refused n p) e (refusal o k) = refusal-fits n p (among-most packedNumbers 24 n refl o) (omega (arith, k, small))
 
 -- a text that fits is what stands at the buffer's start, up to the place behind it
 stands-whole : {d text d′ : List ℕ} {r : ℕ} → Wrote d 0 text d′ r → length text ≤ length d → (r ≡ length text) × (take r d′ ≡ text)

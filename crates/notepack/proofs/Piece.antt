@@ -17,7 +17,7 @@ use Rattle.scan.specs.inner.Otherwise.{either}
 use Rattle.scan.specs.Bytes.{IsBytes, none, also}
 use Rattle.scan.proofs.Step.{not-so, pick-by, false-true}
 use Rattle.varint.specs.Uleb.{Spells, uleb}
-use Rattle.varint.proofs.UlebLaws.{uleb-spells, uleb-shortest, uleb-last, length-last, length-more, length-one, spells-one, spells-unique, spells-value}
+use Rattle.varint.proofs.UlebLaws.{uleb-spells, uleb-shortest, uleb-last, length-last, length-more, length-one, spells-one, spells-only, spells-value}
 use Rattle.hex.specs.Hex.{hexes, unhex, goesAsBytes}
 use Rattle.hex.proofs.Texts.{unhex-hexes, hexes-go, go-digits, length-unhex}
 use Rattle.scan.specs.Compare.{sameBytes}
@@ -36,14 +36,14 @@ whole {l} = record { least = omega arith; same = λ e h. refl; clear = λ e. ref
 
 -- a varint
 pub number : {n : ℕ} {l : List ℕ} → Spells n l → Piece (uleb n) l false
-number d = record { least = uleb-shortest (d .digits); same = λ e h. spells-unique d (sym e); clear = λ e. refl }
+number d = record { least = uleb-shortest (d .digits); same = λ e h. spells-only d; clear = λ e. refl }
 
 either-no : (a b : Bool) → either a b ≡ false → (a ≡ false) × (b ≡ false)
 either-no true b e = absurd (false-true (sym e))
 either-no false b e = (refl, e)
 
 -- two lists joined alike, the first parts as long as each other
-halves : (a b c d : List ℕ) → length a ≡ length c → a ++ b ≡ c ++ d → (a ≡ c) × (b ≡ d)
+pub halves : (a b c d : List ℕ) → length a ≡ length c → a ++ b ≡ c ++ d → (a ≡ c) × (b ≡ d)
 halves a b c d n e = (
   sym (take-at a b (length a) refl) ∙ ap (take (length a)) e ∙ take-at c d (length a) (sym n),
   sym (drop-at a b (length a) refl) ∙ ap (drop (length a)) e ∙ drop-at c d (length a) (sym n),

@@ -1,4 +1,4 @@
--- A refusal of the notepack reader has one of its numbers 1 to 10, and its place is in the input or at its end.
+-- A refusal of the notepack reader has one of its numbers, and its place is in the input or at its end.
 -- Along the definitions of the reading: each read ends in the input, and refuses at a place that was reached.
 use Prim.{Unit, tt}
 use Prim.Native.Nat.{ℕ, zero, suc, _+_, _-_, _/_, _%_, _≤_}
@@ -12,7 +12,7 @@ use borrow.Author.Tests.{leb-true, eqb-true}
 use Rattle.scan.specs.Choice.{pick, Answer, shown, refused, Read, read, andThen, many}
 use Rattle.utf8.specs.inner.Width.{isUtf8}
 use Rattle.varint.specs.Varint.{varintAt}
-use Rattle.varint.proofs.VarintLaws.{Refuses, truncated, overflow, unterminated, refusal as refuses, consumes-some}
+use Rattle.varint.proofs.VarintLaws.{Refuses, truncated, overflow, unterminated, longer, refusal as refuses, consumes-some}
 use Rattle.event.specs.Event.{Event}
 use Rattle.event.specs.inner.Tells.{among, Tells, value, refusal}
 use Rattle.event.proofs.TellsLaws.{Inside, then-tells, pick-tells, less-tells, many-tells, wider}
@@ -34,6 +34,7 @@ module _ (s : List ℕ) where
       number truncated = refl
       number overflow = refl
       number unterminated = refl
+      number longer = refl
 
       go : (x : Answer (Read ℕ)) → varintAt s at ≡ x → In x
       go (shown r) e = value (consumes-some s at e .2)

@@ -1,5 +1,5 @@
--- The layout of notepack (rules 2): which bytes lay out which event, with any spelling of each
--- varint. Says nothing of refusals. Assumes nothing.
+-- The layout of notepack (rules 2): which bytes lay out which event. Each number has one spelling. Says nothing of
+-- refusals. Assumes nothing.
 use Prim.Native.Nat.{ℕ, _+_, _*_}
 use mathlib.Core.List.{List, [], _∷_, _++_}
 use lib.ListN.{length}

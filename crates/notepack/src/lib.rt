@@ -162,7 +162,7 @@ impl Cursor {
         let found = varint::Cursor { at }.long_varint(s);
         match found {
             VarintRead::Value(n, behind) => Cursor { at: behind.at }.text(s, at, n),
-            VarintRead::Refused(r) => PartRead::Refused(r),
+            VarintRead::Refused(unread) => PartRead::Refused(unread),
         }
     }
 

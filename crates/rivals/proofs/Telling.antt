@@ -1,4 +1,4 @@
--- A refusal of the choice is the first input's, or where that is read the second's; it has one of the numbers 1 to 10.
+-- A refusal of the choice is the first input's, or where that is read the second's; it has one of the reader's numbers.
 -- By what the reader tells of each.
 use Prim.{Unit}
 use Prim.Native.Nat.{ℕ}

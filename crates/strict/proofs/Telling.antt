@@ -1,4 +1,4 @@
--- The strict question refuses as the reader does: one of the numbers 1 to 10, at a place in the input or at its end.
+-- The strict question refuses as the reader does: one of its numbers, at a place in the input or at its end.
 use Prim.{Unit, tt}
 use Prim.Native.Nat.{ℕ}
 use mathlib.Core.Bool.{Bool}

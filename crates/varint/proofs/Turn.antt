@@ -3,20 +3,21 @@
 -- `Held` keeps the number small: seven bits more in each of nine turns, and one bit in the tenth byte.
 use Prim.Native.Nat.{ℕ, zero, suc, _+_, _*_, _-_, _^_, _≤_, _<_}
 use mathlib.Core.Path.{_≡_, refl, sym, ap, _∙_}
+use mathlib.Core.Bool.{Bool, true, false}
 use mathlib.Core.List.{List, _∷_}
 use native.Mathlib.Nat.{one-le-pow, pow-succ', mul-le-mul-left}
 use native.Mathlib.Numerals.{sub-one}
 use native.Mathlib.Omega.{arith}
 use lib.ListN.{length, getD, drop}
-use lib.Dec.{ltb, leb}
+use lib.Dec.{ltb, leb, eqb}
 use mir.Syntax.{w64}
 use mir.Val.{Fits}
-use borrow.Author.Tests.{lt-ltb, le-ltb, le-leb, lt-leb}
+use borrow.Author.Tests.{lt-ltb, le-ltb, le-leb, lt-leb, ne-eqb, eqb-false}
 use Rattle.scan.specs.Choice.{pick, Answer, refused, Read, read}
 use Rattle.scan.proofs.Step.{rest-none, rest-more}
 use Rattle.varint.specs.declared.VarintRead.{VarintRead}
 use Rattle.varint.specs.declared.VarintRead.the-variants.{Refused}
-use Rattle.varint.specs.Varint.{Spelled, number, over, cut, carry, spelled, answered, varintAt}
+use Rattle.varint.specs.Varint.{Spelled, number, padded, over, cut, carry, spelled, answered, varintAt}
 use Rattle.varint.specs.inner.Answers.{varintRead}
 
 -- ---- the number stays small
@@ -26,9 +27,13 @@ pub record Held (value scale left : ℕ) : Type 0 where
   pub below : value < scale
   pub room : scale * 128 ^ left ≤ 2 ^ 63
 
--- before the first byte nothing is held
-pub held-start : Held 0 1 9
-held-start = record { below = omega arith; room = omega arith }
+-- seven bits of the first byte are held
+pub held-start : {d : ℕ} → d < 128 → Held d 128 8
+held-start h = record { below = h; room = omega arith }
+
+-- and of the second
+pub held-two : {d e : ℕ} → d < 128 → e < 128 → Held (d + 128 * e) 16_384 7
+held-two h k = record { below = omega arith; room = omega arith }
 
 -- the next scale has its room
 held-next : {v c left : ℕ} → Held v c left → 0 < left → (c * 128 * 128 ^ (left - 1) ≤ 2 ^ 63) × (c * 128 ≤ 2 ^ 63)
@@ -79,7 +84,8 @@ pub ruleset held = (held-start, seven, held-again, held-add, held-mul, held-scal
 
 -- the answer at `start` of what the bytes from i on spell, where v was gathered before them and they count c times
 unfoldable pub onward : (start v c i : ℕ) → Spelled → Answer (Read ℕ)
-onward start v c i (number n w) = read (v + c * n) (i + w)
+onward start v c i (number n w) = pick (eqb n 0) (refused 24 start) (read (v + c * n) (i + w))
+onward start v c i padded = refused 24 start
 onward start v c i over = refused 3 start
 onward start v c i cut = refused 4 start
 
@@ -89,12 +95,31 @@ Gathered s start v c i left = varintAt s start ≡ onward start v c i (spelled l
 
 onward-carry : (start v c i d : ℕ) (r : Spelled) → onward start v c i (carry d r) ≡ onward start (v + c * d) (c * 128) (i + 1) r
 unfolding onward
-onward-carry start v c i d (number n w) =
-    let e : v + c * (d + 128 * n) ≡ v + c * d + c * 128 * n = omega arith in
-    let f : i + suc w ≡ i + 1 + w = omega arith in
-    rw (e, f)
+onward-carry start v c i d (number n w) = by-zero (eqb n 0) refl
+  where
+    by-zero : (t : Bool) → eqb n 0 ≡ t
+        → onward start v c i (pick t padded (number (d + 128 * n) (suc w))) ≡ pick t (refused 24 start) (read (v + c * d + c * 128 * n) (i + 1 + w))
+    by-zero true z = refl
+    by-zero false z =
+        let k = eqb-false n 0 z in
+        let e : v + c * (d + 128 * n) ≡ v + c * d + c * 128 * n = omega arith in
+        let f : i + suc w ≡ i + 1 + w = omega arith in
+        rw (ne-eqb (d + 128 * n) 0 (λ q. k (omega (arith, q))), e, f)
+onward-carry start v c i d padded = refl
 onward-carry start v c i d over = refl
 onward-carry start v c i d cut = refl
+
+-- the first byte of several
+answered-carry : (start d : ℕ) (r : Spelled) → answered start (carry d r) ≡ onward start d 128 (start + 1) r
+unfolding onward
+answered-carry start d (number n w) = by-zero (eqb n 0)
+  where
+    by-zero : (t : Bool) → answered start (pick t padded (number (d + 128 * n) (suc w))) ≡ pick t (refused 24 start) (read (d + 128 * n) (start + 1 + w))
+    by-zero true = refl
+    by-zero false = let f : start + suc w ≡ start + 1 + w = omega arith in ap (λ (m : ℕ). read (d + 128 * n) m) f
+answered-carry start d padded = refl
+answered-carry start d over = refl
+answered-carry start d cut = refl
 
 spelled-step : (left b : ℕ) (l : List ℕ) → 0 < left → spelled left (b ∷ l) ≡ pick (ltb b 128) (number b 1) (carry (b - 128) (spelled (left - 1) l))
 unfolding spelled
@@ -106,15 +131,17 @@ unfolding spelled
 spelled-end zero b l h = refl
 spelled-end (suc k) b l h = absurd (omega arith)
 
--- before the first byte nothing was gathered
-pub turn-start : (s : List ℕ) (start : ℕ) → start < length s → Gathered s start 0 1 start 9
-unfolding varintAt onward
-turn-start s start h = rw (lt-ltb start (length s) h) (go (spelled 9 (drop start s)))
-  where
-    go : (r : Spelled) → answered start r ≡ onward start 0 1 start r
-    go (number n w) = let e : n ≡ 0 + 1 * n = omega arith in ap (λ (m : ℕ). read m (start + w)) e
-    go over = refl
-    go cut = refl
+-- a first byte below 128 is the whole varint
+pub one-byte : (s : List ℕ) (at : ℕ) → at < length s → getD s at 0 < 128 → read (getD s at 0) (at + 1) ≡ varintAt s at
+unfolding varintAt
+one-byte s at h k = sym (rw (lt-ltb at (length s) h, rest-more s at h, spelled-step 9 (getD s at 0) (drop (at + 1) s) (omega arith), lt-ltb (getD s at 0) 128 k))
+
+-- of any other seven bits are gathered
+pub turn-start : (s : List ℕ) (start : ℕ) → start < length s → 128 ≤ getD s start 0 → Gathered s start (getD s start 0 - 128) 128 (start + 1) 8
+unfolding varintAt
+turn-start s start h k =
+    rw (lt-ltb start (length s) h, rest-more s start h, spelled-step 9 (getD s start 0) (drop (start + 1) s) (omega arith), le-ltb (getD s start 0) 128 k)
+    (answered-carry start (getD s start 0 - 128) (spelled 8 (drop (start + 1) s)))
 
 -- no byte at all is truncated
 pub turn-none : (s : List ℕ) (start : ℕ) (r : VarintRead) → length s ≤ start → r ≡ Refused (record { number = 2; place = start }) → varintRead r ≡ varintAt s start
@@ -130,11 +157,18 @@ module _ (s : List ℕ) (start v c i left : ℕ) where
       ∙ rw (rest-more s i h, spelled-step left (getD s i 0) (drop (i + 1) s) p, le-ltb (getD s i 0) 128 k)
       (onward-carry start v c i (getD s i 0 - 128) (spelled (left - 1) (drop (i + 1) s)))
 
-  -- a byte without it is the last
-  pub turn-last : Gathered s start v c i left → 0 < left → i < length s → getD s i 0 < 128
+  -- a byte without it is the last, and not 0
+  pub turn-last : Gathered s start v c i left → 0 < left → i < length s → (getD s i 0 ≡ 0 → ⊥) → getD s i 0 < 128
       → read (v + c * getD s i 0) (i + 1) ≡ varintAt s start
   unfolding onward
-  turn-last e p h k = sym (e ∙ rw (rest-more s i h, spelled-step left (getD s i 0) (drop (i + 1) s) p, lt-ltb (getD s i 0) 128 k))
+  turn-last e p h z k =
+      sym (e ∙ rw (rest-more s i h, spelled-step left (getD s i 0) (drop (i + 1) s) p, lt-ltb (getD s i 0) 128 k, ne-eqb (getD s i 0) 0 z))
+
+  -- a 0 is not needed
+  pub turn-padded : (r : VarintRead) → Gathered s start v c i left → 0 < left → i < length s → getD s i 0 ≡ 0
+      → r ≡ Refused (record { number = 24; place = start }) → varintRead r ≡ varintAt s start
+  unfolding onward
+  turn-padded r e p h z q = rw q (sym (e ∙ rw (rest-more s i h, spelled-step left (getD s i 0) (drop (i + 1) s) p, z)))
 
   -- the end of the input before the last byte is unterminated
   pub turn-cut : (r : VarintRead) → Gathered s start v c i left → length s ≤ i
@@ -142,11 +176,17 @@ module _ (s : List ℕ) (start v c i left : ℕ) where
   unfolding onward spelled
   turn-cut r e h k = rw k (sym (e ∙ rw (rest-none s i h)))
 
-  -- a tenth byte of 00 or 01 is the last
-  pub turn-tenth : Gathered s start v c i left → left ≤ 0 → i < length s → getD s i 0 ≤ 1
+  -- a tenth byte of 01 is the last
+  pub turn-tenth : Gathered s start v c i left → left ≤ 0 → i < length s → (getD s i 0 ≡ 0 → ⊥) → getD s i 0 ≤ 1
       → read (v + c * getD s i 0) (i + 1) ≡ varintAt s start
   unfolding onward
-  turn-tenth e p h k = sym (e ∙ rw (rest-more s i h, spelled-end left (getD s i 0) (drop (i + 1) s) p, le-leb (getD s i 0) 1 k))
+  turn-tenth e p h z k = sym (e ∙ rw (rest-more s i h, spelled-end left (getD s i 0) (drop (i + 1) s) p, le-leb (getD s i 0) 1 k, ne-eqb (getD s i 0) 0 z))
+
+  -- 00 is not needed
+  pub tenth-padded : (r : VarintRead) → Gathered s start v c i left → left ≤ 0 → i < length s → getD s i 0 ≡ 0
+      → r ≡ Refused (record { number = 24; place = start }) → varintRead r ≡ varintAt s start
+  unfolding onward
+  tenth-padded r e p h z q = rw q (sym (e ∙ rw (rest-more s i h, spelled-end left (getD s i 0) (drop (i + 1) s) p, z)))
 
   -- any other is an overflow
   pub turn-over : (r : VarintRead) → Gathered s start v c i left → left ≤ 0 → i < length s → 1 < getD s i 0
@@ -154,10 +194,9 @@ module _ (s : List ℕ) (start v c i left : ℕ) where
   unfolding onward
   turn-over r e p h k q = rw q (sym (e ∙ rw (rest-more s i h, spelled-end left (getD s i 0) (drop (i + 1) s) p, lt-leb (getD s i 0) 1 k)))
 
-pub ruleset turns = (turn-start, turn-none, turn-again, turn-last, turn-cut, turn-tenth, turn-over)
+-- two bytes with the top bit set
+pub turn-two : (s : List ℕ) (start : ℕ) → start < length s → 128 ≤ getD s start 0 → start + 1 < length s → 128 ≤ getD s (start + 1) 0
+    → Gathered s start (getD s start 0 - 128 + 128 * (getD s (start + 1) 0 - 128)) 16_384 (start + 1 + 1) 7
+turn-two s start a b c d = turn-again s start (getD s start 0 - 128) 128 (start + 1) 8 (turn-start s start a b) (omega arith) c d
 
--- a first byte below 128 is the whole varint
-pub one-byte : (s : List ℕ) (at : ℕ) → at < length s → getD s at 0 < 128 → read (getD s at 0) (at + 1) ≡ varintAt s at
-one-byte s at h k =
-    let e : getD s at 0 ≡ 0 + 1 * getD s at 0 = omega arith in
-    ap (λ (n : ℕ). read n (at + 1)) e ∙ turn-last s at 0 1 at 9 (turn-start s at h) (omega arith) h k
+pub ruleset turns = (turn-start, turn-none, turn-again, turn-last, turn-padded, turn-cut, turn-tenth, tenth-padded, turn-over, one-byte)

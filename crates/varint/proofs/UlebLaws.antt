@@ -1,4 +1,4 @@
--- The laws of ULEB128: the steps of `uleb`, that it spells its number, and that no other spelling is as short.
+-- The laws of ULEB128: the steps of `uleb`, that it spells its number, and that nothing else does.
 -- By induction on the spelling; `uleb` is opened only for its two steps.
 use Prim.Native.Nat.{ℕ, zero, suc, _+_, _*_, _-_, _/_, _%_, _≤_, _<_, _^_}
 use mathlib.Core.Path.{_≡_, refl, sym, ap, _∙_}
@@ -12,7 +12,7 @@ use lib.Dec.{ltb}
 use borrow.Author.Tests.{lt-ltb, le-ltb}
 use Rattle.scan.specs.Choice.{pick}
 use Rattle.scan.specs.Bytes.{All, none, also, IsBytes}
-use Rattle.varint.specs.Uleb.{Uleb, last, more, Spells, ulebIn, uleb}
+use Rattle.varint.specs.Uleb.{Uleb, last, more, Groups, top, below, Spells, ulebIn, uleb}
 
 -- ---- the steps of the shortest spelling
 
@@ -53,12 +53,12 @@ length-more n h = ap length (uleb-more n h) ∙ omega arith
 -- a spelling has a byte
 pub digits-one : {n : ℕ} {l : List ℕ} → Uleb n l → 1 ≤ length l
 digits-one (last h) = omega arith
-digits-one (more h u) = omega arith
+digits-one (more h z u) = omega arith
 
 -- every byte of a spelling is a byte
 digits-bytes : {n : ℕ} {l : List ℕ} → Uleb n l → IsBytes l
 digits-bytes (last {b = b} h) = also {b = b} (omega arith) none
-digits-bytes (more {b = b} h u) = also {b = 128 + b} (omega arith) (digits-bytes u)
+digits-bytes (more {b = b} h z u) = also {b = 128 + b} (omega arith) (digits-bytes u)
 
 -- the number that a list of bytes spells, if any
 worth : List ℕ → ℕ
@@ -68,13 +68,13 @@ worth (b ∷ l) = pick (ltb b 128) b (b - 128 + 128 * worth l)
 digits-worth : {n : ℕ} {l : List ℕ} → Uleb n l → n ≡ worth l
 unfolding worth
 digits-worth (last {b = b} h) = rw (lt-ltb b 128 h)
-digits-worth (more {b = b} h u) = rw (le-ltb (128 + b) 128 (omega arith), ← (digits-worth u)) (omega arith)
+digits-worth (more {b = b} h z u) = rw (le-ltb (128 + b) 128 (omega arith), ← (digits-worth u)) (omega arith)
 
 -- a spelling spells one number
 digits-value : {n m : ℕ} {l : List ℕ} → Uleb n l → Uleb m l → n ≡ m
 digits-value u v = digits-worth u ∙ sym (digits-worth v)
 
--- ---- the shortest spelling among them
+-- ---- the shortest spelling
 
 in-digits : (k n : ℕ) → n ≤ k → Uleb n (ulebIn k n)
 unfolding ulebIn
@@ -83,7 +83,7 @@ in-digits (suc k) n h =
     dite (decLt n 128) (λ p. rw (lt-ltb n 128 p) (last p))
     (λ q.
     let e : n % 128 + 128 * (n / 128) ≡ n = omega arith in
-    rw (le-ltb n 128 (omega (arith, q))) (rw e at (more {b = n % 128} (omega arith) (in-digits k (n / 128) (omega arith)))))
+    rw (le-ltb n 128 (omega (arith, q))) (rw e at (more {b = n % 128} {n = n / 128} (omega arith) (omega (arith, q)) (in-digits k (n / 128) (omega arith)))))
 
 -- `uleb n` spells n
 pub uleb-digits : (n : ℕ) → Uleb n (uleb n)
@@ -105,22 +105,41 @@ uleb-rest b n h g =
     let q : (b + 128 * n) / 128 ≡ n = omega arith in
     uleb-more (b + 128 * n) g ∙ rw (p, q)
 
--- no spelling is shorter than `uleb n`
-pub uleb-shortest : {n : ℕ} {l : List ℕ} → Uleb n l → length (uleb n) ≤ length l
-uleb-shortest (last {b = b} h) = omega (arith, length-last b h)
-uleb-shortest (more {b = b} {n = n} h u) =
-    dite (decLt (b + 128 * n) 128) (λ p. omega (arith, length-last (b + 128 * n) p))
-    (λ q. omega (arith, ap length (uleb-rest b n h (omega (arith, q))), uleb-shortest u))
+-- nothing but `uleb n` spells n
+digits-only : {n : ℕ} {l : List ℕ} → Uleb n l → l ≡ uleb n
+digits-only (last {b = b} h) = sym (uleb-last b h)
+digits-only (more {b = b} {n = n} h z u) = ap (λ (t : List ℕ). (128 + b) ∷ t) (digits-only u) ∙ sym (uleb-rest b n h (omega (arith, z)))
 
--- and no other is as short
-uleb-unique : {n : ℕ} {l : List ℕ} → Uleb n l → length l ≡ length (uleb n) → l ≡ uleb n
-uleb-unique (last {b = b} h) e = sym (uleb-last b h)
-uleb-unique (more {b = b} {n = n} h u) e =
-    dite (decLt (b + 128 * n) 128) (λ p. absurd (omega (arith, length-last (b + 128 * n) p, digits-one u)))
+-- ---- among all groups of seven bits
+
+groups-one : {n : ℕ} {l : List ℕ} → Groups n l → 1 ≤ length l
+groups-one (top h) = omega arith
+groups-one (below h u) = omega arith
+
+-- none that make n are fewer than `uleb n`
+pub groups-least : {n : ℕ} {l : List ℕ} → Groups n l → length (uleb n) ≤ length l
+groups-least (top {b = b} h) = omega (arith, length-last b h)
+groups-least (below {b = b} {n = n} h u) =
+    dite (decLt (b + 128 * n) 128) (λ p. omega (arith, length-last (b + 128 * n) p))
+    (λ q. omega (arith, ap length (uleb-rest b n h (omega (arith, q))), groups-least u))
+
+-- a spelling is such groups
+pub spelled-groups : {n : ℕ} {l : List ℕ} → Uleb n l → Groups n l
+spelled-groups (last h) = top h
+spelled-groups (more h z u) = below h (spelled-groups u)
+
+-- so no spelling is shorter
+pub uleb-shortest : {n : ℕ} {l : List ℕ} → Uleb n l → length (uleb n) ≤ length l
+uleb-shortest u = groups-least (spelled-groups u)
+
+-- and groups that are no more than needed are a spelling: what is refused as padded is longer than its number needs
+pub groups-spelled : {n : ℕ} {l : List ℕ} → Groups n l → length l ≡ length (uleb n) → Uleb n l
+groups-spelled (top h) e = last h
+groups-spelled (below {b = b} {n = n} h u) e =
+    dite (decLt (b + 128 * n) 128) (λ p. absurd (omega (arith, length-last (b + 128 * n) p, groups-one u)))
     (λ q.
     let s = uleb-rest b n h (omega (arith, q)) in
-    let i = uleb-unique u (omega (arith, ap length s)) in
-    ap (λ (t : List ℕ). (128 + b) ∷ t) i ∙ sym s)
+    more h (omega (arith, q, h)) (groups-spelled u (omega (arith, e, ap length s))))
 
 -- ---- how long it is
 
@@ -141,11 +160,11 @@ length-uleb (suc k) n h =
 pub length-ten : (n : ℕ) → n < 2 ^ 64 → length (uleb n) ≤ 10
 length-ten n h = length-uleb 9 n (omega arith)
 
--- ---- the spellings that a varint may have
+-- ---- a varint
 
 -- what is written is a varint
 pub uleb-spells : (n : ℕ) → n < 2 ^ 64 → Spells n (uleb n)
-uleb-spells n h = record { digits = uleb-digits n; ten = length-ten n h; holds = h }
+uleb-spells n h = record { digits = uleb-digits n; holds = h }
 
 -- a varint has a byte
 pub spells-one : {n : ℕ} {l : List ℕ} → Spells n l → 1 ≤ length l
@@ -159,6 +178,10 @@ spells-bytes h = digits-bytes (h .digits)
 pub spells-value : {n m : ℕ} {l : List ℕ} → Spells n l → Spells m l → n ≡ m
 spells-value h k = digits-value (h .digits) (k .digits)
 
--- a varint as short as the shortest spelling is that spelling
-pub spells-unique : {n : ℕ} {l : List ℕ} → Spells n l → length l ≡ length (uleb n) → l ≡ uleb n
-spells-unique h e = uleb-unique (h .digits) e
+-- a varint is the shortest spelling of its number
+pub spells-only : {n : ℕ} {l : List ℕ} → Spells n l → l ≡ uleb n
+spells-only h = digits-only (h .digits)
+
+-- ten bytes at most
+pub spells-ten : {n : ℕ} {l : List ℕ} → Spells n l → length l ≤ 10
+spells-ten {n} h = rw (spells-only h) (length-ten n (h .holds))

@@ -1,27 +1,25 @@
--- A varint is read at a place exactly where one of its spellings is the span, and what is written reads back.
+-- A varint is read at a place exactly where its spelling is the span, and what is written reads back.
 -- The laws of `spelled` at a place, through `Span`; callers speak of `Spells` and `varintAt` alone.
 use Prim.Native.Nat.{ℕ, zero, suc, _+_, _^_, _≤_, _<_}
 use mathlib.Core.Path.{_≡_, refl, sym, ap, _∙_}
-use mathlib.Core.Bool.{true}
 use mathlib.Core.List.{List, _++_}
 use mathlib.Core.Logic.{dite, _↔_}
 use native.Mathlib.Omega.{arith}
 use native.Mathlib.Decide.{decLt}
 use lib.ListN.{length, getD, drop, length-append, length-drop}
 use lib.Dec.{ltb}
-use borrow.Author.Tests.{lt-ltb, le-ltb, eq-eqb, eqb-true}
+use borrow.Author.Tests.{lt-ltb, le-ltb}
 use Rattle.scan.specs.Choice.{Answer, shown, refused, Read, read}
 use Rattle.scan.specs.Bytes.{All, Byte, IsBytes}
 use Rattle.scan.specs.inner.Span.{Span}
-use Rattle.scan.proofs.Step.{pick-by, false-true}
+use Rattle.scan.proofs.Step.{pick-by}
 use Rattle.scan.proofs.SpanLaws.{from-span, to-span, span-length, span-fits, span-unique}
 use Rattle.scan.proofs.AllLaws.{span-all}
 use Rattle.scan.proofs.Reading.{Reads, reads, fails}
 use Rattle.varint.specs.Uleb.{Spells, uleb}
-use Rattle.varint.specs.Varint.{Spelled, number, over, cut, spelled, answered, varintAt}
-use Rattle.varint.specs.inner.Shortest.{isShortest, shortestAt}
-use Rattle.varint.proofs.UlebLaws.{uleb-spells, spells-one, spells-unique}
-use Rattle.varint.proofs.SpelledLaws.{spelled-digits, Taken, taken, taken-over, taken-cut, spelled-taken}
+use Rattle.varint.specs.Varint.{Spelled, number, padded, over, cut, spelled, answered, varintAt}
+use Rattle.varint.proofs.UlebLaws.{uleb-spells, spells-one, spells-ten}
+use Rattle.varint.proofs.SpelledLaws.{spelled-digits, Taken, taken, taken-padded, taken-over, taken-cut, spelled-taken}
 
 -- ---- at a place: what is accepted
 
@@ -29,7 +27,7 @@ use Rattle.varint.proofs.SpelledLaws.{spelled-digits, Taken, taken, tak
 pub accepts-list : {n : ℕ} {l : List ℕ} (s : List ℕ) (at : ℕ) (r : List ℕ) → Spells n l → drop at s ≡ l ++ r → varintAt s at ≡ read n (at + length l)
 unfolding varintAt
 accepts-list {l = l} s at r h e =
-    let d = spelled-digits 9 r (h .digits) (h .ten) (omega (arith, h .holds)) in
+    let d = spelled-digits 9 r (h .digits) (spells-ten h) (omega (arith, h .holds)) in
     let k = ap length e in
     rw (lt-ltb at (length s) (omega (arith, spells-one h, length-append l r, length-drop at s)), e, d)
 
@@ -48,6 +46,7 @@ pub data Refuses : ℕ → Type 0 where
   truncated : Refuses 2
   overflow : Refuses 3
   unterminated : Refuses 4
+  longer : Refuses 24
 
 -- what is told at a place: a number with the bytes that were taken, or a refusal at the varint
 data Outcome (s : List ℕ) (at : ℕ) : Answer (Read ℕ) → Type 0 where
@@ -56,7 +55,8 @@ data Outcome (s : List ℕ) (at : ℕ) : Answer (Read ℕ) → Type 0 where
 
 answered-outcome : {t : List ℕ} {x : Spelled} (s : List ℕ) (at : ℕ) → drop at s ≡ t → Taken 9 t x → Outcome s at (answered at x)
 answered-outcome s at e (taken {n = n} {w = w} l r f g h k u) =
-    took {next = at + w} l (rw g (to-span s l r at (e ∙ f))) h k (λ y. let v = u y in record { digits = v .0; ten = k; holds = omega (arith, v .1) })
+    took {next = at + w} l (rw g (to-span s l r at (e ∙ f))) h k (λ y. let v = u y in record { digits = v .0; holds = omega (arith, v .1) })
+answered-outcome s at e taken-padded = not-taken longer
 answered-outcome s at e taken-over = not-taken overflow
 answered-outcome s at e taken-cut = not-taken unterminated
 
@@ -115,6 +115,7 @@ truncated-at s at = (
   where
     go : (x : Spelled) → answered at x ≡ refused 2 at → ⊥
     go (number n w) e = let z : _≡_ {A = ℕ} 0 1 = cc in omega arith
+    go padded e = let z : _≡_ {A = ℕ} 24 2 = cc in omega arith
     go over e = let z : _≡_ {A = ℕ} 3 2 = cc in omega arith
     go cut e = let z : _≡_ {A = ℕ} 4 2 = cc in omega arith
 
@@ -125,22 +126,3 @@ one-varint {n} {m} {c = c} {d = d} h p i q =
     let f : _≡_ {A = Read ℕ} (record { value = n; next = c }) (record { value = m; next = d }) = cc in
     let g = ap (λ (a : Read ℕ). a .next) f in
     (ap (λ (a : Read ℕ). a .value) f, span-unique (rw g at p) q, g)
-
--- ---- the shortest spelling at a place
-
--- the varint at a place is spelled as short as can be exactly where the shortest spelling of some number stands
-pub shortest-at : (s : List ℕ) (at : ℕ) → IsBytes s
-    → (shortestAt s at ≡ true) ↔ ((n : ℕ) × (c : ℕ) × (n < 2 ^ 64) × Span s at (uleb n) c)
-unfolding shortestAt
-shortest-at s at y = (λ e. go (varintAt s at) refl e, λ h. back (h .0) (h .1) (h .2) (h .3))
-  where
-    go : (x : Answer (Read ℕ)) → varintAt s at ≡ x → isShortest at x ≡ true → (n : ℕ) × (c : ℕ) × (n < 2 ^ 64) × Span s at (uleb n) c
-    go (shown r) e t =
-        let u = consumes s at y e in
-        let f = eqb-true (r .next) (at + length (uleb (r .value))) t in
-        let g = spells-unique (u .1) (omega (arith, span-length (u .2))) in
-        (r .value, r .next, u .1 .holds, rw g at (u .2))
-    go (refused n p) e t = absurd (false-true t)
-
-    back : (n c : ℕ) → n < 2 ^ 64 → Span s at (uleb n) c → isShortest at (varintAt s at) ≡ true
-    back n c h p = rw (reads-back h p) (eq-eqb c (at + length (uleb n)) (span-length p))

@@ -1,4 +1,4 @@
-// Varints: ULEB128 in one to ten bytes, read at a cursor and written as short as can be.
+// Varints: ULEB128 in one to ten bytes, as short as can be, read at a cursor and written.
 use event::Refusal;
 ghost use Prim.Native.Nat.{_≤_};
 ghost use mathlib.Core.Path.{_≡_};
@@ -6,7 +6,6 @@ ghost use lib.ListN.{length};
 ghost use Rattle.buffer.specs.inner.Store.{Wrote};
 ghost use Rattle.varint.specs.Uleb.{uleb};
 ghost use Rattle.varint.specs.Varint.{varintAt};
-ghost use Rattle.varint.specs.inner.Shortest.{shortestAt};
 ghost use Rattle.varint.specs.inner.Answers.{varintRead};
 
 // A place in the input. A cursor past the end reads as the end.
@@ -40,7 +39,7 @@ impl Cursor {
         self.long_varint(s)
     }
 
-    // The same, byte by byte: for a number that is seldom below 128.
+    // The same, byte by byte: for a number that is seldom below 128. A last byte of 0 behind others is not needed.
     pub fn long_varint(self, s: &[u8]) -> VarintRead
         ensures { λ r. ⌜ varintRead r ≡ varintAt (now (s .entry)) (self .at) ⌝ }
     {
@@ -48,15 +47,33 @@ impl Cursor {
         if s.len() <= start {
             return refuse(event::TRUNCATED, start);
         }
-        let mut value: u64 = 0;
-        let mut scale: u64 = 1;
-        let mut i: usize = start;
-        let mut left: usize = 9;
+        let first = s[start] as u64;
+        if first < 128 {
+            return VarintRead::Value(first, Cursor { at: start + 1 });
+        }
+        let mut i: usize = start + 1;
+        if s.len() <= i {
+            return refuse(event::VARINT_UNTERMINATED, start);
+        }
+        let second = s[i] as u64;
+        if second < 128 {
+            if second == 0 {
+                return refuse(event::VARINT_PADDED, start);
+            }
+            return VarintRead::Value(first - 128 + 128 * second, Cursor { at: i + 1 });
+        }
+        i += 1;
+        let mut value: u64 = first - 128 + 128 * (second - 128);
+        let mut scale: u64 = 16384;
+        let mut left: usize = 7;
         while 0 < left {
             if s.len() <= i {
                 return refuse(event::VARINT_UNTERMINATED, start);
             }
             let b = s[i] as u64;
+            if b == 0 {
+                return refuse(event::VARINT_PADDED, start);
+            }
             if b < 128 {
                 return VarintRead::Value(value + scale * b, Cursor { at: i + 1 });
             }
@@ -68,23 +85,14 @@ impl Cursor {
         if s.len() <= i {
             return refuse(event::VARINT_UNTERMINATED, start);
         }
-        let b = s[i] as u64;
-        if b <= 1 {
-            return VarintRead::Value(value + scale * b, Cursor { at: i + 1 });
+        let tenth = s[i] as u64;
+        if tenth == 0 {
+            return refuse(event::VARINT_PADDED, start);
+        }
+        if tenth <= 1 {
+            return VarintRead::Value(value + scale * tenth, Cursor { at: i + 1 });
         }
         refuse(event::VARINT_OVERFLOW, start)
-    }
-
-    // Whether the varint at the cursor is spelled as short as it can be.
-    pub fn is_shortest(self, s: &[u8]) -> bool
-        ensures { λ r. ⌜ r ≡ shortestAt (now (s .entry)) (self .at) ⌝ }
-    {
-        let at = self.at;
-        let found = self.varint(s);
-        match found {
-            VarintRead::Value(n, next) => next.at == at + varint_len(n),
-            VarintRead::Refused(_) => false,
-        }
     }
 }
 

@@ -2,14 +2,12 @@
 -- nothing.
 use Prim.Native.Nat.{ℕ}
 use mathlib.Core.Path.{_≡_}
-use mathlib.Core.Bool.{false}
 use mathlib.Core.List.{List, [], _∷_, _++_}
 use lib.ListN.{length, replicate}
 use Rattle.scan.specs.Ascii.{ascii}
-use Rattle.scan.specs.Choice.{shown, read, refused}
+use Rattle.scan.specs.Choice.{shown, refused}
 use Rattle.varint.specs.Uleb.{uleb}
 use Rattle.varint.specs.Varint.{varintAt}
-use Rattle.varint.specs.inner.Shortest.{shortestAt}
 use Rattle.hex.specs.Hex.{hexes}
 use Rattle.event.specs.Event.{Event}
 use Rattle.notepack.specs.Strict.{packElement}
@@ -41,7 +39,7 @@ pub record CheckedExamples : Type 0 where
   pub example-4 : uleb 1_720_000_000 ≡ 0x80 ∷ 0xbc ∷ 0x94 ∷ 0xb4 ∷ 0x06 ∷ []
   pub example-5 : varintAt (0xff ∷ 0xff ∷ 0xff ∷ 0xff ∷ 0xff ∷ 0xff ∷ 0xff ∷ 0xff ∷ 0xff ∷ 0x02 ∷ []) 0 ≡ refused 3 0
   pub example-6 : varintAt (0x80 ∷ []) 0 ≡ refused 4 0
-  pub example-7 : (varintAt (0x80 ∷ 0x00 ∷ []) 0 ≡ read 0 2) × (shortestAt (0x80 ∷ 0x00 ∷ []) 0 ≡ false)
+  pub example-7 : varintAt (0x80 ∷ 0x00 ∷ []) 0 ≡ refused 24 0
   -- elements: `ab`, `AB`, `abc`, and the empty text
   pub example-8 : packElement (ascii "ab") ≡ 0x03 ∷ 0xab ∷ []
   pub example-9 : packElement (ascii "AB") ≡ 0x04 ∷ 0x41 ∷ 0x42 ∷ []
