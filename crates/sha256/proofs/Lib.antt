@@ -1,0 +1,4 @@
+pub mod Turns
+pub mod Cutting
+pub mod Filling
+pub mod Rule
