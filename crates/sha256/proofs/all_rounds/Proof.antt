@@ -1,4 +1,5 @@
--- `sha256::all_rounds` meets its contract: from each t on the rounds that are left give the result.
+-- `all_rounds` goes through 64 rounds. The invariant: the rounds that are left, from round t on, give the result.
+-- Each turn is `rounds-turn`, the end `rounds-done`.
 use Prim.Native.Nat.{_≤_, _-_}
 use Prim.Native.Nat.{ℕ}
 use mathlib.Core.Path.{_≡_, refl}

@@ -1,4 +1,4 @@
--- `sha256::big0` meets its contract: its operations are those of the definition.
+-- `big0` is `Σ0` of 4.1.2: its operations are those of the definition.
 use mathlib.Core.Path.{refl}
 use Rattle.sha256.specs.Operations.{Σ0}
 use Rattle.sha256.proofs.big0.Statement.{statement}

@@ -1,4 +1,4 @@
--- `sha256::big1` meets its contract: its operations are those of the definition.
+-- `big1` is `Σ1` of 4.1.2: its operations are those of the definition.
 use mathlib.Core.Path.{refl}
 use Rattle.sha256.specs.Operations.{Σ1}
 use Rattle.sha256.proofs.big1.Statement.{statement}

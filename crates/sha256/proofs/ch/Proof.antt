@@ -1,4 +1,4 @@
--- `sha256::ch` meets its contract: its operations are those of the definition.
+-- `ch` is `Ch` of 4.1.2: its operations are those of the definition.
 use mathlib.Core.Path.{refl}
 use Rattle.sha256.specs.Operations.{Ch}
 use Rattle.sha256.proofs.ch.Statement.{statement}

@@ -1,4 +1,5 @@
--- `sha256::extend` meets its contract: what the words so far are extended to is the schedule.
+-- `extend` makes the other words of the schedule. The invariant: what the first t words are extended to is the schedule.
+-- Each turn is `schedule-turn`, the end `schedule-done`.
 use Prim.Native.Nat.{_≤_, _-_}
 use mathlib.Core.Path.{_≡_, refl}
 use native.Mathlib.Omega.{arith}

@@ -1,4 +1,5 @@
--- `sha256::load` meets its contract: the words stored so far, and those of the bytes that are left, are the block's.
+-- `load` stores the block's words. The invariant: those stored so far, and those of the bytes that are left, are all.
+-- Each turn is `words-turn`, the end `words-done`.
 use Prim.Native.Nat.{_≤_, _-_, _*_}
 use mathlib.Core.Path.{_≡_, refl}
 use mathlib.Core.List.{_++_}

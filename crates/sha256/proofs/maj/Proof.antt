@@ -1,4 +1,4 @@
--- `sha256::maj` meets its contract: its operations are those of the definition.
+-- `maj` is `Maj` of 4.1.2: its operations are those of the definition.
 use mathlib.Core.Path.{refl}
 use Rattle.sha256.specs.Operations.{Maj}
 use Rattle.sha256.proofs.maj.Statement.{statement}

@@ -1,54 +1,30 @@
-use Rattle.sha256.specs.Message.{wordBytes}
-use Rattle.buffer.proofs.Laws.{then}
+-- `put_word` writes four bytes, the highest first. By composition of four writers of one byte.
 use borrow.Author.Needs.{needs}
+use Rattle.buffer.proofs.Laws.{then}
+use Rattle.sha256.specs.Message.{wordBytes}
 use Rattle.sha256.proofs.put_word.Statement.{statement}
 use Rattle.sha256.proofs.put_word.Tie as tie
-use Rattle.sha256.proofs.put_word.Reads as reads
-use Rattle.sha256.proofs.put_word.Lts as lts
-use Rattle.buffer.proofs.put_byte.Reads as put-byte-reads
-
-cast-put-byte : tie.Need-cast-put-byte
-cast-put-byte c = search needs
-
-put-byte-requires : tie.Need-put-byte-requires
-put-byte-requires c κs = search needs
-
-cast-put-byte-2 : tie.Need-cast-put-byte-2
-cast-put-byte-2 c = search needs
-
-put-byte-requires-2 : tie.Need-put-byte-requires-2
-put-byte-requires-2 c κs = search needs
-
-cast-put-byte-3 : tie.Need-cast-put-byte-3
-cast-put-byte-3 c = search needs
-
-put-byte-requires-3 : tie.Need-put-byte-requires-3
-put-byte-requires-3 c κs = search needs
-
-cast-put-byte-4 : tie.Need-cast-put-byte-4
-cast-put-byte-4 c = search needs
-
-put-byte-requires-4 : tie.Need-put-byte-requires-4
-put-byte-requires-4 c κs = search needs
-
-same-length : tie.Need-same-length
-same-length c = search needs
 
 returns : tie.Need-returns
 unfolding wordBytes
-returns c = then (then (then (c .before .before .before .before .before .before .before .before .before .before .before .before .before .before .put-byte .ensures) (c .before .before .before .before .before .before .before .before .before .before .put-byte2 .ensures)) (c .before .before .before .before .before .before .put-byte3 .ensures)) (c .before .before .put-byte4 .ensures)
+returns c =
+    let z = c .before .before in
+    let y = z .before .before .before .before in
+    let x = y .before .before .before .before in
+    let w = x .before .before .before .before in
+    then (then (then (w .put-byte .ensures) (x .put-byte2 .ensures)) (y .put-byte3 .ensures)) (z .put-byte4 .ensures)
 
 pub put-word-spec : {M : Type 1} → statement M
 put-word-spec =
     tie.close
     (tie.spec
-    cast-put-byte
-    put-byte-requires
-    cast-put-byte-2
-    put-byte-requires-2
-    cast-put-byte-3
-    put-byte-requires-3
-    cast-put-byte-4
-    put-byte-requires-4
-    same-length
+    (λ c. search needs)
+    (λ c κs. search needs)
+    (λ c. search needs)
+    (λ c κs. search needs)
+    (λ c. search needs)
+    (λ c κs. search needs)
+    (λ c. search needs)
+    (λ c κs. search needs)
+    (λ c. search needs)
     returns)

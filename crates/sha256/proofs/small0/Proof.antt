@@ -1,4 +1,4 @@
--- `sha256::small0` meets its contract: its operations are those of the definition.
+-- `small0` is `σ0` of 4.1.2: its operations are those of the definition.
 use mathlib.Core.Path.{refl}
 use Rattle.sha256.specs.Operations.{σ0}
 use Rattle.sha256.proofs.small0.Statement.{statement}

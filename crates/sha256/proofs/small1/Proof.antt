@@ -1,4 +1,4 @@
--- `sha256::small1` meets its contract: its operations are those of the definition.
+-- `small1` is `σ1` of 4.1.2: its operations are those of the definition.
 use mathlib.Core.Path.{refl}
 use Rattle.sha256.specs.Operations.{σ1}
 use Rattle.sha256.proofs.small1.Statement.{statement}

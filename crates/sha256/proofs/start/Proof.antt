@@ -1,4 +1,4 @@
--- `sha256::start` meets its contract: the values are those of FIPS 180-4, 5.3.3.
+-- `start` is the state before the first piece: the definition's words, zeros, no byte. By computation.
 use mathlib.Core.Path.{refl}
 use Rattle.sha256.specs.Constants.{initial}
 use Rattle.sha256.specs.Pieces.{started}

@@ -1,4 +1,5 @@
--- `sha256::whole_blocks` meets its contract: the blocks that are left give the result.
+-- `whole_blocks` hashes block after block. The invariant: the blocks that are left, from the value so far, give the
+-- result. Each turn is `blocks-turn`, the end `blocks-done`.
 use Prim.Native.Nat.{_≤_, _-_, _/_}
 use mathlib.Core.Path.{_≡_, refl}
 use native.Mathlib.Nat.{sub-zero}

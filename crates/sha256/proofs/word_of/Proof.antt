@@ -1,4 +1,4 @@
--- `sha256::word_of` meets its contract: four bytes are four digits to the base 256.
+-- `word_of` makes a word of four bytes: it is the definition's sum, and no step of it is past 32 bits.
 use mathlib.Core.Path.{refl}
 use borrow.Author.Needs.{needs}
 use Rattle.sha256.specs.Compression.{wordOf}
