@@ -2,21 +2,17 @@
 -- of l, and then those of what is behind them and k (`hashed-append`).
 use Prim.Native.Nat.{ℕ, zero, suc, _+_, _-_, _*_, _/_, _%_, _^_, _<_, _≤_}
 use mathlib.Core.Path.{_≡_, refl, sym, ap, _∙_}
-use mathlib.Core.Bool.{Bool, true, false}
 use mathlib.Core.List.{List, [], _∷_, _++_, append-assoc, append-nil}
 use native.Mathlib.Nat.{zero-add}
 use native.Mathlib.Omega.{arith}
-use lib.Dec.{leb}
-use borrow.Author.Tests.{lt-leb}
-use Rattle.scan.specs.Choice.{Answer, shown}
-use lib.ListN.{length, take, drop, replicate, length-append, length-take, length-drop, length-replicate}
+use lib.ListN.{length, take, drop, replicate, length-append, length-take, length-drop}
 use lib.Seq.{take-append-le, drop-append-le, take-at, drop-drop, length-take-le}
 use Rattle.sha256.specs.declared.Words.{Words}
 use Rattle.sha256.specs.declared.Hash.{Hash}
 use Rattle.sha256.specs.Compression.{compress, blocks}
 use Rattle.sha256.specs.Constants.{initial}
 use Rattle.sha256.specs.Message.{padding, hashed, digest, digestBytes}
-use Rattle.sha256.specs.Pieces.{behindBlocks, zeroFilled, waiting, settled, started, withPiece, tooLong, addedTo, finalWords, finished, finishOf, allAdded, joined}
+use Rattle.sha256.specs.Pieces.{behindBlocks, zeroFilled, waiting, settled, started, withPiece, finalWords, finished}
 
 -- n blocks lie in the front part
 blocks-front : (n : ℕ) (h : Words) (l k : List ℕ) → 64 * n ≤ length l → blocks n h (l ++ k) ≡ blocks n h l
@@ -34,7 +30,7 @@ blocks-more (suc n) m h l =
     let f : suc n * 64 ≡ 64 + n * 64 = omega arith in
     rw (e, f, ← drop-drop (n * 64) 64 l) (blocks-more n m (compress h (take 64 l)) (drop 64 l))
 
-behind-length : (l : List ℕ) → length (behindBlocks l) ≡ length l % 64
+pub behind-length : (l : List ℕ) → length (behindBlocks l) ≡ length l % 64
 unfolding behindBlocks
 behind-length l = simp length-drop (omega arith)
 
@@ -111,60 +107,3 @@ unfolding finished finalWords digest
 finished-digest m =
     let w = settled-waiting initial m (length m) refl in
     rw (first-piece m, w, settled-chain, settled-count, ← hashed-append initial m (padding (length m)))
-
--- ---- with the limit on the length
-
--- a refused piece changes nothing
-pub refused-kept : (s : Hash) (p : List ℕ) → tooLong s (length p) ≡ true → addedTo s p ≡ s
-unfolding addedTo
-refused-kept s p h = rw h
-
-pub added-short : (s : Hash) (p : List ℕ) → s .count + length p < 2 ^ 61 → addedTo s p ≡ withPiece s p
-unfolding addedTo tooLong
-added-short s p h = rw (lt-leb (2 ^ 61) (s .count + length p) h)
-
-pub count-added : (s : Hash) (p : List ℕ) → withPiece s p .count ≡ s .count + length p
-unfolding withPiece settled
-count-added s p = refl
-
-pub pending-added : (s : Hash) (p : List ℕ) → length (withPiece s p .pending) ≡ 64
-unfolding withPiece settled zeroFilled
-pending-added s p =
-    let l : List ℕ = behindBlocks (waiting s ++ p) in
-    simp (length-append, length-replicate) (omega (arith, behind-length (waiting s ++ p)))
-
--- all pieces of a list, one after the other, are one piece
-pieces-one : (s : Hash) (ps : List (List ℕ)) (a : List ℕ) → length (s .pending) ≡ 64 → s .count + length (a ++ joined ps) < 2 ^ 61
-    → allAdded (withPiece s a) ps ≡ withPiece s (a ++ joined ps)
-unfolding allAdded joined
-pieces-one s [] a h k = rw (append-nil a)
-pieces-one s (p ∷ ps) a h k =
-    let n : length (a ++ (p ++ joined ps)) ≡ length a + (length p + length (joined ps)) = simp length-append in
-    let m : length ((a ++ p) ++ joined ps) ≡ length a + length p + length (joined ps) = simp length-append in
-    let e = added-short (withPiece s a) p (omega (arith, n, k, count-added s a)) in
-    rw (e, added-append s a p h, ← append-assoc a p (joined ps)) (pieces-one s ps (a ++ p) h (omega (arith, n, m, k)))
-
-finish-short : (s : Hash) → s .count < 2 ^ 61 → finishOf s ≡ shown (finished s)
-unfolding finishOf tooLong
-finish-short s h = rw (lt-leb (2 ^ 61) (s .count + 0) (omega arith))
-
-started-empty : withPiece started [] ≡ started
-unfolding withPiece settled started waiting behindBlocks zeroFilled hashed blocks
-started-empty = refl
-
-started-count : started .count ≡ 0
-unfolding started
-started-count = refl
-
-started-long : length (started .pending) ≡ 64
-unfolding started
-started-long = refl
-
--- the pieces of a message in any cut, added one after the other and finished, give its digest
-pub pieces-digest : (ps : List (List ℕ)) → length (joined ps) < 2 ^ 61 → finishOf (allAdded started ps) ≡ shown (digest (joined ps))
-pieces-digest ps h =
-    let z = started-count in
-    let e : allAdded started ps ≡ withPiece started (joined ps) =
-        ap (λ (s : Hash). allAdded s ps) (sym started-empty) ∙ pieces-one started ps [] started-long (omega (arith, h, z)) in
-    let k : withPiece started (joined ps) .count < 2 ^ 61 = omega (arith, h, z, count-added started (joined ps)) in
-    rw e (finish-short (withPiece started (joined ps)) k ∙ ap shown (finished-digest (joined ps)))

@@ -1,4 +1,5 @@
 pub mod Turns
 pub mod Cutting
+pub mod Joining
 pub mod Filling
 pub mod Rule

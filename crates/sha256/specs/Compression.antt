@@ -56,8 +56,14 @@ rounds w (suc n) t v = rounds w n (t + 1) (round v (getD constants t 0) (getD w 
 unfoldable pub addWords : Words → Words → Words
 addWords x y =
     record {
-      a = plus (x .a) (y .a); b = plus (x .b) (y .b); c = plus (x .c) (y .c); d = plus (x .d) (y .d);
-      e = plus (x .e) (y .e); f = plus (x .f) (y .f); g = plus (x .g) (y .g); h = plus (x .h) (y .h)
+      a = plus (x .a) (y .a);
+      b = plus (x .b) (y .b);
+      c = plus (x .c) (y .c);
+      d = plus (x .d) (y .d);
+      e = plus (x .e) (y .e);
+      f = plus (x .f) (y .f);
+      g = plus (x .g) (y .g);
+      h = plus (x .h) (y .h);
     }
 
 -- ---- 6.2.2: one block

@@ -20,6 +20,12 @@ constants =
 unfoldable pub initial : Words
 initial =
     record {
-      a = 0x6a09e667; b = 0xbb67ae85; c = 0x3c6ef372; d = 0xa54ff53a;
-      e = 0x510e527f; f = 0x9b05688c; g = 0x1f83d9ab; h = 0x5be0cd19
+      a = 0x6a09e667;
+      b = 0xbb67ae85;
+      c = 0x3c6ef372;
+      d = 0xa54ff53a;
+      e = 0x510e527f;
+      f = 0x9b05688c;
+      g = 0x1f83d9ab;
+      h = 0x5be0cd19;
     }
