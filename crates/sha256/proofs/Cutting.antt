@@ -1,5 +1,5 @@
--- Cutting a message elsewhere changes nothing, and what is hashed in pieces is the digest. The blocks of l ++ k are those
--- of l, and then those of what is behind them and k (`hashed-append`).
+-- Cutting a message elsewhere changes nothing, and what is hashed in pieces is the digest.
+-- The blocks of l ++ k are those of l, and then those of what is behind them and k (`hashed-append`).
 use Prim.Native.Nat.{ℕ, zero, suc, _+_, _-_, _*_, _/_, _%_, _^_, _<_, _≤_}
 use mathlib.Core.Path.{_≡_, refl, sym, ap, _∙_}
 use mathlib.Core.List.{List, [], _∷_, _++_, append-assoc, append-nil}

@@ -1,5 +1,5 @@
--- `extend` makes the other words of the schedule. The invariant: what the first t words are extended to is the schedule.
--- Each turn is `schedule-turn`, the end `schedule-done`.
+-- `extend` makes the other words of the schedule. The invariant: what the first t words are extended to is the
+-- schedule. Each turn is `schedule-turn`, the end `schedule-done`.
 use Prim.Native.Nat.{_≤_, _-_}
 use mathlib.Core.Path.{_≡_, refl}
 use native.Mathlib.Omega.{arith}
