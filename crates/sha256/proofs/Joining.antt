@@ -59,19 +59,19 @@ started-empty : withPiece started [] ≡ started
 unfolding withPiece settled started waiting behindBlocks zeroFilled hashed blocks
 started-empty = refl
 
-started-count : started .count ≡ 0
+pub count-started : started .count ≡ 0
 unfolding started
-started-count = refl
+count-started = refl
 
-started-long : length (started .pending) ≡ 64
+pub pending-started : length (started .pending) ≡ 64
 unfolding started
-started-long = refl
+pending-started = refl
 
 -- the pieces of a message in any cut, added one after the other and finished, give its digest
 pub pieces-digest : (ps : List (List ℕ)) → length (joined ps) < 2 ^ 61 → finishOf (allAdded started ps) ≡ shown (digest (joined ps))
 pieces-digest ps h =
-    let z = started-count in
+    let z = count-started in
     let e : allAdded started ps ≡ withPiece started (joined ps) =
-    ap (λ (s : Hash). allAdded s ps) (sym started-empty) ∙ pieces-one started ps [] started-long (omega (arith, h, z)) in
+    ap (λ (s : Hash). allAdded s ps) (sym started-empty) ∙ pieces-one started ps [] pending-started (omega (arith, h, z)) in
     let k : withPiece started (joined ps) .count < 2 ^ 61 = omega (arith, h, z, count-added started (joined ps)) in
     rw e (finish-short (withPiece started (joined ps)) k ∙ ap shown (finished-digest (joined ps)))
