@@ -36,7 +36,7 @@ state-made b h e f g w =
     let n = g ∙ ap numberOf (ap (take 8) f ∙ take-take 8 8 (drop 32 b) (omega arith)) in
     λ i. record { chain = e i; pending = p i; count = n i }
 
-lent : (b : List ℕ) {s : Hash} → 104 ≤ length b → s ≡ stateOf b → lentState b ≡ shown s
+pub lent : (b : List ℕ) {s : Hash} → 104 ≤ length b → s ≡ stateOf b → lentState b ≡ shown s
 unfolding lentState
 lent b h e = rw (le-leb 104 (length b) h) (ap shown (sym e))
 

@@ -1,12 +1,13 @@
--- A hash state in 104 lent bytes: 32 of words, 8 of the count, 64 that are pending; and what the entries over it answer.
--- Assumes nothing.
+-- A hash state in 104 lent bytes: 32 of words, 8 of the count, 64 that are pending; and what the entries over it
+-- answer. Assumes nothing.
 use Prim.Native.Nat.{ℕ, _+_, _<_, _^_}
 use mathlib.Core.Path.{_≡_}
-use mathlib.Core.List.{List, _++_}
+use mathlib.Core.List.{List, [], _∷_, _++_}
 use lib.ListN.{length, take, drop}
 use lib.Dec.{leb}
 use Rattle.scan.specs.Choice.{pick, Answer, shown, refused, andThen}
 use Rattle.scan.specs.Place.{byteAt}
+use Rattle.buffer.specs.Entry.{leaves}
 use Rattle.littleendian.specs.LittleEndian.{numberOf, lowFirst}
 use Rattle.sha256.specs.declared.Words.{Words}
 use Rattle.sha256.specs.declared.Hash.{Hash}
@@ -61,3 +62,8 @@ addIn b p = andThen (lentState b) λ s. pick (tooLong s (length p)) (refused 35 
 -- finishing: 11, then 35 at 0, or the digest
 unfoldable pub finishIn : List ℕ → Answer (List ℕ)
 finishIn b = andThen (lentState b) finishOf
+
+-- the buffer after pieces that were added one after the other; a refusal leaves it as it was
+unfoldable pub afterPieces : List ℕ → List (List ℕ) → List ℕ
+afterPieces b [] = b
+afterPieces b (p ∷ ps) = afterPieces (leaves bytesOfState (addIn b p) b) ps
