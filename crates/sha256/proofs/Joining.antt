@@ -2,16 +2,17 @@
 -- refused piece changes nothing. By induction on the pieces, with `added-append`.
 use Prim.Native.Nat.{ℕ, _+_, _%_, _<_, _^_}
 use mathlib.Core.Path.{_≡_, refl, sym, ap, _∙_}
-use mathlib.Core.Bool.{true}
+use mathlib.Core.Bool.{true, false}
 use mathlib.Core.List.{List, [], _∷_, _++_, append-assoc, append-nil}
 use native.Mathlib.Omega.{arith}
 use lib.ListN.{length, length-append, length-replicate}
 use borrow.Author.Tests.{lt-leb}
 use Rattle.scan.specs.Choice.{Answer, shown}
 use Rattle.sha256.specs.declared.Hash.{Hash}
-use Rattle.sha256.specs.Compression.{blocks}
+use Rattle.sha256.specs.Compression.{AreWords, blocks}
 use Rattle.sha256.specs.Message.{zerosBehind, hashed, digest}
 use Rattle.sha256.specs.Pieces.{behindBlocks, zeroFilled, waiting, settled, started, withPiece, tooLong, addedTo, finished, finishOf, allAdded, joined}
+use Rattle.sha256.proofs.WordLaws.{hashed-words, initial-words}
 use Rattle.sha256.proofs.Cutting.{behind-length, added-append, finished-digest}
 
 -- 5.1.1: the length ends a block, and with fewer zeros it would not
@@ -26,9 +27,14 @@ pub refused-kept : (s : Hash) (p : List ℕ) → tooLong s (length p) ≡ true �
 unfolding addedTo
 refused-kept s p h = rw h
 
+-- below the limit
+pub not-too-long : (s : Hash) (n : ℕ) → s .count + n < 2 ^ 61 → tooLong s n ≡ false
+unfolding tooLong
+not-too-long s n h = lt-leb (2 ^ 61) (s .count + n) h
+
 pub added-short : (s : Hash) (p : List ℕ) → s .count + length p < 2 ^ 61 → addedTo s p ≡ withPiece s p
-unfolding addedTo tooLong
-added-short s p h = rw (lt-leb (2 ^ 61) (s .count + length p) h)
+unfolding addedTo
+added-short s p h = rw (not-too-long s (length p) h)
 
 pub count-added : (s : Hash) (p : List ℕ) → withPiece s p .count ≡ s .count + length p
 unfolding withPiece settled
@@ -39,6 +45,10 @@ unfolding withPiece settled zeroFilled
 pending-added s p =
     let l : List ℕ = behindBlocks (waiting s ++ p) in
     simp (length-append, length-replicate) (omega (arith, behind-length (waiting s ++ p)))
+
+pub words-added : (s : Hash) (p : List ℕ) → AreWords (s .chain) → AreWords (withPiece s p .chain)
+unfolding withPiece settled
+words-added s p w = hashed-words (s .chain) (waiting s ++ p) w
 
 -- all pieces of a list, one after the other, are one piece
 pieces-one : (s : Hash) (ps : List (List ℕ)) (a : List ℕ) → length (s .pending) ≡ 64 → s .count + length (a ++ joined ps) < 2 ^ 61
@@ -52,26 +62,30 @@ pieces-one s (p ∷ ps) a h k =
     rw (e, added-append s a p h, ← append-assoc a p (joined ps)) (pieces-one s ps (a ++ p) h (omega (arith, n, m, k)))
 
 finish-short : (s : Hash) → s .count < 2 ^ 61 → finishOf s ≡ shown (finished s)
-unfolding finishOf tooLong
-finish-short s h = rw (lt-leb (2 ^ 61) (s .count + 0) (omega arith))
+unfolding finishOf
+finish-short s h = rw (not-too-long s 0 (omega arith))
 
 started-empty : withPiece started [] ≡ started
 unfolding withPiece settled started waiting behindBlocks zeroFilled hashed blocks
 started-empty = refl
 
-started-count : started .count ≡ 0
+pub count-started : started .count ≡ 0
 unfolding started
-started-count = refl
+count-started = refl
 
-started-long : length (started .pending) ≡ 64
+pub pending-started : length (started .pending) ≡ 64
 unfolding started
-started-long = refl
+pending-started = refl
+
+pub words-started : AreWords (started .chain)
+unfolding started
+words-started = initial-words
 
 -- the pieces of a message in any cut, added one after the other and finished, give its digest
 pub pieces-digest : (ps : List (List ℕ)) → length (joined ps) < 2 ^ 61 → finishOf (allAdded started ps) ≡ shown (digest (joined ps))
 pieces-digest ps h =
-    let z = started-count in
+    let z = count-started in
     let e : allAdded started ps ≡ withPiece started (joined ps) =
-    ap (λ (s : Hash). allAdded s ps) (sym started-empty) ∙ pieces-one started ps [] started-long (omega (arith, h, z)) in
+    ap (λ (s : Hash). allAdded s ps) (sym started-empty) ∙ pieces-one started ps [] pending-started (omega (arith, h, z)) in
     let k : withPiece started (joined ps) .count < 2 ^ 61 = omega (arith, h, z, count-added started (joined ps)) in
     rw e (finish-short (withPiece started (joined ps)) k ∙ ap shown (finished-digest (joined ps)))

@@ -1,3 +1,4 @@
+pub mod WordLaws
 pub mod Turns
 pub mod Cutting
 pub mod Joining

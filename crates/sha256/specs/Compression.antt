@@ -1,11 +1,17 @@
 -- FIPS 180-4, sections 5.2.1 and 6.2.2: a block of 64 bytes as sixteen words, and what it does to the hash value.
 -- Assumes nothing.
-use Prim.Native.Nat.{ℕ, zero, suc, _+_, _-_, _*_, _^_}
+use Prim.Native.Nat.{ℕ, zero, suc, _+_, _-_, _*_, _<_, _^_}
 use mathlib.Core.List.{List, [], _∷_, _++_}
 use lib.ListN.{length, getD, take, drop}
 use Rattle.sha256.specs.declared.Words.{Words}
 use Rattle.sha256.specs.Operations.{plus, Ch, Maj, Σ0, Σ1, σ0, σ1}
 use Rattle.sha256.specs.Constants.{constants}
+
+-- eight numbers that are words
+abbrev pub AreWords : Words → Type 0
+AreWords v =
+    (v .a < 2 ^ 32) × (v .b < 2 ^ 32) × (v .c < 2 ^ 32) × (v .d < 2 ^ 32)
+    × (v .e < 2 ^ 32) × (v .f < 2 ^ 32) × (v .g < 2 ^ 32) × (v .h < 2 ^ 32)
 
 -- ---- 5.2.1: words from bytes
 
