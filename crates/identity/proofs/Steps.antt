@@ -4,14 +4,15 @@
 use Prim.Native.Nat.{ℕ, _*_, _≤_, _<_, _^_}
 use mathlib.Core.Path.{_≡_, refl, sym, ap, _∙_}
 use mathlib.Core.Bool.{Bool, true, false}
-use mathlib.Core.List.{List, [], _∷_, _++_}
+use mathlib.Core.List.{List, [], _∷_, _++_, append-nil}
 use native.Mathlib.Omega.{arith}
-use lib.ListN.{length, take, drop}
+use lib.ListN.{length, take, drop, replicate}
 use lib.Seq.{take-at}
 use borrow.Author.Tests.{le-leb}
 use Rattle.scan.specs.Bytes.{IsBytes}
 use Rattle.scan.specs.Choice.{pick, Answer, shown, refused, andThen}
 use Rattle.scan.specs.Compare.{sameBytes}
+use Rattle.buffer.specs.inner.Store.{Wrote}
 use Rattle.buffer.specs.Entry.{writes, leaves, written, filled}
 use Rattle.event.specs.Event.{Event}
 use Rattle.notepack.specs.Unpack.{unpack}
@@ -19,7 +20,15 @@ use Rattle.notepack.proofs.Sound.{sound}
 use Rattle.notepack.proofs.Seen.{seen}
 use Rattle.canonical.specs.Canonical.{canonical}
 use Rattle.canonical.proofs.Whole.{canonical-most}
-use Rattle.sha256.specs.Message.{digest}
+use Rattle.sha256.specs.declared.Words.{Words}
+use Rattle.sha256.specs.declared.Hash.{Hash}
+use Rattle.sha256.specs.declared.Finished.{Finished}
+use Rattle.sha256.specs.Message.{digest, digestBytes}
+use Rattle.sha256.specs.Pieces.{started, addedTo, finishOf}
+use Rattle.sha256.specs.inner.Answers.{finishTold}
+use Rattle.sha256.proofs.WordLaws.{length-digest}
+use Rattle.sha256.proofs.Filling.{written-front}
+use Rattle.sha256.proofs.Joining.{message-digest}
 use Rattle.identity.specs.Identity.{belongs}
 
 -- the canonical text of what is shown, at the start of the scratch
@@ -67,3 +76,21 @@ module _ (s d : List ℕ) (bytes : IsBytes s) (room : length s ≤ 65_536 → 3 
 pub digest-decides : {s d′ : List ℕ} {n : ℕ} {b : Bool} → Text s n d′ → b ≡ sameBytes (take 32 s) (digest (take n d′)) → shown b ≡ belongs s
 unfolding belongs
 digest-decides {b = b} t e = rw (t .shows) (ap shown (rw (t .id, ← (t .text)) e))
+
+-- ---- the digest
+
+-- of a text in one piece
+pub one-digest : {s h : Hash} {m : List ℕ} {f : Finished} → length m < 2 ^ 61 → s ≡ started → h ≡ addedTo s m → finishTold f ≡ finishOf h → finishTold f ≡ shown (digest m)
+one-digest {m = m} short a b c = c ∙ ap finishOf (b ∙ ap (λ (x : Hash). addedTo x m) a) ∙ message-digest m short
+
+-- its bytes, written into a buffer of their length
+pub digest-copied : {w : Words} {d : List ℕ} {r : ℕ} → Wrote (replicate 32 0) 0 (digestBytes w) d r → d ≡ digestBytes w
+digest-copied {w} e =
+    let n = length-digest w in
+    let k : drop (length (digestBytes w)) (replicate 32 0) ≡ [] = rw n in
+    written-front e (omega (arith, n)) .0 ∙ ap (λ (l : List ℕ). digestBytes w ++ l) k ∙ append-nil (digestBytes w)
+
+-- compared
+pub compared : {w : Words} {d id m : List ℕ} {b : Bool} {r : ℕ} → shown (digestBytes w) ≡ shown (digest m) → Wrote (replicate 32 0) 0 (digestBytes w) d r
+    → b ≡ sameBytes id d → b ≡ sameBytes id (digest m)
+compared {w} {m = m} {id = id} e f g = let same : digestBytes w ≡ digest m = cc in g ∙ ap (sameBytes id) (digest-copied f ∙ same)

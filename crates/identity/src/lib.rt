@@ -33,7 +33,7 @@ fn is_digest(id: &[u8], text: &[u8]) -> bool
 
 // The id question, by way of a scratch that has room for the text.
 fn belongs_by(scratch: &mut [u8], s: &[u8]) -> IdRead
-    requires { ⌜ length (now s) ≤ 65536 → 3 * length (now s) ≤ length (now scratch) ⌝ }
+    requires { ⌜ (length (now s) ≤ 65536 → 3 * length (now s) ≤ length (now scratch)) ⌝ }
     ensures { λ r. ⌜ idRead r ≡ belongs (now (s .entry)) ⌝ }
 {
     match canonical::write_canonical(s, scratch) {

