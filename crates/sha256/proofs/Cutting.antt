@@ -1,17 +1,17 @@
 -- Cutting a message elsewhere changes nothing, and what is hashed in pieces is the digest.
 -- The blocks of l ++ k are those of l, and then those of what is behind them and k (`hashed-append`).
-use Prim.Native.Nat.{ℕ, zero, suc, _+_, _-_, _*_, _/_, _%_, _^_, _<_, _≤_}
+use Prim.Native.Nat.{ℕ, zero, suc, _+_, _-_, _*_, _/_, _%_, _≤_}
 use mathlib.Core.Path.{_≡_, refl, sym, ap, _∙_}
-use mathlib.Core.List.{List, [], _∷_, _++_, append-assoc, append-nil}
+use mathlib.Core.List.{List, [], _++_, append-assoc}
 use native.Mathlib.Nat.{zero-add}
 use native.Mathlib.Omega.{arith}
-use lib.ListN.{length, take, drop, replicate, length-append, length-take, length-drop}
+use lib.ListN.{length, take, drop, length-append, length-drop}
 use lib.Seq.{take-append-le, drop-append-le, take-at, drop-drop, length-take-le}
 use Rattle.sha256.specs.declared.Words.{Words}
 use Rattle.sha256.specs.declared.Hash.{Hash}
 use Rattle.sha256.specs.Compression.{compress, blocks}
 use Rattle.sha256.specs.Constants.{initial}
-use Rattle.sha256.specs.Message.{padding, hashed, digest, digestBytes}
+use Rattle.sha256.specs.Message.{padding, hashed, digest}
 use Rattle.sha256.specs.Pieces.{behindBlocks, zeroFilled, waiting, settled, started, withPiece, finalWords, finished}
 
 -- n blocks lie in the front part

@@ -5,21 +5,21 @@ use mathlib.Core.Path.{_≡_, refl, sym, ap, _∙_}
 use mathlib.Core.Bool.{Bool, true, false}
 use mathlib.Core.List.{List, [], _∷_, _++_, append-assoc, append-nil}
 use mathlib.Core.Logic.{dite}
-use native.Mathlib.Nat.{zero-add, add-zero}
+use native.Mathlib.Nat.{zero-add}
 use native.Mathlib.Decide.{decLe}
 use native.Mathlib.Omega.{arith}
-use lib.ListN.{length, take, drop, replicate, length-append, length-take, length-drop, length-replicate, take-append-drop}
-use lib.Seq.{take-append-le, drop-append-le, take-at, drop-drop, length-take-le, take-all, drop-at}
+use lib.ListN.{length, take, drop, replicate, length-append, length-drop, length-replicate, take-append-drop}
+use lib.Seq.{take-at, length-take-le, take-all}
 use lib.Dec.{leb}
-use borrow.Author.Tests.{le-leb, lt-leb, leb-true, leb-false}
+use borrow.Author.Tests.{le-leb, lt-leb, leb-false}
 use Rattle.scan.proofs.Step.{rest-none}
 use Rattle.buffer.specs.inner.Store.{Buffer, puts, Wrote}
 use Rattle.buffer.proofs.Laws.{puts-eq, kept}
 use Rattle.sha256.specs.declared.Words.{Words}
 use Rattle.sha256.specs.declared.Hash.{Hash}
-use Rattle.sha256.specs.Compression.{compress, blocks}
+use Rattle.sha256.specs.Compression.{blocks}
 use Rattle.sha256.specs.Message.{hashed, padding, zerosBehind, wordBytes, longBytes}
-use Rattle.sha256.specs.Pieces.{behindBlocks, zeroFilled, waiting, settled, withPiece, tooLong, addedTo, finalWords}
+use Rattle.sha256.specs.Pieces.{behindBlocks, zeroFilled, waiting, settled, withPiece, tooLong, addedTo}
 use Rattle.sha256.proofs.Cutting.{hashed-append, behind-append}
 
 -- a text at the start of a buffer that has room for it

@@ -7,7 +7,7 @@ use mathlib.Core.List.{List, [], _∷_, _++_, append-assoc, append-nil}
 use native.Mathlib.Omega.{arith}
 use lib.ListN.{length, length-append, length-replicate}
 use borrow.Author.Tests.{lt-leb}
-use Rattle.scan.specs.Choice.{Answer, shown}
+use Rattle.scan.specs.Choice.{shown}
 use Rattle.sha256.specs.declared.Hash.{Hash}
 use Rattle.sha256.specs.Compression.{AreWords, blocks}
 use Rattle.sha256.specs.Message.{zerosBehind, hashed, digest}
@@ -85,8 +85,8 @@ words-started = initial-words
 pub pieces-digest : (ps : List (List ℕ)) → length (joined ps) < 2 ^ 61 → finishOf (allAdded started ps) ≡ shown (digest (joined ps))
 pieces-digest ps h =
     let z = count-started in
-    let e : allAdded started ps ≡ withPiece started (joined ps) =
-    ap (λ (s : Hash). allAdded s ps) (sym started-empty) ∙ pieces-one started ps [] pending-started (omega (arith, h, z)) in
+    let one = pieces-one started ps [] pending-started (omega (arith, h, z)) in
+    let e : allAdded started ps ≡ withPiece started (joined ps) = ap (λ (s : Hash). allAdded s ps) (sym started-empty) ∙ one in
     let k : withPiece started (joined ps) .count < 2 ^ 61 = omega (arith, h, z, count-added started (joined ps)) in
     rw e (finish-short (withPiece started (joined ps)) k ∙ ap shown (finished-digest (joined ps)))
 

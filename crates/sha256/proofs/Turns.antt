@@ -1,11 +1,11 @@
 -- The turns and the ends of the loops over the words of a block, the schedule, the rounds and the blocks.
 -- Each law opens the definition once; the premises are what the loop's record has.
-use Prim.Native.Nat.{ℕ, zero, suc, _+_, _-_, _*_, _/_, _<_, _≤_}
-use mathlib.Core.Path.{_≡_, refl, sym, ap, _∙_}
+use Prim.Native.Nat.{ℕ, suc, _+_, _-_, _*_, _/_, _<_, _≤_}
+use mathlib.Core.Path.{_≡_, sym, ap, _∙_}
 use mathlib.Core.List.{List, [], _∷_, _++_, append-nil}
 use native.Mathlib.Numerals.{add-one}
 use native.Mathlib.Omega.{arith}
-use lib.ListN.{length, getD, take, drop, set, length-take, length-drop, length-set}
+use lib.ListN.{length, getD, take, drop, set}
 use lib.Seq.{append-snoc, take-suc-set, getD-take, take-all, drop-drop, length-take-le}
 use Rattle.scan.proofs.Step.{rest-more, rest-none}
 use Rattle.sha256.specs.declared.Words.{Words}

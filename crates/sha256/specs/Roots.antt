@@ -5,6 +5,7 @@ use mathlib.Core.Bool.{Bool, true, false}
 use mathlib.Core.List.{List, [], _∷_}
 use lib.Dec.{leb, ltb, eqb}
 use Rattle.scan.specs.Choice.{pick}
+use Rattle.sha256.specs.declared.Words.{Words}
 
 -- no number from 2 up to k divides p
 unfoldable pub undivided : ℕ → ℕ → Bool
@@ -52,3 +53,7 @@ allRootBits e [] [] = true
 allRootBits e [] (w ∷ ws) = false
 allRootBits e (p ∷ ps) [] = false
 allRootBits e (p ∷ ps) (w ∷ ws) = pick (rootBits e p w) (allRootBits e ps ws) false
+
+-- the words of a hash value, in order
+abbrev pub wordList : Words → List ℕ
+wordList v = v .a ∷ v .b ∷ v .c ∷ v .d ∷ v .e ∷ v .f ∷ v .g ∷ v .h ∷ []

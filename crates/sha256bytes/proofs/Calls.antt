@@ -4,10 +4,10 @@ use Prim.Native.Nat.{ℕ, _+_, _≤_, _<_, _^_}
 use mathlib.Core.Path.{_≡_, refl, sym, ap, _∙_}
 use mathlib.Core.List.{List, [], _∷_, _++_}
 use native.Mathlib.Omega.{arith}
-use lib.ListN.{length, drop, length-append, length-drop}
+use lib.ListN.{length, drop, length-append}
 use lib.Seq.{drop-at}
 use borrow.Author.Tests.{le-leb}
-use Rattle.scan.specs.Choice.{Answer, shown}
+use Rattle.scan.specs.Choice.{shown}
 use Rattle.buffer.specs.Entry.{filled, leaves}
 use Rattle.sha256.specs.declared.Hash.{Hash}
 use Rattle.sha256.specs.Message.{digest}

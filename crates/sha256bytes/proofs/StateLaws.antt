@@ -1,8 +1,8 @@
 -- 104 bytes and a state determine each other. Four bytes and a word do, eight bytes and the count do; the parts stand
 -- behind one another on both sides.
-use Prim.Native.Nat.{ℕ, _+_, _<_, _≤_, _^_}
+use Prim.Native.Nat.{ℕ, _+_, _≤_}
 use mathlib.Core.Path.{_≡_, refl, sym, ap, _∙_}
-use mathlib.Core.List.{List, [], _∷_, _++_, append-nil}
+use mathlib.Core.List.{List, [], _++_, append-nil}
 use native.Mathlib.Omega.{arith}
 use lib.ListN.{length, getD, take, drop, length-append, length-drop}
 use lib.Seq.{take-all, take-at, take-add, length-take-le}
@@ -11,9 +11,7 @@ use Rattle.scan.proofs.Step.{rest-more}
 use Rattle.scan.proofs.AllLaws.{all-at, all-take, all-drop}
 use Rattle.littleendian.specs.LittleEndian.{numberOf, lowFirst}
 use Rattle.littleendian.proofs.Laws.{length-low, bytes-back, number-back}
-use Rattle.sha256.specs.declared.Words.{Words}
 use Rattle.sha256.specs.declared.Hash.{Hash}
-use Rattle.sha256.specs.Compression.{AreWords}
 use Rattle.sha256.specs.Message.{wordBytes, digestBytes}
 use Rattle.sha256.proofs.WordLaws.{word-back, word-read, length-digest}
 use Rattle.sha256bytes.specs.StateBytes.{stateWord, chainOf, stateOf, bytesOfState, IsState}

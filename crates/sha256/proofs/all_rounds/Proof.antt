@@ -1,6 +1,6 @@
 -- `all_rounds` goes through 64 rounds. The invariant: the rounds that are left, from round t on, give the result.
 -- Each turn is `rounds-turn`, the end `rounds-done`.
-use Prim.Native.Nat.{_≤_, _-_}
+use Prim.Native.Nat.{_-_}
 use Prim.Native.Nat.{ℕ}
 use mathlib.Core.Path.{_≡_, refl}
 use mathlib.Core.List.{List}

@@ -1,8 +1,6 @@
 -- `start_in` answers 11 with 104, or leaves the state before the first piece. The laws of an entry that measured.
-use mathlib.Core.Path.{ap}
 use borrow.Author.Needs.{needs}
-use Rattle.buffer.proofs.EntryLaws.{short, fitted}
-use Rattle.sha256bytes.specs.StateBytes.{bytesOfState}
+use Rattle.buffer.proofs.EntryLaws.{short}
 use Rattle.sha256bytes.proofs.Entries.{started-long, started-made}
 use Rattle.sha256bytes.proofs.start_in.Statement.{statement}
 use Rattle.sha256bytes.proofs.start_in.Tie as tie
