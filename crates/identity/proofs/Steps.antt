@@ -22,10 +22,8 @@ use Rattle.canonical.specs.Canonical.{canonical}
 use Rattle.canonical.proofs.Whole.{canonical-most}
 use Rattle.sha256.specs.declared.Words.{Words}
 use Rattle.sha256.specs.declared.Hash.{Hash}
-use Rattle.sha256.specs.declared.Finished.{Finished}
 use Rattle.sha256.specs.Message.{digest, digestBytes}
 use Rattle.sha256.specs.Pieces.{started, addedTo, finishOf}
-use Rattle.sha256.specs.inner.Answers.{finishTold}
 use Rattle.sha256.proofs.WordLaws.{length-digest}
 use Rattle.sha256.proofs.Filling.{written-front}
 use Rattle.sha256.proofs.Joining.{message-digest}
@@ -53,7 +51,10 @@ module _ (s d : List ℕ) (bytes : IsBytes s) (room : length s ≤ 65_536 → 3 
           let g : refused n q ≡ shown (length (canonical a)) = rw (le-leb (length (canonical a)) (length d) (text-fits a u)) at f in
           let z : _≡_ {A = ℕ} 0 1 = cc in
           absurd (omega arith)
-      go (refused m p) u f = f
+      go (refused m p) u f =
+          let a : n ≡ m = cc in
+          let b : q ≡ p = cc in
+          rw (a, b)
 
   -- else the text is there
   pub written-text : {n : ℕ} {d′ : List ℕ} → shown n ≡ writes canonical (unpack s) d → d′ ≡ leaves canonical (unpack s) d → Text s n d′
@@ -73,24 +74,27 @@ module _ (s d : List ℕ) (bytes : IsBytes s) (room : length s ≤ 65_536 → 3 
       go (refused m p) u g h = let z : _≡_ {A = ℕ} 0 1 = cc in absurd (omega arith)
 
 -- and its digest decides
-pub digest-decides : {s d′ : List ℕ} {n : ℕ} {b : Bool} → Text s n d′ → b ≡ sameBytes (take 32 s) (digest (take n d′)) → shown b ≡ belongs s
+pub digest-decides : {s : List ℕ} {b : Bool} (n : ℕ) (d : List ℕ) → Text s n d → b ≡ sameBytes (take 32 s) (digest (take n d)) → shown b ≡ belongs s
 unfolding belongs
-digest-decides {b = b} t e = rw (t .shows) (ap shown (rw (t .id, ← (t .text)) e))
+digest-decides {s} n d t e =
+    let f : sameBytes (take 32 s) (digest (take n d)) ≡ sameBytes (t .event .id) (digest (canonical (t .event))) =
+    ap (λ (l : List ℕ). sameBytes l (digest (take n d))) (sym (t .id)) ∙ ap (λ (l : List ℕ). sameBytes (t .event .id) (digest l)) (t .text) in
+    rw (t .shows) (ap shown (e ∙ f))
 
 -- ---- the digest
 
 -- of a text in one piece
-pub one-digest : {s h : Hash} {m : List ℕ} {f : Finished} → length m < 2 ^ 61 → s ≡ started → h ≡ addedTo s m → finishTold f ≡ finishOf h → finishTold f ≡ shown (digest m)
-one-digest {m = m} short a b c = c ∙ ap finishOf (b ∙ ap (λ (x : Hash). addedTo x m) a) ∙ message-digest m short
+pub one-digest : (m : List ℕ) {s h : Hash} {x : Answer (List ℕ)} → length m < 2 ^ 61 → s ≡ started → h ≡ addedTo s m → x ≡ finishOf h → x ≡ shown (digest m)
+one-digest m short a b c = c ∙ ap finishOf (b ∙ ap (λ (z : Hash). addedTo z m) a) ∙ message-digest m short
 
 -- its bytes, written into a buffer of their length
-pub digest-copied : {w : Words} {d : List ℕ} {r : ℕ} → Wrote (replicate 32 0) 0 (digestBytes w) d r → d ≡ digestBytes w
-digest-copied {w} e =
+digest-copied : (w : Words) {d : List ℕ} {r : ℕ} → Wrote (replicate 32 0) 0 (digestBytes w) d r → d ≡ digestBytes w
+digest-copied w e =
     let n = length-digest w in
-    let k : drop (length (digestBytes w)) (replicate 32 0) ≡ [] = rw n in
+    let k : drop {A = ℕ} (length (digestBytes w)) (replicate 32 0) ≡ [] = rw n in
     written-front e (omega (arith, n)) .0 ∙ ap (λ (l : List ℕ). digestBytes w ++ l) k ∙ append-nil (digestBytes w)
 
 -- compared
-pub compared : {w : Words} {d id m : List ℕ} {b : Bool} {r : ℕ} → shown (digestBytes w) ≡ shown (digest m) → Wrote (replicate 32 0) 0 (digestBytes w) d r
+pub compared : (w : Words) (id m : List ℕ) {d : List ℕ} {b : Bool} {r : ℕ} → shown (digestBytes w) ≡ shown (digest m) → Wrote (replicate 32 0) 0 (digestBytes w) d r
     → b ≡ sameBytes id d → b ≡ sameBytes id (digest m)
-compared {w} {m = m} {id = id} e f g = let same : digestBytes w ≡ digest m = cc in g ∙ ap (sameBytes id) (digest-copied f ∙ same)
+compared w id m e f g = let same : digestBytes w ≡ digest m = cc in g ∙ ap (sameBytes id) (digest-copied w f ∙ same)

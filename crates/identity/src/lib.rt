@@ -38,7 +38,10 @@ fn belongs_by(scratch: &mut [u8], s: &[u8]) -> IdRead
 {
     match canonical::write_canonical(s, scratch) {
         Writing::Refused(r) => IdRead::Refused(r),
-        Writing::Written(n) => IdRead::Belongs(is_digest(scan::part(s, 0, 32), scan::part(scratch, 0, n))),
+        Writing::Written(n) => IdRead::Belongs(is_digest(
+            scan::part(s, 0, 32),
+            scan::part(scratch, 0, n),
+        )),
     }
 }
 
