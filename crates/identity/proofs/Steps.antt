@@ -74,12 +74,12 @@ module _ (s d : List ℕ) (bytes : IsBytes s) (room : length s ≤ 65_536 → 3 
       go (refused m p) u g h = let z : _≡_ {A = ℕ} 0 1 = cc in absurd (omega arith)
 
 -- and its digest decides
-pub digest-decides : {s : List ℕ} {b : Bool} (n : ℕ) (d : List ℕ) → Text s n d → b ≡ sameBytes (take 32 s) (digest (take n d)) → shown b ≡ belongs s
+pub digest-decides : {s x y : List ℕ} {b : Bool} (n : ℕ) (d : List ℕ) → Text s n d → x ≡ take 32 s → y ≡ take n d → b ≡ sameBytes x (digest y) → shown b ≡ belongs s
 unfolding belongs
-digest-decides {s} n d t e =
-    let f : sameBytes (take 32 s) (digest (take n d)) ≡ sameBytes (t .event .id) (digest (canonical (t .event))) =
-    ap (λ (l : List ℕ). sameBytes l (digest (take n d))) (sym (t .id)) ∙ ap (λ (l : List ℕ). sameBytes (t .event .id) (digest l)) (t .text) in
-    rw (t .shows) (ap shown (e ∙ f))
+digest-decides {y = y} n d t f g e =
+    let h = ap (λ (l : List ℕ). sameBytes l (digest y)) (f ∙ sym (t .id)) in
+    let k = ap (λ (l : List ℕ). sameBytes (t .event .id) (digest l)) (g ∙ t .text) in
+    rw (t .shows) (ap shown (e ∙ h ∙ k))
 
 -- ---- the digest
 

@@ -4,10 +4,8 @@ use mathlib.Core.Path.{sym, ap, _∙_}
 use native.Mathlib.Omega.{arith}
 use borrow.Author.Needs.{needs}
 use lib.ListN.{length}
-use Rattle.scan.specs.Compare.{sameBytes}
 use Rattle.scan.proofs.AllLaws.{all-places}
 use Rattle.event.specs.inner.Told.{writing}
-use Rattle.sha256.specs.Message.{digest}
 use Rattle.identity.proofs.Steps.{written-text, refused-told, digest-decides}
 use Rattle.identity.proofs.belongs_by.Statement.{statement}
 use Rattle.identity.proofs.belongs_by.Tie as tie
@@ -25,7 +23,7 @@ refused c =
 decided : tie.Need-returns-2
 decided c =
     let t = written-text (c .before .before .before .before .before .before .before .before .before .before .before .before .before .args .s .now) (c .before .before .before .before .before .before .before .before .before .before .before .before .before .args .scratch .now) (all-places (c .before .before .before .before .before .before .before .before .before .before .before .before .before .args .s .now) (λ i. c .before .before .before .before .before .before .before .before .before .before .before .shared-slice-known .given i .fits)) (c .before .before .before .before .before .before .before .before .before .before .before .before .before .pre) (ap writing (sym (c .before .before .before .before .before .n .given .1)) ∙ c .before .before .before .before .before .before .before .before .before .write-canonical .ensures .0) (c .before .before .before .before .before .before .before .before .before .write-canonical .ensures .1) in
-    digest-decides _ _ t (rw (← (c .before .before .before .part .ensures), ← (c .before .part2 .ensures)) (c .is-digest .ensures))
+    digest-decides _ _ t (c .before .before .before .part .ensures) (c .before .part2 .ensures) (c .is-digest .ensures)
 
 pub belongs-by-spec : {M : Type 1} → statement M
 belongs-by-spec =
