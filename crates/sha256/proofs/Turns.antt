@@ -1,0 +1,94 @@
+-- The turns and the ends of the loops over the words of a block, the schedule, the rounds and the blocks.
+-- Each law opens the definition once; the premises are what the loop's record has.
+use Prim.Native.Nat.{ℕ, suc, _+_, _-_, _*_, _/_, _<_, _≤_}
+use mathlib.Core.Path.{_≡_, sym, ap, _∙_}
+use mathlib.Core.List.{List, [], _∷_, _++_, append-nil}
+use native.Mathlib.Numerals.{add-one}
+use native.Mathlib.Omega.{arith}
+use lib.ListN.{length, getD, take, drop, set}
+use lib.Seq.{append-snoc, take-suc-set, getD-take, take-all, drop-drop, length-take-le}
+use Rattle.scan.proofs.Step.{rest-more, rest-none}
+use Rattle.sha256.specs.declared.Words.{Words}
+use Rattle.sha256.specs.Constants.{constants}
+use Rattle.sha256.specs.Compression.{wordOf, wordsOf, nextWord, wordBehind, schedule, round, rounds, compress, blocks}
+
+-- ---- the words of a block
+
+-- four bytes are a word, and the rest goes on
+words-four : (s : List ℕ) (i : ℕ) → i + 3 < length s
+    → wordsOf (drop i s) ≡ wordOf (getD s i 0) (getD s (i + 1) 0) (getD s (i + 2) 0) (getD s (i + 3) 0) ∷ wordsOf (drop (i + 4) s)
+unfolding wordsOf
+words-four s i h =
+    let a = rest-more s i (omega arith) in
+    let b = rest-more s (i + 1) (omega arith) in
+    let c = rest-more s (i + 1 + 1) (omega arith) in
+    let d = rest-more s (i + 1 + 1 + 1) (omega arith) in
+    let p : i + 1 + 1 ≡ i + 2 = omega arith in
+    let q : i + 1 + 1 + 1 ≡ i + 3 = omega arith in
+    let r : i + 1 + 1 + 1 + 1 ≡ i + 4 = omega arith in
+    rw (a, b, c, d, r, q, p)
+
+pub words-turn : (block w : List ℕ) (t v : ℕ) → length block ≡ 64 → length w ≡ 64 → t < 16
+    → take t w ++ wordsOf (drop (4 * t) block) ≡ wordsOf block
+    → v ≡ wordOf (getD block (4 * t) 0) (getD block (4 * t + 1) 0) (getD block (4 * t + 2) 0) (getD block (4 * t + 3) 0)
+    → take (t + 1) (set w t v) ++ wordsOf (drop (4 * (t + 1)) block) ≡ wordsOf block
+words-turn block w t v h l k e f =
+    let n : 4 * (t + 1) ≡ 4 * t + 4 = omega arith in
+    let x = words-four block (4 * t) (omega arith) in
+    rw (n, add-one t, take-suc-set w t v (omega arith), append-snoc, f, ← x) e
+
+pub words-done : (block w : List ℕ) (t : ℕ) → t ≤ 16 → 16 ≤ t → length block ≡ 64 → take t w ++ wordsOf (drop (4 * t) block) ≡ wordsOf block → take 16 w ≡ wordsOf block
+unfolding wordsOf
+words-done block w t h k l e =
+    let n : t ≡ 16 = omega arith in
+    let m : take 16 w ++ wordsOf (drop 64 block) ≡ wordsOf block = rw n at e in
+    sym (append-nil (take 16 w)) ∙ (rw (rest-none block 64 (omega arith)) at m)
+
+-- ---- the schedule
+
+next-at : (w : List ℕ) (t : ℕ) → t ≤ length w → 16 ≤ t → wordBehind (take t w) ≡ nextWord (getD w (t - 2) 0) (getD w (t - 7) 0) (getD w (t - 15) 0) (getD w (t - 16) 0)
+unfolding wordBehind
+next-at w t h k =
+    rw (length-take-le t w h, getD-take t w (t - 2) 0 (omega arith), getD-take t w (t - 7) 0 (omega arith), getD-take t w (t - 15) 0 (omega arith), getD-take t w (t - 16) 0 (omega arith))
+
+pub schedule-turn : (w s : List ℕ) (t v : ℕ) → length w ≡ 64 → 16 ≤ t → t < 64 → schedule (64 - t) (take t w) ≡ s
+    → v ≡ nextWord (getD w (t - 2) 0) (getD w (t - 7) 0) (getD w (t - 15) 0) (getD w (t - 16) 0)
+    → schedule (64 - (t + 1)) (take (t + 1) (set w t v)) ≡ s
+unfolding schedule
+schedule-turn w s t v l h k e f =
+    let n : 64 - t ≡ suc (64 - (t + 1)) = omega arith in
+    let g : schedule (64 - (t + 1)) (take t w ++ (wordBehind (take t w) ∷ [])) ≡ s = rw n at e in
+    rw (ap (λ (j : ℕ). take j (set w t v)) (add-one t), take-suc-set w t v (omega arith), f, ← next-at w t (omega arith) h) g
+
+pub schedule-done : (w s : List ℕ) (t : ℕ) → length w ≡ 64 → t ≤ 64 → 64 ≤ t → schedule (64 - t) (take t w) ≡ s → w ≡ s
+unfolding schedule
+schedule-done w s t l h k e =
+    let n : 64 - t ≡ 0 = omega arith in
+    sym (take-all t w (omega arith)) ∙ (rw n at e)
+
+-- ---- the rounds
+
+pub rounds-turn : (w : List ℕ) (t : ℕ) (v r x : Words) → t < 64 → rounds w (64 - t) t v ≡ r → x ≡ round v (getD constants t 0) (getD w t 0) → rounds w (64 - (t + 1)) (t + 1) x ≡ r
+unfolding rounds
+rounds-turn w t v r x h e f =
+    let n : 64 - t ≡ suc (64 - (t + 1)) = omega arith in
+    rw f (rw n at e)
+
+pub rounds-done : (w : List ℕ) (t : ℕ) (v r : Words) → 64 ≤ t → rounds w (64 - t) t v ≡ r → v ≡ r
+unfolding rounds
+rounds-done w t v r h e = let n : 64 - t ≡ 0 = omega arith in rw n at e
+
+-- ---- the blocks
+
+pub blocks-turn : (s : List ℕ) (i e : ℕ) (h r x : Words) → i ≤ length s → 64 ≤ length s - i → e ≡ i + 64 → blocks ((length s - i) / 64) h (drop i s) ≡ r
+    → x ≡ compress h (take (e - i) (drop i s)) → blocks ((length s - e) / 64) x (drop e s) ≡ r
+unfolding blocks
+blocks-turn s i e h r x l m k q f =
+    let n : (length s - i) / 64 ≡ suc ((length s - e) / 64) = omega arith in
+    let o : e - i ≡ 64 = omega arith in
+    let d : drop e s ≡ drop 64 (drop i s) = ap (λ (j : ℕ). drop j s) k ∙ sym (drop-drop 64 i s) in
+    rw (f, d, o) (rw n at q)
+
+pub blocks-done : (s m : List ℕ) (i : ℕ) (h r : Words) → length s - i < 64 → blocks ((length s - i) / 64) h m ≡ r → h ≡ r
+unfolding blocks
+blocks-done s m i h r l q = let n : (length s - i) / 64 ≡ 0 = omega arith in rw n at q
