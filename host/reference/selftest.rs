@@ -484,9 +484,9 @@ fn hash_states(same: &mut impl FnMut(&str, String, String)) {
     }
 }
 
-/// The NSON draft's event has its id, and so have events whose ids Python's hashlib made, however they are spelled. With
-/// one bit of the id, of the author or of the time changed none has it; the signature does not count. Rules 16.12 to
-/// 16.14.
+/// The NSON draft's event has its id, and so have events whose ids Python's hashlib made, however they are spelled.
+/// With one bit of the id, of the author or of the time changed none has it; the signature does not count. Rules 16.12
+/// to 16.14.
 fn ids(same: &mut impl FnMut(&str, String, String)) {
     let belongs = |s: &[u8]| ask(format!("id_belongs {}", hex(s)));
     let event = answer_bytes(&room("nson_read", NSON.as_bytes()));
