@@ -45,8 +45,8 @@ __all__ = [
     "kez_sha256_add", "kez_sha256_finish", "kez_id_belongs", "kez_version",
 ]
 
-#: No accepted input is longer, but for a string form, of which the bytes that it holds are counted; nor is an event in
-#: strict form, nor NSON. Rules 1.9 and 14.3.
+#: No accepted input is longer, but for a string form, of which the bytes that it holds are counted, and a piece of a
+#: message that is hashed; nor is an event in strict form, nor NSON. Rules 1.9, 14.3 and 16.8.
 KEZ_MOST: int = 65536
 #: No canonical text is longer. Rule 5.8.
 KEZ_CANONICAL_MOST: int = 3 * KEZ_MOST

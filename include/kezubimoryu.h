@@ -63,8 +63,8 @@ uint64_t kez_version(void);
  * these lengths never gets refusal 11. The sizes below are enough for every input. Rules 3.7, 5.8, 6.14, 12.3.6, 14.1
  * and 14.2. */
 
-/* No accepted input is longer, but for a string form, of which the bytes that it holds are counted; nor is an event in
- * strict form, nor NSON. Rules 1.9, 14.3 and 14.6. */
+/* No accepted input is longer, but for a string form, of which the bytes that it holds are counted, and a piece of a
+ * message that is hashed; nor is an event in strict form, nor NSON. Rules 1.9, 14.3, 14.6 and 16.8. */
 #define KEZ_MOST 65536
 
 /* No canonical text is longer: three bytes for each byte that was packed. Rule 5.8. */
