@@ -3,7 +3,7 @@
 use Prim.Native.Nat.{ℕ, _+_, _%_, _<_, _^_}
 use mathlib.Core.Path.{_≡_, refl, sym, ap, _∙_}
 use mathlib.Core.Bool.{true, false}
-use mathlib.Core.List.{List, [], _∷_, _++_, append-assoc, append-nil}
+use mathlib.Core.List.{List, [], _∷_, _++_, append-assoc, append-nil, flatten}
 use native.Mathlib.Omega.{arith}
 use lib.ListN.{length, length-append, length-replicate}
 use borrow.Author.Tests.{lt-leb}
@@ -11,7 +11,7 @@ use Rattle.scan.specs.Choice.{shown}
 use Rattle.sha256.specs.declared.Hash.{Hash}
 use Rattle.sha256.specs.Compression.{AreWords, blocks}
 use Rattle.sha256.specs.Message.{zerosBehind, hashed, digest}
-use Rattle.sha256.specs.Pieces.{behindBlocks, zeroFilled, waiting, settled, started, withPiece, tooLong, addedTo, finished, finishOf, allAdded, joined}
+use Rattle.sha256.specs.Pieces.{behindBlocks, zeroFilled, waiting, settled, started, withPiece, tooLong, addedTo, finished, finishOf, allAdded}
 use Rattle.sha256.proofs.WordLaws.{hashed-words, initial-words}
 use Rattle.sha256.proofs.Cutting.{behind-length, added-append, finished-digest}
 
@@ -51,15 +51,15 @@ unfolding withPiece settled
 words-added s p w = hashed-words (s .chain) (waiting s ++ p) w
 
 -- all pieces of a list, one after the other, are one piece
-pieces-one : (s : Hash) (ps : List (List ℕ)) (a : List ℕ) → length (s .pending) ≡ 64 → s .count + length (a ++ joined ps) < 2 ^ 61
-    → allAdded (withPiece s a) ps ≡ withPiece s (a ++ joined ps)
-unfolding allAdded joined
+pieces-one : (s : Hash) (ps : List (List ℕ)) (a : List ℕ) → length (s .pending) ≡ 64 → s .count + length (a ++ flatten ps) < 2 ^ 61
+    → allAdded (withPiece s a) ps ≡ withPiece s (a ++ flatten ps)
+unfolding allAdded flatten
 pieces-one s [] a h k = rw (append-nil a)
 pieces-one s (p ∷ ps) a h k =
-    let n : length (a ++ (p ++ joined ps)) ≡ length a + (length p + length (joined ps)) = simp length-append in
-    let m : length ((a ++ p) ++ joined ps) ≡ length a + length p + length (joined ps) = simp length-append in
+    let n : length (a ++ (p ++ flatten ps)) ≡ length a + (length p + length (flatten ps)) = simp length-append in
+    let m : length ((a ++ p) ++ flatten ps) ≡ length a + length p + length (flatten ps) = simp length-append in
     let e = added-short (withPiece s a) p (omega (arith, n, k, count-added s a)) in
-    rw (e, added-append s a p h, ← append-assoc a p (joined ps)) (pieces-one s ps (a ++ p) h (omega (arith, n, m, k)))
+    rw (e, added-append s a p h, ← append-assoc a p (flatten ps)) (pieces-one s ps (a ++ p) h (omega (arith, n, m, k)))
 
 finish-short : (s : Hash) → s .count < 2 ^ 61 → finishOf s ≡ shown (finished s)
 unfolding finishOf
@@ -82,15 +82,15 @@ unfolding started
 words-started = initial-words
 
 -- the pieces of a message in any cut, added one after the other and finished, give its digest
-pub pieces-digest : (ps : List (List ℕ)) → length (joined ps) < 2 ^ 61 → finishOf (allAdded started ps) ≡ shown (digest (joined ps))
+pub pieces-digest : (ps : List (List ℕ)) → length (flatten ps) < 2 ^ 61 → finishOf (allAdded started ps) ≡ shown (digest (flatten ps))
 pieces-digest ps h =
     let z = count-started in
     let one = pieces-one started ps [] pending-started (omega (arith, h, z)) in
-    let e : allAdded started ps ≡ withPiece started (joined ps) = ap (λ (s : Hash). allAdded s ps) (sym started-empty) ∙ one in
-    let k : withPiece started (joined ps) .count < 2 ^ 61 = omega (arith, h, z, count-added started (joined ps)) in
-    rw e (finish-short (withPiece started (joined ps)) k ∙ ap shown (finished-digest (joined ps)))
+    let e : allAdded started ps ≡ withPiece started (flatten ps) = ap (λ (s : Hash). allAdded s ps) (sym started-empty) ∙ one in
+    let k : withPiece started (flatten ps) .count < 2 ^ 61 = omega (arith, h, z, count-added started (flatten ps)) in
+    rw e (finish-short (withPiece started (flatten ps)) k ∙ ap shown (finished-digest (flatten ps)))
 
 -- a message in one piece
 pub message-digest : (m : List ℕ) → length m < 2 ^ 61 → finishOf (addedTo started m) ≡ shown (digest m)
-unfolding allAdded joined
+unfolding allAdded flatten
 message-digest m h = let e = append-nil m in rw e at (pieces-digest (m ∷ []) (rw e h))

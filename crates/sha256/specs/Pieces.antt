@@ -64,8 +64,3 @@ finishOf s = pick (tooLong s 0) (refused 35 0) (shown (finished s))
 unfoldable pub allAdded : Hash → List (List ℕ) → Hash
 allAdded s [] = s
 allAdded s (p ∷ ps) = allAdded (addedTo s p) ps
-
--- the message that they are
-unfoldable pub joined : List (List ℕ) → List ℕ
-joined [] = []
-joined (p ∷ ps) = p ++ joined ps

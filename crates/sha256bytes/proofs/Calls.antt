@@ -2,7 +2,7 @@
 -- gives the digest of the pieces joined. What stands in the buffer is always the bytes of the state so far.
 use Prim.Native.Nat.{ℕ, _+_, _≤_, _<_, _^_}
 use mathlib.Core.Path.{_≡_, refl, sym, ap, _∙_}
-use mathlib.Core.List.{List, [], _∷_, _++_}
+use mathlib.Core.List.{List, [], _∷_, _++_, flatten}
 use native.Mathlib.Omega.{arith}
 use lib.ListN.{length, drop, length-append}
 use lib.Seq.{drop-at}
@@ -11,7 +11,7 @@ use Rattle.scan.specs.Choice.{shown}
 use Rattle.buffer.specs.Entry.{filled, leaves}
 use Rattle.sha256.specs.declared.Hash.{Hash}
 use Rattle.sha256.specs.Message.{digest}
-use Rattle.sha256.specs.Pieces.{started, withPiece, allAdded, joined}
+use Rattle.sha256.specs.Pieces.{started, withPiece, allAdded}
 use Rattle.sha256.proofs.Joining.{count-started, pending-started, count-added, pending-added, not-too-long, added-short, words-started, words-added, pieces-digest}
 use Rattle.sha256bytes.specs.StateBytes.{bytesOfState, IsState, addIn, finishIn, afterPieces}
 use Rattle.sha256bytes.proofs.StateLaws.{length-state, state-front}
@@ -47,20 +47,20 @@ held-added s p rest k h =
     rw (l, not-too-long s (length p) h) (filled-over s (withPiece s p) rest k (state-with s p k h))
 
 -- all pieces of a list
-held-all : (s : Hash) (ps : List (List ℕ)) (rest : List ℕ) → IsState s → s .count + length (joined ps) < 2 ^ 61
+held-all : (s : Hash) (ps : List (List ℕ)) (rest : List ℕ) → IsState s → s .count + length (flatten ps) < 2 ^ 61
     → (afterPieces (held s rest) ps ≡ held (allAdded s ps) rest) × IsState (allAdded s ps)
-unfolding afterPieces allAdded joined
+unfolding afterPieces allAdded flatten
 held-all s [] rest k h = (refl, k)
 held-all s (p ∷ ps) rest k h =
-    let n = length-append p (joined ps) in
+    let n = length-append p (flatten ps) in
     let e = held-added s p rest k (omega (arith, h, n)) in
     let f = added-short s p (omega (arith, h, n)) in
     let r = held-all (withPiece s p) ps rest (state-with s p k (omega (arith, h, n))) (omega (arith, h, n, count-added s p)) in
     rw (e, f) r
 
 -- started, added to in any cut, finished
-pub lent-digest : (b : List ℕ) (ps : List (List ℕ)) → 104 ≤ length b → length (joined ps) < 2 ^ 61
-    → finishIn (afterPieces (filled (bytesOfState started) b) ps) ≡ shown (digest (joined ps))
+pub lent-digest : (b : List ℕ) (ps : List (List ℕ)) → 104 ≤ length b → length (flatten ps) < 2 ^ 61
+    → finishIn (afterPieces (filled (bytesOfState started) b) ps) ≡ shown (digest (flatten ps))
 unfolding finishIn filled
 lent-digest b ps h k =
     let n = length-state started pending-started in

@@ -1,3 +1,4 @@
 pub mod StateLaws
 pub mod Entries
 pub mod Calls
+pub mod Telling

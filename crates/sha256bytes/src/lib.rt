@@ -13,12 +13,10 @@ ghost use Rattle.event.specs.inner.Told.{writing};
 ghost use Rattle.sha256.specs.Pieces.{started};
 ghost use Rattle.sha256bytes.specs.StateBytes.{stateWord, chainOf, stateOf, bytesOfState, addIn, finishIn};
 
-// The bytes of a state, and of a digest.
+// The bytes of a state.
 const STATE: usize = 104;
-
+// The bytes of a digest.
 const DIGEST: usize = 32;
-// the message would have 2 to the power 61 bytes or more
-const MESSAGE_TOO_LONG: u8 = 35;
 
 // The word of four bytes from a place on, the first the highest.
 fn word_at(b: &[u8], at: usize) -> u32
@@ -103,7 +101,7 @@ pub fn add_in(state: &mut [u8], piece: &[u8]) -> Writing
     let s = state_of(state);
     if sha256::is_too_long(s, piece.len()) {
         return Writing::Refused(Refusal {
-            number: MESSAGE_TOO_LONG,
+            number: event::MESSAGE_TOO_LONG,
             place: 0,
         });
     }
@@ -124,7 +122,7 @@ pub fn finish_in(state: &[u8], out: &mut [u8]) -> Writing
     let told = sha256::finish(state_of(state));
     match told {
         Finished::TooLong => Writing::Refused(Refusal {
-            number: MESSAGE_TOO_LONG,
+            number: event::MESSAGE_TOO_LONG,
             place: 0,
         }),
         Finished::Digest(words) => {
