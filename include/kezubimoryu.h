@@ -87,9 +87,9 @@ uint64_t kez_version(void);
  * Refusal: refusal is a number from 1 to 24, or 34 or 35, and value is the place in the input where the fault was
  * found, or the input's length if the fault is at its end. Rule 10.N says when refusal N is given, and its place.
  * Refusals 1, 17, 19, 20, 22, 23 and 35 have no place of their own: value is then 0. With refusal 11, a lent buffer
- * that is too short, value is the length needed; 11 is given only if there is no other refusal. For
- * kez_notepack_string_read the places of 2 to 10 and of 24 are in the bytes that the text holds. With refusal 34 value
- * is the number of a slot.
+ * that is too short, value is the length needed; 11 is given only if there is no other refusal, but for a hash's state
+ * that is too short (kez_sha256_add). For kez_notepack_string_read the places of 2 to 10 and of 24 are in the bytes
+ * that the text holds. With refusal 34 value is the number of a slot.
  * So refusal alone tells whether the call succeeded. After a refusal every buffer and number that was passed still
  * holds what it held before the call. After success the bytes behind the written length are unchanged. */
 typedef struct {
@@ -350,7 +350,7 @@ kez_answer kez_sha256_finish(const uint8_t *state, size_t state_len,
  * value: 1 it belongs, 0 it does not
  * Cost: linear in packed_len; the text that is hashed has up to three times as many bytes.
  * Stack: some 200 KB in this version, since the text is made there whole, in KEZ_CANONICAL_MOST bytes. A later version
- * will do without; until then a thread that calls this needs a stack of that size.
+ * will do without; until then a thread that calls this needs that much left on its stack.
  * Rules 16.12 to 16.14, 12.7.4; of the text 5.1 to 5.6; of the input 2.1 to 2.17. */
 kez_answer kez_id_belongs(const uint8_t *packed, size_t packed_len);
 

@@ -45,18 +45,40 @@ fn belongs_by(scratch: &mut [u8], s: &[u8]) -> IdRead
     }
 }
 
-// The id question: the reader's refusals alone. The text stands in a buffer of its own until the answer.
+// The same with a scratch of its own, of three sizes: a small record does not pay for clearing a large one, and each
+// scratch is gone before the next.
+fn few_belong(s: &[u8]) -> IdRead
+    requires { ⌜ length (now s) ≤ 512 ⌝ }
+    ensures { λ r. ⌜ idRead r ≡ belongs (now (s .entry)) ⌝ }
+{
+    let mut scratch = [0u8; 1536];
+    belongs_by(&mut scratch, s)
+}
+
+fn some_belong(s: &[u8]) -> IdRead
+    requires { ⌜ length (now s) ≤ 8192 ⌝ }
+    ensures { λ r. ⌜ idRead r ≡ belongs (now (s .entry)) ⌝ }
+{
+    let mut scratch = [0u8; 24576];
+    belongs_by(&mut scratch, s)
+}
+
+fn many_belong(s: &[u8]) -> IdRead
+    ensures { λ r. ⌜ idRead r ≡ belongs (now (s .entry)) ⌝ }
+{
+    let mut scratch = [0u8; 196608];
+    belongs_by(&mut scratch, s)
+}
+
+// The id question: the reader's refusals alone.
 pub fn id_belongs(s: &[u8]) -> IdRead
     ensures { λ r. ⌜ idRead r ≡ belongs (now (s .entry)) ⌝ }
 {
     if s.len() <= 512 {
-        let mut few = [0u8; 1536];
-        return belongs_by(&mut few, s);
+        return few_belong(s);
     }
     if s.len() <= 8192 {
-        let mut small = [0u8; 24576];
-        return belongs_by(&mut small, s);
+        return some_belong(s);
     }
-    let mut large = [0u8; 196608];
-    belongs_by(&mut large, s)
+    many_belong(s)
 }

@@ -222,7 +222,7 @@ entries-refuse =
       table-offer = λ slots cells s. offer-told outcomeNumber (offer-told (λ (o : Offer). o .outcome) (table-offer-tells s slots cells));
       table-slot = λ slots cells n. slot-told (λ (p : Stand). 0) (table-slot-tells slots cells n);
       table-empty = sized-tells;
-      sha256-start = λ b. fills [] (λ (s : Hash). bytesOfState s) (shown started) b (value {P = λ (x : Hash). Unit {0}} tt);
+      sha256-start = λ b. fills [] bytesOfState (shown started) b (value {P = λ (x : Hash). Unit {0}} tt);
       sha256-add = add-fills;
       sha256-finish = finish-fills;
       id-belongs = λ s. told s (λ b. pick b 1 0) (belongs-tells s);

@@ -1,17 +1,18 @@
 -- 104 bytes and a state determine each other. Four bytes and a word do, eight bytes and the count do; the parts stand
 -- behind one another on both sides.
-use Prim.Native.Nat.{ℕ, _+_, _≤_}
+use Prim.Native.Nat.{ℕ, _+_, _≤_, _<_, _^_}
 use mathlib.Core.Path.{_≡_, refl, sym, ap, _∙_}
 use mathlib.Core.List.{List, [], _++_, append-nil}
 use native.Mathlib.Omega.{arith}
-use lib.ListN.{length, getD, take, drop, length-append, length-drop}
+use lib.ListN.{length, getD, take, drop, take-append-drop, length-append, length-drop}
 use lib.Seq.{take-all, take-at, take-add, length-take-le}
 use Rattle.scan.specs.Bytes.{IsBytes}
 use Rattle.scan.proofs.Step.{rest-more}
 use Rattle.scan.proofs.AllLaws.{all-at, all-take, all-drop}
 use Rattle.littleendian.specs.LittleEndian.{numberOf, lowFirst}
-use Rattle.littleendian.proofs.Laws.{length-low, bytes-back, number-back}
+use Rattle.littleendian.proofs.Laws.{length-low, number-most, bytes-back, number-back}
 use Rattle.sha256.specs.declared.Hash.{Hash}
+use Rattle.sha256.specs.Compression.{wordOf}
 use Rattle.sha256.specs.Message.{wordBytes, digestBytes}
 use Rattle.sha256.proofs.WordLaws.{word-back, word-read, length-digest}
 use Rattle.sha256bytes.specs.StateBytes.{stateWord, chainOf, stateOf, bytesOfState, IsState}
@@ -55,13 +56,38 @@ words-back b y h =
 count-back : (b : List ℕ) → IsBytes b → length b ≡ 8 → lowFirst 8 (numberOf b) ≡ b
 count-back b y h = ap (λ (k : ℕ). lowFirst k (numberOf b)) (sym h) ∙ bytes-back b y
 
-pub state-back : (b : List ℕ) → IsBytes b → length b ≡ 104 → bytesOfState (stateOf b) ≡ b
+-- the first 104 of them
+front-back : (b : List ℕ) → IsBytes b → 104 ≤ length b → bytesOfState (stateOf b) ≡ take 104 b
 unfolding bytesOfState stateOf
-state-back b y h =
+front-back b y h =
     let n : length (take 8 (drop 32 b)) ≡ 8 = length-take-le 8 (drop 32 b) (omega (arith, length-drop 32 b)) in
     let c = count-back (take 8 (drop 32 b)) (all-take 8 (all-drop 32 y)) n in
     let f = behind b 32 8 40 refl (words-back b y (omega arith)) c in
-    behind b 40 64 104 refl f refl ∙ take-all 104 b (omega arith)
+    behind b 40 64 104 refl f refl
+
+pub state-back : (b : List ℕ) → IsBytes b → length b ≡ 104 → bytesOfState (stateOf b) ≡ b
+state-back b y h = front-back b y (omega arith) ∙ take-all 104 b (omega arith)
+
+-- it is one whose numbers the bytes have room for
+word-most : (b : List ℕ) (i : ℕ) → IsBytes b → i + 4 ≤ length b → stateWord b i < 2 ^ 32
+unfolding stateWord wordOf
+word-most b i y h = omega (arith, all-at i y (omega arith), all-at (i + 1) y (omega arith), all-at (i + 2) y (omega arith), all-at (i + 3) y (omega arith))
+
+pub state-is : (b : List ℕ) → IsBytes b → 104 ≤ length b → IsState (stateOf b)
+unfolding stateOf chainOf
+state-is b y h =
+    let w : (i : ℕ) → i + 4 ≤ length b → stateWord b i < 2 ^ 32 = λ i k. word-most b i y k in
+    let n : length (take 8 (drop 32 b)) ≡ 8 = length-take-le 8 (drop 32 b) (omega (arith, length-drop 32 b)) in
+    record {
+      words =
+          (w 0 (omega arith), w 4 (omega arith), w 8 (omega arith), w 12 (omega arith), w 16 (omega arith), w 20 (omega arith), w 24 (omega arith), w 28 (omega arith));
+      counted = omega (arith, number-most 8 (take 8 (drop 32 b)) (all-take 8 (all-drop 32 y)) (omega (arith, n)));
+      whole = length-take-le 64 (drop 40 b) (omega (arith, length-drop 40 b));
+    }
+
+-- bytes with others behind them
+pub state-behind : (b : List ℕ) → IsBytes b → 104 ≤ length b → bytesOfState (stateOf b) ++ drop 104 b ≡ b
+state-behind b y h = ap (λ (l : List ℕ). l ++ drop 104 b) (front-back b y h) ∙ take-append-drop 104 b
 
 -- ---- the state that the bytes of a state are
 

@@ -19,9 +19,9 @@ pub data HashTells (b : List ℕ) {A : Type 0} : Answer A → Type 0 where
   too-long : HashTells b (refused 35 0)
 
 -- the state first, and then what is asked of it
-lent : {A : Type 0} (b : List ℕ) (f : Hash → Answer A) → ((s : Hash) → HashTells b (f s)) → HashTells b (andThen (lentState b) f)
+lent-tells : {A : Type 0} (b : List ℕ) (f : Hash → Answer A) → ((s : Hash) → HashTells b (f s)) → HashTells b (andThen (lentState b) f)
 unfolding lentState
-lent b f k = go (leb 104 (length b)) refl
+lent-tells b f k = go (leb 104 (length b)) refl
   where
     go : (t : Bool) → leb 104 (length b) ≡ t → HashTells b (andThen (pick t (shown (stateOf b)) (refused 11 104)) f)
     go true e = k (stateOf b)
@@ -33,8 +33,8 @@ long-or b false a = shows
 
 pub add-tells : (b p : List ℕ) → HashTells b (addIn b p)
 unfolding addIn
-add-tells b p = lent b _ (λ s. long-or b (tooLong s (length p)) (withPiece s p))
+add-tells b p = lent-tells b _ (λ s. long-or b (tooLong s (length p)) (withPiece s p))
 
 pub finish-tells : (b : List ℕ) → HashTells b (finishIn b)
 unfolding finishIn finishOf
-finish-tells b = lent b _ (λ s. long-or b (tooLong s 0) (finished s))
+finish-tells b = lent-tells b _ (λ s. long-or b (tooLong s 0) (finished s))

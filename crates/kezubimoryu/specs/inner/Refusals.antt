@@ -7,7 +7,7 @@ use mathlib.Core.Bool.{true, false}
 use mathlib.Core.List.{List, [], _∷_}
 use lib.ListN.{length}
 use Rattle.scan.specs.Choice.{Answer, shown, refused, andThen}
-use Rattle.buffer.specs.Entry.{written, filled, writes, leaves}
+use Rattle.buffer.specs.Entry.{writes, leaves}
 use Rattle.event.specs.Event.{Event}
 use Rattle.event.specs.inner.Tells.{among, Tells}
 use Rattle.notepack.specs.Unpack.{unpack}
@@ -80,7 +80,7 @@ pub record Refusals : Type 0 where
   pub table-slot : (slots cells : List ℕ) (n : ℕ) → SlotTells (ok (tableSlot slots cells n))
   pub table-empty : (slots cells : List ℕ) → Tells (34 ∷ []) 0 (λ (v : ℕ). Unit {0}) (sized slots cells)
   -- SHA-256: 11 with a length that the state, or the digest's buffer, does not have; the id question
-  pub sha256-start : (b : List ℕ) → Fills [] [] b (written (bytesOfState started) b)
+  pub sha256-start : (b : List ℕ) → Fills [] [] b (writes bytesOfState (shown started) b)
   pub sha256-add : (b p : List ℕ) → Fills hashNumbers [] b (writes bytesOfState (addIn b p) b)
   pub sha256-finish : (b d : List ℕ) → FillsBoth hashNumbers [] b d (writes itself (finishIn b) d)
   pub id-belongs : (s : List ℕ) → Asks packedNumbers s (yesNo (belongs s))
@@ -94,7 +94,7 @@ pub record Refusals : Type 0 where
       → (bytesAfter (tableOffer slots cells s) slots ≡ slots) × (cellsAfter (tableOffer slots cells s) cells ≡ cells)
   pub empty-keeps : (slots cells : List ℕ) (n p : ℕ) → sized slots cells ≡ refused n p
       → (zeroed (sized slots cells) slots ≡ slots) × (zeroed (sized slots cells) cells ≡ cells)
-  pub start-keeps : (b : List ℕ) (n p : ℕ) → written (bytesOfState started) b ≡ refused n p → filled (bytesOfState started) b ≡ b
+  pub start-keeps : (b : List ℕ) (n p : ℕ) → writes bytesOfState (shown started) b ≡ refused n p → leaves bytesOfState (shown started) b ≡ b
   pub add-keeps : (b p : List ℕ) (n q : ℕ) → writes bytesOfState (addIn b p) b ≡ refused n q → leaves bytesOfState (addIn b p) b ≡ b
   pub finish-keeps : (b d : List ℕ) (n p : ℕ) → writes itself (finishIn b) d ≡ refused n p → leaves itself (finishIn b) d ≡ d
   -- no number is 0
