@@ -180,13 +180,17 @@ empty-keeps slots cells n p e = rw e (refl, refl)
 
 -- ---- the hash
 
+-- a state tells nothing
+some : {numbers : List ℕ} (s : Hash) → Tells numbers 0 (λ (x : Hash). Unit {0}) (shown s)
+some s = value tt
+
 add-fills : (b p : List ℕ) → Fills hashNumbers [] b (writes bytesOfState (addIn b p) b)
 add-fills b p = go (addIn b p) (add-tells b p)
   where
     go : (a : Answer Hash) → HashTells b a → Fills hashNumbers [] b (writes bytesOfState a b)
-    go (shown s) h = fills [] bytesOfState (shown s) b (value {P = λ (x : Hash). Unit {0}} tt)
+    go (shown s) h = fills [] bytesOfState (shown s) b (some s)
     go (refused n q) (short h) = too-short h
-    go (refused n q) too-long = Fills.refusal refl (omega arith)
+    go (refused n q) too-long = Fills.refusal {p = 0} refl (omega arith)
 
 finish-fills : (b d : List ℕ) → FillsBoth hashNumbers [] b d (writes itself (finishIn b) d)
 unfolding written
@@ -199,7 +203,7 @@ finish-fills b d = go (finishIn b) (finish-tells b)
     go : (a : Answer (List ℕ)) → HashTells b a → FillsBoth hashNumbers [] b d (writes itself a d)
     go (shown text) h = room text (leb (length text) (length d)) refl
     go (refused n q) (short h) = first-short h
-    go (refused n q) too-long = FillsBoth.refusal refl (omega arith)
+    go (refused n q) too-long = FillsBoth.refusal {p = 0} refl (omega arith)
 
 -- THE refusals of the C entries
 pub entries-refuse : Refusals
@@ -222,7 +226,7 @@ entries-refuse =
       table-offer = λ slots cells s. offer-told outcomeNumber (offer-told (λ (o : Offer). o .outcome) (table-offer-tells s slots cells));
       table-slot = λ slots cells n. slot-told (λ (p : Stand). 0) (table-slot-tells slots cells n);
       table-empty = sized-tells;
-      sha256-start = λ b. fills [] bytesOfState (shown started) b (value {P = λ (x : Hash). Unit {0}} tt);
+      sha256-start = λ b. fills [] bytesOfState (shown started) b (some started);
       sha256-add = add-fills;
       sha256-finish = finish-fills;
       id-belongs = λ s. told s (λ b. pick b 1 0) (belongs-tells s);
