@@ -1,6 +1,6 @@
 -- The turns and the ends of the loops over the words of a block, the schedule, the rounds and the blocks.
 -- Each law opens the definition once; the premises are what the loop's record has.
-use Prim.Native.Nat.{ℕ, suc, _+_, _-_, _*_, _/_, _<_, _≤_}
+use Prim.Native.Nat.{ℕ, zero, suc, _+_, _-_, _*_, _/_, _<_, _≤_}
 use mathlib.Core.Path.{_≡_, sym, ap, _∙_}
 use mathlib.Core.List.{List, [], _∷_, _++_, append-nil}
 use native.Mathlib.Numerals.{add-one}
@@ -68,11 +68,37 @@ schedule-done w s t l h k e =
 
 -- ---- the rounds
 
-pub rounds-turn : (w : List ℕ) (t : ℕ) (v r x : Words) → t < 64 → rounds w (64 - t) t v ≡ r → x ≡ round v (getD constants t 0) (getD w t 0) → rounds w (64 - (t + 1)) (t + 1) x ≡ r
+-- the table of the constants has 64
+pub long : (k : List ℕ) → k ≡ constants → length k ≡ 64
+unfolding constants
+long k e = rw e
+
+-- eight of them
+pub eight-done : (w : List ℕ) (t : ℕ) (v : Words) {a b c d e f g h : Words}
+    → a ≡ round v (getD constants t 0) (getD w t 0)
+    → b ≡ round a (getD constants (t + 1) 0) (getD w (t + 1) 0)
+    → c ≡ round b (getD constants (t + 1 + 1) 0) (getD w (t + 1 + 1) 0)
+    → d ≡ round c (getD constants (t + 1 + 1 + 1) 0) (getD w (t + 1 + 1 + 1) 0)
+    → e ≡ round d (getD constants (t + 1 + 1 + 1 + 1) 0) (getD w (t + 1 + 1 + 1 + 1) 0)
+    → f ≡ round e (getD constants (t + 1 + 1 + 1 + 1 + 1) 0) (getD w (t + 1 + 1 + 1 + 1 + 1) 0)
+    → g ≡ round f (getD constants (t + 1 + 1 + 1 + 1 + 1 + 1) 0) (getD w (t + 1 + 1 + 1 + 1 + 1 + 1) 0)
+    → h ≡ round g (getD constants (t + 1 + 1 + 1 + 1 + 1 + 1 + 1) 0) (getD w (t + 1 + 1 + 1 + 1 + 1 + 1 + 1) 0)
+    → h ≡ rounds w 8 t v
 unfolding rounds
+eight-done w t v p q r s x y z o = rw (o, z, y, x, s, r, q, p)
+
+rounds-add : (w : List ℕ) (n m t : ℕ) (v : Words) → rounds w (n + m) t v ≡ rounds w m (t + n) (rounds w n t v)
+unfolding rounds
+rounds-add w zero m t v = let e : t + 0 ≡ t = omega arith in let f : 0 + m ≡ m = omega arith in rw (e, f)
+rounds-add w (suc n) m t v =
+    let e : t + suc n ≡ t + 1 + n = omega arith in
+    let f : suc n + m ≡ suc (n + m) = omega arith in
+    rw (e, f) (rounds-add w n m (t + 1) (round v (getD constants t 0) (getD w t 0)))
+
+pub rounds-turn : (w : List ℕ) (t : ℕ) (v r x : Words) → t + 8 ≤ 64 → rounds w (64 - t) t v ≡ r → x ≡ rounds w 8 t v → rounds w (64 - (t + 8)) (t + 8) x ≡ r
 rounds-turn w t v r x h e f =
-    let n : 64 - t ≡ suc (64 - (t + 1)) = omega arith in
-    rw f (rw n at e)
+    let n : 64 - t ≡ 8 + (64 - (t + 8)) = omega arith in
+    rw f (sym (rounds-add w 8 (64 - (t + 8)) t v) ∙ (rw n at e))
 
 pub rounds-done : (w : List ℕ) (t : ℕ) (v r : Words) → 64 ≤ t → rounds w (64 - t) t v ≡ r → v ≡ r
 unfolding rounds

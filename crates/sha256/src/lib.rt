@@ -197,7 +197,31 @@ fn extend(w: &mut [u32])
     }
 }
 
-// The sixty-four rounds. The constants are lent: a table made in here would be stored anew in each round.
+// Eight rounds from round t on: after them each variable stands where it stood, so none is moved.
+fn eight_rounds(k: &[u32], w: &[u32], t: usize, v: Words) -> Words
+    requires { ⌜ now k ≡ constants ⌝ }
+    requires { ⌜ length (now w) ≡ 64 ⌝ }
+    requires { ⌜ t + 8 ≤ 64 ⌝ }
+    ensures { λ r. ⌜ r ≡ rounds (now (w .entry)) 8 t v ⌝ }
+{
+    let a = one_round(v, k[t], w[t]);
+    let t1 = t + 1;
+    let b = one_round(a, k[t1], w[t1]);
+    let t2 = t1 + 1;
+    let c = one_round(b, k[t2], w[t2]);
+    let t3 = t2 + 1;
+    let d = one_round(c, k[t3], w[t3]);
+    let t4 = t3 + 1;
+    let e = one_round(d, k[t4], w[t4]);
+    let t5 = t4 + 1;
+    let f = one_round(e, k[t5], w[t5]);
+    let t6 = t5 + 1;
+    let g = one_round(f, k[t6], w[t6]);
+    let t7 = t6 + 1;
+    one_round(g, k[t7], w[t7])
+}
+
+// All 64.
 fn all_rounds(k: &[u32], w: &[u32], v0: Words) -> Words
     requires { ⌜ now k ≡ constants ⌝ }
     requires { ⌜ length (now w) ≡ 64 ⌝ }
@@ -206,8 +230,8 @@ fn all_rounds(k: &[u32], w: &[u32], v0: Words) -> Words
     let mut v = v0;
     let mut t = 0;
     while t < 64 {
-        v = one_round(v, k[t], w[t]);
-        t += 1;
+        v = eight_rounds(k, w, t, v);
+        t += 8;
     }
     v
 }
