@@ -185,19 +185,22 @@ fn load(w: &mut [u32], block: &[u8])
     }
 }
 
-// 6.2.2, step 1: each of the other forty-eight comes from those before it.
-fn extend(w: &mut [u32])
+// 6.2.2, step 1: eight more, from word t on, each from those before it.
+fn extend_eight(w: &mut [u32], t: usize)
     requires { ⌜ length (now w) ≡ 64 ⌝ }
-    ensures { λ _. ⌜ now (w .exit) ≡ schedule 48 (take 16 (now (w .entry))) ⌝ }
+    requires { ⌜ (16 ≤ t) × (t + 8 ≤ 64) ⌝ }
+    ensures { λ _. ⌜ take (t + 8) (now (w .exit)) ≡ schedule 8 (take t (now (w .entry))) ⌝ }
+    ensures { λ _. ⌜ length (now (w .exit)) ≡ 64 ⌝ }
 {
-    let mut t = 16;
-    while t < 64 {
-        w[t] = next_word(w[t - 2], w[t - 7], w[t - 15], w[t - 16]);
-        t += 1;
+    let end = t + 8;
+    let mut i = t;
+    while i < end {
+        w[i] = next_word(w[i - 2], w[i - 7], w[i - 15], w[i - 16]);
+        i += 1;
     }
 }
 
-// Eight rounds from round t on: after them each variable stands where it stood, so none is moved.
+// 6.2.2, step 3: eight rounds from round t on. The constants are lent: a table made in here would be stored anew each time.
 fn eight_rounds(k: &[u32], w: &[u32], t: usize, v: Words) -> Words
     requires { ⌜ now k ≡ constants ⌝ }
     requires { ⌜ length (now w) ≡ 64 ⌝ }
@@ -221,19 +224,22 @@ fn eight_rounds(k: &[u32], w: &[u32], t: usize, v: Words) -> Words
     one_round(g, k[t7], w[t7])
 }
 
-// All 64.
-fn all_rounds(k: &[u32], w: &[u32], v0: Words) -> Words
+// All 64, over the sixteen words that are loaded. The others are made eight at a time, sixteen in front of the rounds
+// that take them: so neither waits for the other.
+fn all_rounds(k: &[u32], w: &mut [u32], v0: Words) -> Words
     requires { ⌜ now k ≡ constants ⌝ }
     requires { ⌜ length (now w) ≡ 64 ⌝ }
-    ensures { λ r. ⌜ r ≡ rounds (now (w .entry)) 64 0 v0 ⌝ }
+    ensures { λ r. ⌜ r ≡ rounds (schedule 48 (take 16 (now (w .entry)))) 64 0 v0 ⌝ }
 {
     let mut v = v0;
     let mut t = 0;
-    while t < 64 {
+    while t < 48 {
+        extend_eight(w, t + 16);
         v = eight_rounds(k, w, t, v);
         t += 8;
     }
-    v
+    let a = eight_rounds(k, w, 48, v);
+    eight_rounds(k, w, 56, a)
 }
 
 // 6.2.2, step 4: word by word.
@@ -260,8 +266,7 @@ fn compress_block(k: &[u32], h: Words, block: &[u8]) -> Words
 {
     let mut w = [0u32; 64];
     load(&mut w, block);
-    extend(&mut w);
-    let v = all_rounds(k, &w, h);
+    let v = all_rounds(k, &mut w, h);
     add_words(v, h)
 }
 
