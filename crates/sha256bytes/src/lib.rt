@@ -4,7 +4,7 @@ use event::Writing;
 use sha256::Finished;
 use sha256::Hash;
 use sha256::Words;
-ghost use Prim.Native.Nat.{_≤_};
+ghost use Prim.Native.Nat.{_+_, _≤_};
 ghost use mathlib.Core.Path.{_≡_};
 ghost use lib.ListN.{length};
 ghost use Rattle.buffer.specs.inner.Store.{Wrote};
@@ -20,19 +20,15 @@ const DIGEST: usize = 32;
 
 // The word of four bytes from a place on, the first the highest.
 fn word_at(b: &[u8], at: usize) -> u32
-    requires { ⌜ at ≤ 28 ⌝ }
+    requires { ⌜ at + 4 ≤ length (now b) ⌝ }
     ensures { λ r. ⌜ r ≡ stateWord (now (b .entry)) at ⌝ }
 {
-    sha256::word_of(
-        scan::byte_at(b, at),
-        scan::byte_at(b, at + 1),
-        scan::byte_at(b, at + 2),
-        scan::byte_at(b, at + 3),
-    )
+    sha256::word_of(b[at], b[at + 1], b[at + 2], b[at + 3])
 }
 
 // The eight words of the first 32 bytes.
 fn chain_of(b: &[u8]) -> Words
+    requires { ⌜ 32 ≤ length (now b) ⌝ }
     ensures { λ r. ⌜ r ≡ chainOf (now (b .entry)) ⌝ }
 {
     Words {
