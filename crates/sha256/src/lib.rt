@@ -259,14 +259,14 @@ fn add_words(x: Words, y: Words) -> Words
 }
 
 // 6.2.2: what one block does to the hash value.
-fn compress_block(k: &[u32], h: Words, block: &[u8]) -> Words
+fn compress_block(k: &[u32], w: &mut [u32], h: Words, block: &[u8]) -> Words
     requires { ⌜ now k ≡ constants ⌝ }
+    requires { ⌜ length (now w) ≡ 64 ⌝ }
     requires { ⌜ length (now block) ≡ 64 ⌝ }
     ensures { λ r. ⌜ r ≡ compress h (now (block .entry)) ⌝ }
 {
-    let mut w = [0u32; 64];
-    load(&mut w, block);
-    let v = all_rounds(k, &mut w, h);
+    load(w, block);
+    let v = all_rounds(k, w, h);
     add_words(v, h)
 }
 
@@ -275,11 +275,12 @@ fn whole_blocks(h0: Words, s: &[u8]) -> Words
     ensures { λ r. ⌜ r ≡ hashed h0 (now (s .entry)) ⌝ }
 {
     let k = K;
+    let mut w = [0u32; 64];
     let mut h = h0;
     let mut i = 0;
     while s.len() - i >= 64 {
         let e = i + 64;
-        h = compress_block(&k, h, &s[i..e]);
+        h = compress_block(&k, &mut w, h, &s[i..e]);
         i = e;
     }
     h

@@ -9,17 +9,16 @@ use Rattle.sha256.proofs.compress_block.Tie as tie
 returns : tie.Need-returns
 unfolding compress
 returns c =
-    let gone = c .before .before in
-    let loaded = gone .before .before .before in
+    let gone = c .before .before .before in
+    let loaded = gone .before .before .before .before in
     c .add-words .ensures ∙ rw (gone .all-rounds .ensures, loaded .load .ensures)
 
 pub compress-block-spec : {M : Type 1} → statement M
 compress-block-spec =
     tie.close
     (tie.spec
-    (λ c. search needs)
+    (λ c κs. search needs)
+    (λ c κs. search needs)
     (λ c κs. search needs)
     (λ c. search needs)
-    (λ c κs. search needs)
-    (λ c κs. search needs)
     returns)
