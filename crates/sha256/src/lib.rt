@@ -300,14 +300,41 @@ fn put_word(out: &mut [u8], at: usize, x: u32) -> usize
 pub fn put_words(out: &mut [u8], at: usize, v: Words) -> usize
     ensures { λ r. ⌜ Wrote (now (out .entry)) at (digestBytes v) (now (out .exit)) r ⌝ }
 {
-    let a = put_word(out, at, v.a);
-    let b = put_word(out, a, v.b);
-    let c = put_word(out, b, v.c);
-    let d = put_word(out, c, v.d);
-    let e = put_word(out, d, v.e);
-    let f = put_word(out, e, v.f);
-    let g = put_word(out, f, v.g);
-    put_word(out, g, v.h)
+    let bytes = [
+        (v.a / 16777216 % 256) as u8,
+        (v.a / 65536 % 256) as u8,
+        (v.a / 256 % 256) as u8,
+        (v.a % 256) as u8,
+        (v.b / 16777216 % 256) as u8,
+        (v.b / 65536 % 256) as u8,
+        (v.b / 256 % 256) as u8,
+        (v.b % 256) as u8,
+        (v.c / 16777216 % 256) as u8,
+        (v.c / 65536 % 256) as u8,
+        (v.c / 256 % 256) as u8,
+        (v.c % 256) as u8,
+        (v.d / 16777216 % 256) as u8,
+        (v.d / 65536 % 256) as u8,
+        (v.d / 256 % 256) as u8,
+        (v.d % 256) as u8,
+        (v.e / 16777216 % 256) as u8,
+        (v.e / 65536 % 256) as u8,
+        (v.e / 256 % 256) as u8,
+        (v.e % 256) as u8,
+        (v.f / 16777216 % 256) as u8,
+        (v.f / 65536 % 256) as u8,
+        (v.f / 256 % 256) as u8,
+        (v.f % 256) as u8,
+        (v.g / 16777216 % 256) as u8,
+        (v.g / 65536 % 256) as u8,
+        (v.g / 256 % 256) as u8,
+        (v.g % 256) as u8,
+        (v.h / 16777216 % 256) as u8,
+        (v.h / 65536 % 256) as u8,
+        (v.h / 256 % 256) as u8,
+        (v.h % 256) as u8,
+    ];
+    buffer::put_bytes(out, at, &bytes)
 }
 
 // The eight bytes of a number, the highest first.
