@@ -49,9 +49,9 @@ fn state_of(b: &[u8]) -> Hash
     ensures { λ r. ⌜ r ≡ stateOf (now (b .entry)) ⌝ }
 {
     let chain = chain_of(b);
-    let count = littleendian::number_of(scan::part(b, 32, 8));
+    let count = littleendian::number_of(&b[32..40]);
     let mut pending = [0u8; 64];
-    buffer::put_part(&mut pending, 0, b, 40, 64);
+    buffer::put_bytes(&mut pending, 0, &b[40..104]);
     Hash {
         chain: chain,
         pending: pending,
