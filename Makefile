@@ -25,10 +25,10 @@ fuzz: ## every entry under guard pages, sanitizers and libFuzzer [SECONDS=600] [
 fuzz-install: ## clang with libFuzzer, from Debian's packages
 	@host/fuzz/install
 
-bench: ## nanoseconds for a call, beside plain Rust, memcpy and JSON parsers that are installed [ORACLE=program]
+bench: ## nanoseconds for a call, beside plain Rust, memcpy, and JSON parsers and OpenSSL if installed [ORACLE=program]
 	@host/bench
 
-bench-install: ## these JSON parsers, from Debian's packages
+bench-install: ## these JSON parsers and OpenSSL, from Debian's packages
 	@host/bench-install
 
 install: ## libraries, header, the tool, man pages, files for pkg-config and CMake [PREFIX=/usr/local] [DESTDIR=folder]

@@ -3,7 +3,7 @@ r"""Kezubimoryu from Python: the C entries of kezubimoryu.h under their own name
 Input is bytes, or what shows itself as such: a bytearray, a memoryview, a mmap. It is copied unless it is bytes, so
 that nobody changes it during the call. Anything else, a str or a number too, is a TypeError. Numbers of tags, elements
 and slots go from 0 to 2^64 - 1; others are an OverflowError, and a bool or a float is a TypeError. A table of current
-records is a Table, which owns its bytes.
+records is a Table, and a hash in progress a Sha256; each owns its bytes.
 
 A refusal is raised as Refused, with its number and place; the exception's text is a sentence:
 
@@ -31,20 +31,22 @@ import os
 import struct
 from typing import Any, Dict, Iterator, List, NamedTuple, Optional, Tuple, Union
 
-__version__ = "0.8.0"
+__version__ = "0.9.0"
 
 __all__ = [
     "KEZ_MOST", "KEZ_CANONICAL_MOST", "KEZ_NOTEPACK_STRING_MOST", "KEZ_ELEMENT_BYTES", "KEZ_ELEMENTS_MOST",
-    "KEZ_SLOTS", "KEZ_SLOT_BYTES", "KEZ_CELL_BYTES", "KEZ_SLOTS_BYTES", "KEZ_CELLS_BYTES", "SENTENCES",
-    "Bytes", "Numbers", "Payload", "Element", "Both", "Outcome", "Kept", "Table", "Refused", "kez_refusal_text",
+    "KEZ_SLOTS", "KEZ_SLOT_BYTES", "KEZ_CELL_BYTES", "KEZ_SLOTS_BYTES", "KEZ_CELLS_BYTES", "KEZ_SHA256_STATE",
+    "KEZ_SHA256_DIGEST", "SENTENCES", "Bytes", "Numbers", "Payload", "Element", "Both", "Outcome", "Kept", "Table",
+    "Sha256", "Refused", "kez_refusal_text",
     "kez_notepack_read", "kez_notepack_is_strict", "kez_notepack_write", "kez_notepack_tag_len",
     "kez_notepack_element", "kez_notepack_elements", "kez_notepack_string_write",
     "kez_notepack_string_read", "kez_canonical_write", "kez_nson_write", "kez_nson_read", "kez_json_read",
-    "kez_read_both", "kez_rivals", "kez_table_empty", "kez_table_offer", "kez_table_slot", "kez_version",
+    "kez_read_both", "kez_rivals", "kez_table_empty", "kez_table_offer", "kez_table_slot", "kez_sha256_start",
+    "kez_sha256_add", "kez_sha256_finish", "kez_id_belongs", "kez_version",
 ]
 
-#: No accepted input is longer, but for a string form, of which the bytes that it holds are counted; nor is an event in
-#: strict form, nor NSON. Rules 1.9 and 14.3.
+#: No accepted input is longer, but for a string form, of which the bytes that it holds are counted, and a piece of a
+#: message that is hashed; nor is an event in strict form, nor NSON. Rules 1.9, 14.3 and 16.8.
 KEZ_MOST: int = 65536
 #: No canonical text is longer. Rule 5.8.
 KEZ_CANONICAL_MOST: int = 3 * KEZ_MOST
@@ -61,6 +63,10 @@ KEZ_SLOT_BYTES: int = 16
 KEZ_CELL_BYTES: int = 1024
 KEZ_SLOTS_BYTES: int = KEZ_SLOTS * KEZ_SLOT_BYTES
 KEZ_CELLS_BYTES: int = KEZ_SLOTS * KEZ_CELL_BYTES
+
+#: So many bytes the state of a hash has, and a digest. Rules 16.1 and 16.3.
+KEZ_SHA256_STATE: int = 104
+KEZ_SHA256_DIGEST: int = 32
 
 #: What is taken as input; so is anything else that shows contiguous bytes.
 Bytes = Union[bytes, bytearray, memoryview]
@@ -182,6 +188,7 @@ SENTENCES: Tuple[str, ...] = (
     *9 * ("There is no refusal with this number.",),
     "The table is not as it must be: not of 64 slots and cells, "
     "or a used slot without a strict event to be kept, or with the name of another.",
+    "The message has 2^61 bytes or more, or would have with this piece.",
 )
 
 
@@ -237,6 +244,10 @@ _types: Dict[str, Tuple[Any, ...]] = {
     "kez_table_empty": _room + _room,
     "kez_table_offer": _room + _room + _bytes,
     "kez_table_slot": _room + _room + _index + _number * 2,
+    "kez_sha256_start": _room,
+    "kez_sha256_add": _room + _bytes,
+    "kez_sha256_finish": _room + _room,
+    "kez_id_belongs": _bytes,
     "kez_canonical_write": _bytes + _room,
     "kez_nson_write": _bytes + _room,
     "kez_nson_read": _bytes + _room,
@@ -498,7 +509,8 @@ def kez_notepack_string_read(text: Bytes) -> bytes:
 
 
 def kez_canonical_write(packed: Bytes) -> bytes:
-    """The canonical text of NIP-01, at most three times as long as packed. Its SHA-256 is the event's id.
+    """The canonical text of NIP-01, at most three times as long as packed. Its SHA-256 is the event's id, if that
+    belongs to it: kez_id_belongs.
 
     >>> kez_canonical_write(bytes(132))[-16:]
     b'0000",0,0,[],""]'
@@ -686,6 +698,121 @@ def kez_table_slot(table: Table, n: int) -> bytes:
     _call("kez_table_slot", *_owned(table)._lent(), _checked(n), *numbers)
     at, length = (n.value for n in numbers)
     return bytes(table._cells[at:at + length])
+
+
+class Sha256:
+    """SHA-256 of a message that comes in pieces. Where it is cut makes no difference. It owns its state, which is
+    KEZ_SHA256_STATE bytes.
+
+    >>> hash = Sha256()
+    >>> for piece in (b"a", b"", b"bc"):
+    ...     hash.add(piece)
+    >>> hash.finish().hex()
+    'ba7816bf8f01cfea414140de5dae2223b00361a396177a9cb410ff61f20015ad'
+
+    Finishing leaves the state as it is, so more may be added. bytes(hash) is the state, and Sha256(those) is the hash
+    again:
+
+    >>> again = Sha256(bytes(hash))
+    >>> again.add(b"d")
+    >>> again.finish() == hash.finish()
+    False
+
+    A message has fewer than 2^61 bytes. Any bytes are a state, so a wrong length in them is seen only here:
+
+    >>> Sha256(bytes([255]) * KEZ_SHA256_STATE).finish()
+    Traceback (most recent call last):
+        ...
+    kezubimoryu.Refused: refused 35 at 0: The message has 2^61 bytes or more, or would have with this piece.
+
+    Two threads must not use one hash at once. Rules 16.1 to 16.11."""
+
+    _state: Any
+
+    def __init__(self, state: Optional[Bytes] = None) -> None:
+        """A new one has no message yet. With the bytes of a state it goes on from there. Bytes of another length are a
+        ValueError."""
+        if state is None:
+            self._state = ctypes.create_string_buffer(KEZ_SHA256_STATE)
+            kez_sha256_start(self)
+            return
+        lent, length = _lend(state)
+        if length != KEZ_SHA256_STATE:
+            raise ValueError("a state has %d bytes, not %d" % (KEZ_SHA256_STATE, length))
+        self._state = (ctypes.c_char * KEZ_SHA256_STATE).from_buffer_copy(lent)
+
+    def add(self, piece: Bytes) -> None:
+        """Adds the bytes that come next. A refusal changes nothing."""
+        kez_sha256_add(self, piece)
+
+    def finish(self) -> bytes:
+        """The digest of the message so far."""
+        return kez_sha256_finish(self)
+
+    def __bytes__(self) -> bytes:
+        """The state."""
+        return self._state.raw
+
+
+def _hashing(hash: Sha256) -> Tuple[Any, int]:
+    if not isinstance(hash, Sha256):
+        raise TypeError("a Sha256 is wanted, not %s" % type(hash).__name__)
+    return hash._state, KEZ_SHA256_STATE
+
+
+def kez_sha256_start(hash: Sha256) -> None:
+    """Starts a hash anew: its message has no bytes, whatever it had before.
+
+    >>> hash = Sha256()
+    >>> hash.add(b"something")
+    >>> kez_sha256_start(hash)
+    >>> bytes(hash) == bytes(Sha256())
+    True
+
+    Rules 16.1 to 16.6."""
+    _call("kez_sha256_start", *_hashing(hash))
+
+
+def kez_sha256_add(hash: Sha256, piece: Bytes) -> None:
+    """Adds the bytes that come next to the message of a hash; they may be none. A refusal changes nothing.
+
+    >>> one, two = Sha256(), Sha256()
+    >>> kez_sha256_add(one, b"hello")
+    >>> kez_sha256_add(two, b"hel")
+    >>> kez_sha256_add(two, b"lo")
+    >>> bytes(one) == bytes(two)
+    True
+
+    Rules 16.1 to 16.5, 16.7 to 16.9, 12.7.1 to 12.7.3."""
+    _call("kez_sha256_add", *_hashing(hash), *_lend(piece))
+
+
+def kez_sha256_finish(hash: Sha256) -> bytes:
+    """The digest of the message so far, KEZ_SHA256_DIGEST bytes. More may be added.
+
+    >>> kez_sha256_finish(Sha256()).hex()
+    'e3b0c44298fc1c149afbf4c8996fb92427ae41e4649b934ca495991b7852b855'
+
+    Rules 16.1 to 16.5, 16.10, 16.11, 12.7.1 to 12.7.3."""
+    out = ctypes.create_string_buffer(KEZ_SHA256_DIGEST)
+    _call("kez_sha256_finish", *_hashing(hash), out, KEZ_SHA256_DIGEST)
+    return out.raw
+
+
+def kez_id_belongs(packed: Bytes) -> bool:
+    """Does the id belong to the packed event: is it the SHA-256 of its canonical text? The signature plays no part. A
+    thread that calls this needs some 200 KB of stack.
+
+    >>> event = bytes(128) + bytes.fromhex("8094ebdc03 01 02 6869 00")
+    >>> kez_id_belongs(event)
+    False
+    >>> hash = Sha256()
+    >>> hash.add(kez_canonical_write(event))
+    >>> kez_id_belongs(hash.finish() + event[32:])
+    True
+
+    Rules 16.12 to 16.14, 12.7.4."""
+    return bool(_call("kez_id_belongs", *_lend(packed)))
 
 
 def kez_version() -> int:

@@ -11,7 +11,8 @@
 //! let length = kezubimoryu::notepack_write(&packed, &mut out)?;
 //! ```
 //!
-//! A table of current records is a [Table], which owns its bytes; the three entries for it are functions of that.
+//! A table of current records is a [Table], and a hash in progress a [Sha256]. Each owns its bytes, and the three
+//! entries for it are functions of that.
 //!
 //! The header says what each entry promises. The rules named here are those of docs/RULES.md; parts 1, 10, 11 and 12.1
 //! of it bind all entries.
@@ -20,10 +21,11 @@
 use std::fmt;
 
 /// The version of the library, as in the header.
-pub const KEZ_VERSION: &str = "0.8.0";
-/// No accepted input is longer, but for a string form, of which the bytes that it holds are counted; nor is an event in
-/// strict form, nor NSON (rules 1.9 and 14.3). A strict form is never longer than what it was read from, so a buffer as
-/// long as the packed bytes or the text is always enough (rules 3.7 and 12.3.6).
+pub const KEZ_VERSION: &str = "0.9.0";
+/// No accepted input is longer, but for a string form, of which the bytes that it holds are counted, and a piece of a
+/// message that is hashed; nor is an event in strict form, nor NSON (rules 1.9, 14.3 and 16.8). A strict form is never
+/// longer than what it was read from, so a buffer as long as the packed bytes or the text is always enough (rules 3.7
+/// and 12.3.6).
 pub const KEZ_MOST: usize = 65536;
 /// No canonical text is longer: three bytes for each byte that was packed (rule 5.8).
 pub const KEZ_CANONICAL_MOST: usize = 3 * KEZ_MOST;
@@ -43,7 +45,11 @@ pub const KEZ_CELL_BYTES: usize = 1024;
 pub const KEZ_SLOTS_BYTES: usize = KEZ_SLOTS * KEZ_SLOT_BYTES;
 pub const KEZ_CELLS_BYTES: usize = KEZ_SLOTS * KEZ_CELL_BYTES;
 
-/// Refusal 0 and a value, or a refusal from 1 to 24, or 34, and its place (rules 12.1.2 to 12.1.4). Rule 10.N is
+/// So many bytes the state of a hash has, and a digest (rules 16.1 and 16.3).
+pub const KEZ_SHA256_STATE: usize = 104;
+pub const KEZ_SHA256_DIGEST: usize = 32;
+
+/// Refusal 0 and a value, or a refusal from 1 to 24, or 34 or 35, and its place (rules 12.1.2 to 12.1.4). Rule 10.N is
 /// refusal N.
 #[repr(C)]
 #[derive(Clone, Copy, Debug, PartialEq, Eq)]
@@ -117,6 +123,14 @@ unsafe extern "C" {
         at: *mut u64,
         len: *mut u64,
     ) -> kez_answer;
+    /// Rules 16.1 to 16.6.
+    pub fn kez_sha256_start(state: *mut u8, state_len: usize) -> kez_answer;
+    /// Rules 16.1 to 16.5, 16.7 to 16.9, 12.7.1 to 12.7.3.
+    pub fn kez_sha256_add(state: *mut u8, state_len: usize, piece: *const u8, piece_len: usize) -> kez_answer;
+    /// Rules 16.1 to 16.5, 16.10, 16.11, 12.7.1 to 12.7.3.
+    pub fn kez_sha256_finish(state: *const u8, state_len: usize, out: *mut u8, out_len: usize) -> kez_answer;
+    /// Rules 16.12 to 16.14, 12.7.4.
+    pub fn kez_id_belongs(packed: *const u8, packed_len: usize) -> kez_answer;
     /// Rules 5.1 to 5.9, 12.2.8.
     pub fn kez_canonical_write(packed: *const u8, packed_len: usize, out: *mut u8, out_len: usize) -> kez_answer;
     /// Rules 6.1 to 6.16, 12.3.10 to 12.3.12.
@@ -175,13 +189,14 @@ pub fn kez_refusal_text(number: u64) -> &'static str {
             "The table is not as it must be: not of 64 slots and cells, \
              or a used slot without a strict event to be kept, or with the name of another."
         }
+        35 => "The message has 2^61 bytes or more, or would have with this piece.",
         _ => "There is no refusal with this number.",
     }
 }
 
-/// A refusal from 1 to 24, or 34: its number, and the place in the input where the fault was found; with 11 the length
-/// needed, with 34 the number of a slot. Where notepack_string_read tells one from 2 to 10, or 24, the place is in the
-/// bytes that its text holds.
+/// A refusal from 1 to 24, or 34 or 35: its number, and the place in the input where the fault was found; with 11 the
+/// length needed, with 34 the number of a slot. Where notepack_string_read tells one from 2 to 10, or 24, the place is
+/// in the bytes that its text holds.
 #[derive(Clone, Copy, Debug, PartialEq, Eq)]
 pub struct Refused {
     pub number: u64,
@@ -485,6 +500,70 @@ impl Table {
         }
         Ok(kept)
     }
+}
+
+/// SHA-256 of a message that comes in pieces. Where it is cut makes no difference. It owns its state. (Rules 16.1 to
+/// 16.11.)
+///
+/// ```ignore
+/// let mut hash = kezubimoryu::Sha256::new();
+/// hash.add(b"a")?;
+/// hash.add(b"bc")?;
+/// let digest = hash.finish()?;
+/// ```
+#[derive(Clone, Copy, Debug, PartialEq, Eq)]
+pub struct Sha256 {
+    state: [u8; KEZ_SHA256_STATE],
+}
+
+impl Default for Sha256 {
+    fn default() -> Self {
+        Self::new()
+    }
+}
+
+impl Sha256 {
+    /// A message of no bytes.
+    pub fn new() -> Self {
+        let mut hash = Self { state: [0; KEZ_SHA256_STATE] };
+        hash.start();
+        hash
+    }
+
+    /// A hash that goes on from this state. Any bytes are one.
+    pub fn from_state(state: [u8; KEZ_SHA256_STATE]) -> Self {
+        Self { state }
+    }
+
+    /// The state, to go on from later.
+    pub fn state(&self) -> &[u8; KEZ_SHA256_STATE] {
+        &self.state
+    }
+
+    /// Starts anew, with a message of no bytes.
+    pub fn start(&mut self) {
+        let answer = unsafe { kez_sha256_start(self.state.as_mut_ptr(), self.state.len()) };
+        told(answer).expect("the buffer is as long as a state");
+    }
+
+    /// Adds the bytes that come next. Where the message would have 2^61 bytes or more, 35 is told and nothing changes.
+    pub fn add(&mut self, piece: &[u8]) -> Result<(), Refused> {
+        let state = &mut self.state;
+        told(unsafe { kez_sha256_add(state.as_mut_ptr(), state.len(), piece.as_ptr(), piece.len()) }).map(|_| ())
+    }
+
+    /// The digest of the message so far. More may be added.
+    pub fn finish(&self) -> Result<[u8; KEZ_SHA256_DIGEST], Refused> {
+        let mut digest = [0; KEZ_SHA256_DIGEST];
+        write(kez_sha256_finish, &self.state, &mut digest)?;
+        Ok(digest)
+    }
+}
+
+/// Does the id belong to the packed event: is it the SHA-256 of its canonical text? The signature plays no part. A
+/// thread that calls this needs some 200 KB of stack.
+pub fn id_belongs(packed: &[u8]) -> Result<bool, Refused> {
+    told(unsafe { kez_id_belongs(packed.as_ptr(), packed.len()) }).map(|value| value == 1)
 }
 
 /// Writes the canonical text of NIP-01; its length. An `out` three times as long as `packed` is always enough.

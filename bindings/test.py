@@ -101,6 +101,7 @@ canonical = kez.kez_canonical_write(form)
 wanted = [0, event["pubkey"], event["created_at"], event["kind"], event["tags"], event["content"]]
 check("canonical", canonical.decode(), json.dumps(wanted, separators=(",", ":"), ensure_ascii=False))
 check("its SHA-256 is the id", hashlib.sha256(canonical).hexdigest(), event["id"])
+check("the id belongs", kez.kez_id_belongs(form), True)
 # the most that a text can grow: a content of nothing but line ends
 lines = b"\n" * 65000
 longest = bytes(128) + varint(0) + varint(0) + varint(len(lines)) + lines + varint(0)
@@ -218,10 +219,67 @@ for wrong in (None, bytes(66560), bytearray(66560)):
     check("an offer to %.9r" % (wrong,), raised(kez.kez_table_offer, wrong, form), "TypeError")
 check("there are five outcomes", [o.value for o in kez.Outcome], [0, 1, 2, 3, 4])
 
-# Input: bytes, and what shows itself as bytes. All entries take it by the same way; the table's own is put first.
-apart = ("kez_refusal_text", "kez_version", "kez_table_empty", "kez_table_slot")
+# Hashes, beside Python's own: every length up to 300, cut anywhere; states there and back; the limit; ids
+message = bytes(7 * i % 251 for i in range(300))
+for length in range(301):
+    hash, wanted = kez.Sha256(), hashlib.sha256(message[:length]).digest()
+    cuts = sorted({0, length} | {length * i // 7 for i in range(length % 7)})
+    for start, end in zip(cuts, cuts[1:]):
+        hash.add(message[start:end])
+    check("the digest of %d bytes" % length, (hash.finish(), hash.finish()), (wanted, wanted))
+    again = kez.Sha256(bytes(hash))
+    again.add(b"more")
+    check("%d bytes and more" % length, again.finish(), hashlib.sha256(message[:length] + b"more").digest())
+    check("%d bytes, left as they are" % length, hash.finish(), wanted)
+started = kez.Sha256()
+check("a state", (len(bytes(started)), bytes(started)[:4].hex(), bytes(started)[32:]), (104, "6a09e667", bytes(72)))
+started.add(b"abc")
+check("a state of abc", bytes(started)[32:], struct.pack("<Q", 3) + b"abc" + bytes(61))
+kez.kez_sha256_start(started)
+check("started anew", bytes(started), bytes(kez.Sha256()))
+long = kez.Sha256()
+for _ in range(100):
+    long.add(b"a" * 10000)
+check("a million", long.finish(), hashlib.sha256(b"a" * 1000000).digest())
+
+
+def claiming(length):
+    """A hash whose message is said to have so many bytes."""
+    return kez.Sha256(bytes(kez.Sha256())[:32] + struct.pack("<Q", length) + bytes(64))
+
+
+for length, piece, wanted in (((1 << 61) - 2, b"a", None), ((1 << 61) - 1, b"", None), ((1 << 61) - 1, b"a", (35, 0)),
+                              (1 << 61, b"", (35, 0)), ((1 << 64) - 1, b"aa", (35, 0))):
+    hash = claiming(length)
+    before = bytes(hash)
+    check("%d bytes and %d" % (length, len(piece)), refusal(hash.add, piece), wanted)
+    check("%d bytes and %d, left" % (length, len(piece)), bytes(hash) == before, wanted is not None or not piece)
+    check("%d bytes, finished" % length, type(refusal(hash.finish)), tuple if length >> 61 else bytes)
+for wrong in (b"", bytes(103), bytes(105), bytes(66560)):
+    check("a state of %d bytes" % len(wrong), raised(kez.Sha256, wrong), "ValueError")
+for wrong in (5, "text", [0] * 104):
+    check("a state of %.9r" % (wrong,), raised(kez.Sha256, wrong), "TypeError")
+for wrong in (None, bytes(104), bytearray(104), kez.Table()):
+    for call, words in ((kez.kez_sha256_start, ()), (kez.kez_sha256_add, (b"",)), (kez.kez_sha256_finish, ())):
+        check("%s of %.9r" % (call.__name__, wrong), raised(call, wrong, *words), "TypeError")
+for place, wanted in ((0, False), (31, False), (32, False), (63, False), (64, True), (127, True), (129, False)):
+    other = bytearray(form)
+    other[place] ^= 1
+    check("the id, byte %d changed" % place, kez.kez_id_belongs(other), wanted)
+lower = bytes(131) + bytes.fromhex("01 02 0264 04 6162")
+lower = hashlib.sha256(kez.kez_canonical_write(lower)).digest() + lower[32:]
+check("the id, spelled otherwise", (kez.kez_id_belongs(lower), kez.kez_id_belongs(kez.kez_notepack_write(lower))),
+      (True, True))
+identified = hashlib.sha256(kez.kez_canonical_write(longest)).digest() + longest[32:]
+check("the id of much", (kez.kez_id_belongs(longest), kez.kez_id_belongs(identified)), (False, True))
+for what, data, wanted in (("nothing", b"", (2, 0)), ("too much", bytes(65537), (1, 0)), ("padded", padded, (24, 128))):
+    check("the id of %s" % what, refusal(kez.kez_id_belongs, data), wanted)
+
+# Input: bytes, and what shows itself as bytes. All entries take it by the same way; a table, or a hash, is put first.
+apart = ("kez_refusal_text", "kez_version", "kez_table_empty", "kez_table_slot", "kez_sha256_start",
+         "kez_sha256_finish")
 inputs = [name for name in dir(kez) if name.startswith("kez_") and name not in apart]
-check("there are fifteen entries", len(inputs), 15)
+check("there are seventeen entries", len(inputs), 17)
 indices = {"kez_notepack_tag_len": (0,), "kez_notepack_element": (0, 0)}
 
 
@@ -233,9 +291,14 @@ class Lying(bytes):
 
 
 def ask(name, data):
-    """The entry's answer; an iterator's is all that it has, and two inputs are the same one. A table is a new one."""
+    """The entry's answer; an iterator's is all that it has, and two inputs are the same one. A table is a new one, and
+    so is a hash, of which the digest is told."""
     if name == "kez_table_offer":
         return kez.kez_table_offer(kez.Table(), data)
+    if name == "kez_sha256_add":
+        hash = kez.Sha256()
+        hash.add(data)
+        return hash.finish()
     words = (data,) if name == "kez_rivals" else indices.get(name, ())
     got = getattr(kez, name)(data, *words)
     return list(got) if name == "kez_notepack_elements" else got

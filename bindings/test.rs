@@ -41,9 +41,11 @@ fn main() {
     all_elements(&record).expect("nothing here is refused");
     string_form(&record).expect("nothing here is refused");
     table(&record).expect("nothing here is refused");
+    hashes(&record, &text).expect("nothing here is refused");
     print!("{KEZ_VERSION} {KEZ_MOST} {KEZ_CANONICAL_MOST} {KEZ_NOTEPACK_STRING_MOST} ");
     print!("{KEZ_ELEMENT_BYTES} {KEZ_ELEMENTS_MOST} ");
-    println!("{KEZ_SLOTS} {KEZ_SLOT_BYTES} {KEZ_CELL_BYTES} {KEZ_SLOTS_BYTES} {KEZ_CELLS_BYTES}");
+    print!("{KEZ_SLOTS} {KEZ_SLOT_BYTES} {KEZ_CELL_BYTES} {KEZ_SLOTS_BYTES} {KEZ_CELLS_BYTES} ");
+    println!("{KEZ_SHA256_STATE} {KEZ_SHA256_DIGEST}");
     for number in 0..40 {
         println!("{}", kez_refusal_text(number));
     }
@@ -219,5 +221,63 @@ fn table(record: &[u8]) -> Result<(), Refused> {
         any.empty()?;
         assert_eq!((&*any, any.kept()?.len()), (&Table::new(), 0));
     }
+    Ok(())
+}
+
+/// Hashes: the standard's examples cut anywhere, a state there and back, the limit; and ids that belong or do not.
+fn hashes(record: &[u8], text: &[u8]) -> Result<(), Refused> {
+    let hex = |bytes: &[u8]| bytes.iter().map(|b| format!("{b:02x}")).collect::<String>();
+    for (message, digest) in [
+        (&b""[..], "e3b0c44298fc1c149afbf4c8996fb92427ae41e4649b934ca495991b7852b855"),
+        (b"abc", "ba7816bf8f01cfea414140de5dae2223b00361a396177a9cb410ff61f20015ad"),
+        (
+            b"abcdbcdecdefdefgefghfghighijhijkijkljklmklmnlmnomnopnopq",
+            "248d6a61d20638b8e5c026930c3e6039a33ce45964ff2167f6ecedd419db06c1",
+        ),
+    ] {
+        let mut whole = Sha256::new();
+        whole.add(message)?;
+        assert_eq!(hex(&whole.finish()?), digest);
+        for cut in 0..=message.len() {
+            let mut hash = Sha256::default();
+            hash.add(&message[..cut])?;
+            let mut again = Sha256::from_state(*hash.state());
+            assert_eq!(again, hash);
+            again.add(&message[cut..])?;
+            assert_eq!((again, hex(&again.finish()?)), (whole, digest.to_string()));
+        }
+        whole.start();
+        assert_eq!(whole, Sha256::new());
+    }
+    let claiming = |length: u64| {
+        let mut state = *Sha256::new().state();
+        state[32..40].copy_from_slice(&length.to_le_bytes());
+        Sha256::from_state(state)
+    };
+    let too_long = Err(Refused { number: 35, place: 0 });
+    for (length, piece, wanted) in [
+        ((1 << 61) - 2, &b"a"[..], Ok(())),
+        ((1 << 61) - 1, b"", Ok(())),
+        ((1 << 61) - 1, b"a", too_long),
+        (1 << 61, b"", too_long),
+        (u64::MAX, b"aa", too_long),
+    ] {
+        let (mut hash, before) = (claiming(length), claiming(length));
+        assert_eq!(hash.add(piece), wanted);
+        assert!(wanted.is_ok() || hash == before);
+        assert_eq!(hash.finish().is_ok(), length < 1 << 61);
+    }
+    let event = written(json_read, text)?;
+    assert_eq!((id_belongs(&event)?, id_belongs(record)?), (true, false));
+    for (place, wanted) in [(0, false), (31, false), (32, false), (64, true), (127, true), (129, false)] {
+        let mut other = event.clone();
+        other[place] ^= 1;
+        assert_eq!(id_belongs(&other)?, wanted);
+    }
+    let mut hash = Sha256::new();
+    hash.add(&written(canonical_write, record)?)?;
+    assert!(id_belongs(&[&hash.finish()?, &record[32..]].concat())?);
+    assert_eq!(id_belongs(&record[..200]), Err(Refused { number: 2, place: 177 }));
+    assert_eq!(id_belongs(&[0; 65537]), Err(Refused { number: 1, place: 0 }));
     Ok(())
 }

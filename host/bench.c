@@ -1,11 +1,13 @@
 /* Nanoseconds for a call of each entry on its records: the library as linked, host/reference by its shared library
- * (first word), a plain memcpy, the JSON parsers of the shared library of host/peers.cc (second word, `-`: none), and
- * a program that takes `--bench ENTRY FILE N` (third word, may be missing; NAMES, a sed script, turns an entry's name
- * into its own). The parsers take the text that kez_json_read takes, and only parse it. The table is gone through
- * several times and the best figure of each kept, so that a busy moment of the machine does not count. It goes to
- * standard output, and its figures line by line to target/host/bench.tsv. */
+ * (first word), a plain memcpy, what the shared library of host/peers.cc has (second word, `-`: none), and a program
+ * that takes `--bench ENTRY FILE N` (third word, may be missing; NAMES, a sed script, turns an entry's name into its
+ * own). The JSON parsers take the text that kez_json_read takes, and only parse it. A hash is its three entries, one
+ * after the other; beside it stand plain C, OpenSSL, and OpenSSL without the processor's SHA instructions, in a process
+ * of its own. The table is gone through several times and the best figure of each kept, so that a busy moment of the
+ * machine does not count. It goes to standard output, and its figures line by line to target/host/bench.tsv. */
 #define _GNU_SOURCE
 #include "kezubimoryu.h"
+#include "plain_sha256.h"
 
 #include <dlfcn.h>
 #include <stdio.h>
@@ -27,7 +29,7 @@ typedef struct {
 
 typedef struct {
     const char *name;
-    const char *only; /* the entries that it is for: their names start so; NULL: all but those of tables */
+    const char *only; /* the entries that it is for: their names start so; NULL: all but those of tables and hashes */
     uint64_t refusal; /* what they refuse it with */
     table *table;     /* that it is offered to, if it is one for those */
     uint64_t value;   /* what that offer is answered */
@@ -35,7 +37,7 @@ typedef struct {
     size_t packed_len, text_len, string_len;
 } __attribute__((aligned(4096))) record;
 
-static record records[22];
+static record records[24];
 
 static void put(record *r, const void *part, size_t len)
 {
@@ -191,7 +193,9 @@ static void make_tables(void)
 
 /* Entries */
 
-typedef enum { READS, ASKS, WRITES, COUNTS, SHOWS, LISTS, BOTH, RIVALS, OFFERS, VIEWS, EMPTIES, PARSES, COPIES } shape;
+typedef enum {
+    READS, ASKS, WRITES, COUNTS, SHOWS, LISTS, BOTH, RIVALS, OFFERS, VIEWS, EMPTIES, HASHES, PLAIN, PARSES, COPIES
+} shape;
 
 typedef kez_answer reads(const uint8_t *, size_t, uint64_t *, uint64_t *, uint64_t *, uint64_t *, uint64_t *);
 typedef kez_answer asks(const uint8_t *, size_t);
@@ -204,7 +208,17 @@ typedef kez_answer rivals(const uint8_t *, size_t, const uint8_t *, size_t);
 typedef kez_answer offers(uint8_t *, size_t, uint8_t *, size_t, const uint8_t *, size_t);
 typedef kez_answer views(const uint8_t *, size_t, const uint8_t *, size_t, uint64_t, uint64_t *, uint64_t *);
 typedef kez_answer empties(uint8_t *, size_t, uint8_t *, size_t);
+typedef void plain(const uint8_t *, size_t, uint8_t *);
 typedef int parses(const uint8_t *, size_t);
+
+/* The three entries of a hash. */
+typedef struct {
+    kez_answer (*start)(uint8_t *, size_t);
+    kez_answer (*add)(uint8_t *, size_t, const uint8_t *, size_t);
+    writes *finish;
+} hashes;
+
+static hashes library_hash = {kez_sha256_start, kez_sha256_add, kez_sha256_finish}, reference_hash;
 
 typedef struct {
     const char *name, *symbol;
@@ -231,24 +245,52 @@ static const entry entries[] = {
     {"table_offer", "kez_table_offer", OFFERS, kez_table_offer, PACKED},
     {"table_slot", "kez_table_slot", VIEWS, kez_table_slot, PACKED},
     {"table_empty", "kez_table_empty", EMPTIES, kez_table_empty, PACKED},
+    {"sha256", "kez_sha256_add", HASHES, &library_hash, PACKED},
+    {"id_belongs", "kez_id_belongs", ASKS, kez_id_belongs, PACKED},
 };
 
-/* Who is measured. The parsers stand beside the JSON reader alone. */
-enum { LIBRARY, REFERENCE, RAPIDJSON, SIMDJSON, JANSSON, MEMCPY, PROGRAM, ALL };
-static const char *const names[ALL] = {"library", "reference", "RapidJSON", "simdjson", "Jansson", "memcpy", "program"};
-static const char *const symbols[ALL] = {[RAPIDJSON] = "peer_rapidjson", [SIMDJSON] = "peer_simdjson", [JANSSON] = "peer_jansson"};
+/* Who is measured. Some stand beside one entry alone; those that have a symbol are in the peers' library. */
+enum { LIBRARY, REFERENCE, PLAIN_C, OPENSSL, NO_SHA, RAPIDJSON, SIMDJSON, JANSSON, MEMCPY, PROGRAM, ALL };
+static const struct {
+    const char *name, *beside, *symbol;
+} others[ALL] = {
+    [LIBRARY] = {"library", NULL, NULL},
+    [REFERENCE] = {"reference", NULL, NULL},
+    [PLAIN_C] = {"plain C", "sha256", NULL},
+    [OPENSSL] = {"OpenSSL", "sha256", "peer_openssl"},
+    [NO_SHA] = {"no SHA-NI", "sha256", NULL},
+    [RAPIDJSON] = {"RapidJSON", "json_read", "peer_rapidjson"},
+    [SIMDJSON] = {"simdjson", "json_read", "peer_simdjson"},
+    [JANSSON] = {"Jansson", "json_read", "peer_jansson"},
+    [MEMCPY] = {"memcpy", NULL, NULL},
+    [PROGRAM] = {"program", NULL, NULL},
+};
+
+static void *reference_entry(const entry *e, void *reference)
+{
+    if (e->shape != HASHES)
+        return dlsym(reference, e->symbol);
+    *(void **)&reference_hash.start = dlsym(reference, "kez_sha256_start");
+    *(void **)&reference_hash.add = dlsym(reference, "kez_sha256_add");
+    *(void **)&reference_hash.finish = dlsym(reference, "kez_sha256_finish");
+    return reference_hash.start && reference_hash.add && reference_hash.finish ? &reference_hash : NULL;
+}
 
 /* The entry of someone else; without a function if there is none. */
 static entry by(const entry *e, int who, void *reference, void *peers)
 {
     entry o = *e;
+    int is_beside = others[who].beside && !strcmp(e->name, others[who].beside);
     if (who == MEMCPY) {
         o.shape = COPIES;
     } else if (who == REFERENCE) {
-        o.function = dlsym(reference, e->symbol);
-    } else if (symbols[who]) {
+        o.function = reference_entry(e, reference);
+    } else if (who == PLAIN_C) {
+        o.shape = PLAIN;
+        o.function = is_beside ? plain_sha256 : NULL;
+    } else if (who != LIBRARY) {
         o.shape = PARSES;
-        o.function = peers && !strcmp(e->name, "json_read") ? dlsym(peers, symbols[who]) : NULL;
+        o.function = peers && is_beside && others[who].symbol ? dlsym(peers, others[who].symbol) : NULL;
     }
     return o;
 }
@@ -278,6 +320,14 @@ static uint64_t offer(offers *f, const uint8_t *in, size_t len)
     return 0;
 }
 
+/* The digest of a message that comes in one piece. */
+static uint64_t hash(const hashes *h, const uint8_t *in, size_t len)
+{
+    uint8_t state[KEZ_SHA256_STATE];
+    return h->start(state, sizeof state).refusal + h->add(state, sizeof state, in, len).refusal +
+           h->finish(state, sizeof state, out, KEZ_SHA256_DIGEST).refusal;
+}
+
 static double now(void)
 {
     struct timespec t;
@@ -304,6 +354,8 @@ static uint64_t call(const entry *e, const uint8_t *in, size_t len)
         return ((views *)e->function)(lent.slots, sizeof lent.slots, lent.cells, sizeof lent.cells, 63, n, n + 1)
             .refusal;
     case EMPTIES: return ((empties *)e->function)(lent.slots, sizeof lent.slots, lent.cells, sizeof lent.cells).refusal;
+    case HASHES: return hash(e->function, in, len);
+    case PLAIN: ((plain *)e->function)(in, len, out); return 0;
     case PARSES: return !((parses *)e->function)(in, len);
     default: memcpy(out, in, len); return 0;
     }
@@ -342,17 +394,15 @@ static void keep_best(double *best, double ns)
         *best = ns;
 }
 
-/* Nanoseconds by another program on the bytes of a file; 0 if it tells none. */
-static double by_program(const char *program, const char *kind, const uint8_t *in, size_t len, uint64_t calls)
+static const char file[] = "target/host/record";
+
+/* Nanoseconds as a command tells them, which finds the bytes in the file; 0 if it tells none. */
+static double by_command(const char *command, const uint8_t *in, size_t len)
 {
-    const char *file = "target/host/record";
-    char command[4096];
     double ns = 0;
     FILE *f = fopen(file, "wb");
     if (!f || fwrite(in, 1, len, f) != len || fclose(f))
         return 0;
-    snprintf(command, sizeof command, "'%s' --bench \"$(echo %s | sed \"$NAMES\")\" %s %llu 2> /dev/null", program,
-             kind, file, (unsigned long long)calls);
     FILE *said = popen(command, "r");
     if (!said || fscanf(said, "%lf", &ns) != 1)
         ns = 0;
@@ -361,11 +411,54 @@ static double by_program(const char *program, const char *kind, const uint8_t *i
     return ns;
 }
 
+static double by_program(const char *program, const char *kind, const uint8_t *in, size_t len, uint64_t calls)
+{
+    char command[4096];
+    snprintf(command, sizeof command, "'%s' --bench \"$(echo %s | sed \"$NAMES\")\" %s %llu 2> /dev/null", program,
+             kind, file, (unsigned long long)calls);
+    return by_command(command, in, len);
+}
+
+/* This program again, where OpenSSL has read as it was loaded that there are no SHA instructions. */
+static const char *self, *peers_file;
+
+static double without_sha(const uint8_t *in, size_t len)
+{
+    char command[4096];
+    snprintf(command, sizeof command, "OPENSSL_ia32cap=:~0x20000000 '%s' --openssl '%s' 2> /dev/null", self,
+             peers_file);
+    return by_command(command, in, len);
+}
+
+static int only_openssl(const char *library)
+{
+    static uint8_t in[sizeof records->packed];
+    void *peers = dlopen(library, RTLD_NOW | RTLD_LOCAL);
+    entry e = {"sha256", NULL, PARSES, peers ? dlsym(peers, others[OPENSSL].symbol) : NULL, PACKED};
+    FILE *f = fopen(file, "rb");
+    size_t len = f ? fread(in, 1, sizeof in, f) : 0;
+    uint64_t calls = 16;
+    double best = 0;
+    if (!e.function || !len)
+        return 1;
+    for (int i = 0; i < ROUNDS; i++)
+        keep_best(&best, round_of(&e, in, len, 0, &calls));
+    printf("%.1f\n", best);
+    return 0;
+}
+
 /* The figures of one entry on one record; 0 where there is none. */
 typedef struct {
     size_t len;
     double ns[ALL];
 } row;
+
+/* One that was told. */
+static void keep_figure(double *best, double ns)
+{
+    if (ns > 0)
+        keep_best(best, ns);
+}
 
 static void measure(row *best, const entry *e, const record *r, void *reference, void *peers, const char *program)
 {
@@ -377,14 +470,15 @@ static void measure(row *best, const entry *e, const record *r, void *reference,
     lent = r->table ? *r->table : empty;
     for (int who = 0; who < PROGRAM; who++) {
         entry o = by(e, who, reference, peers);
-        uint64_t refusal = o.shape == COPIES || o.shape == PARSES ? 0 : r->refusal;
+        uint64_t refusal = o.shape >= HASHES ? 0 : r->refusal;
         calls = 16;
         for (int i = 0; i < ROUNDS && o.function; i++)
             keep_best(&best->ns[who], round_of(&o, in, best->len, refusal, &calls));
     }
-    double ns = program ? by_program(program, e->name, in, best->len, calls) : 0;
-    if (ns > 0)
-        keep_best(&best->ns[PROGRAM], ns);
+    if (best->ns[OPENSSL] > 0)
+        keep_figure(&best->ns[NO_SHA], without_sha(in, best->len));
+    if (program)
+        keep_figure(&best->ns[PROGRAM], by_program(program, e->name, in, best->len, calls));
 }
 
 /* All elements are listed of the small, the middle and the fullest record: content does not matter. */
@@ -410,8 +504,8 @@ static void print(row rows[ENTRIES][RECORDS])
     printf("nanoseconds for a call\n%-12s  %-12s %6s", "entry", "record", "bytes");
     for (int who = 0; who < ALL; who++)
         if (shown[who])
-            printf("  %10s", names[who]);
-    printf("  %s\n", "library : reference");
+            printf("  %10s", others[who].name);
+    printf("  %s\n", "library : reference, plain C");
     if (figures)
         fprintf(figures, "entry\trecord\tbytes\tby\tns\n");
     for (int i = 0; i < ENTRIES; i++)
@@ -426,9 +520,13 @@ static void print(row rows[ENTRIES][RECORDS])
                 else if (shown[who])
                     printf("  %10s", "-");
                 if (figures && b->ns[who] > 0)
-                    fprintf(figures, "%s\t%s\t%zu\t%s\t%.1f\n", entries[i].name, records[j].name, b->len, names[who], b->ns[who]);
+                    fprintf(figures, "%s\t%s\t%zu\t%s\t%.1f\n", entries[i].name, records[j].name, b->len,
+                            others[who].name, b->ns[who]);
             }
-            printf("  %.2f\n", b->ns[LIBRARY] / b->ns[REFERENCE]);
+            printf("  %.2f", b->ns[LIBRARY] / b->ns[REFERENCE]);
+            if (b->ns[PLAIN_C] > 0)
+                printf(", %.2f", b->ns[LIBRARY] / b->ns[PLAIN_C]);
+            printf("\n");
         }
     if (figures)
         fclose(figures);
@@ -493,6 +591,15 @@ static void make_offered(int first)
     }
 }
 
+/* Messages to be hashed, from records[first] on. */
+static void make_messages(int first)
+{
+    make(&records[first], "300 bytes", 300, 2, "A map for the left ear. ");
+    make(&records[first + 1], "64 KB", 65536, 16, "Threshold 42 dB at 1000 Hz, comfort 61 dB.\n");
+    for (int j = first; j < first + 2; j++)
+        records[j].only = "sha256";
+}
+
 /* The other forms of each record. */
 static void make_forms(writes *nson_write)
 {
@@ -507,9 +614,13 @@ static void make_forms(writes *nson_write)
 int main(int count, char **words)
 {
     static row rows[ENTRIES][RECORDS];
+    if (count == 3 && !strcmp(words[1], "--openssl"))
+        return only_openssl(words[2]);
     void *reference = count > 1 ? dlopen(words[1], RTLD_NOW | RTLD_LOCAL) : NULL;
     void *peers = count > 2 && strcmp(words[2], "-") ? dlopen(words[2], RTLD_NOW | RTLD_LOCAL) : NULL;
     const char *program = count > 3 ? words[3] : NULL;
+    self = words[0];
+    peers_file = count > 2 ? words[2] : NULL;
     writes *nson_write = reference ? (writes *)dlsym(reference, "kez_nson_write") : NULL;
     if (!nson_write) {
         fprintf(stderr, "usage: bench libreference.so [libpeers.so | -] [PROGRAM]\n");
@@ -522,6 +633,7 @@ int main(int count, char **words)
     make_special();
     make_tables();
     make_offered(13);
+    make_messages(22);
     make_forms(nson_write);
     for (int pass = 0; pass < PASSES; pass++)
         for (int i = 0; i < ENTRIES; i++)

@@ -39,7 +39,7 @@ build_reference() {
 }
 
 build_requests() {
-    stale "$built/requests" host/requests.rs host/requests || return 0
+    stale "$built/requests" host/requests.rs host/requests host/reference/sha256.rs || return 0
     need rustc 'it compiles host/requests.rs, which makes the requests' || return 1
     quietly rustc --edition 2021 -O -o "$built/requests" host/requests.rs
 }

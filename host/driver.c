@@ -1,8 +1,9 @@
 /* The line protocol over the C entries: one request a line on standard input, one answer a line.
  * It also watches what it lends: inputs keep their bytes, a refusal leaves every buffer and number as it was, success
  * leaves the bytes behind the written length as they were, and nothing around a buffer is touched. An input ends where
- * its page ends, so that a read past it is seen. So do the two buffers of a table of records, which live from line to
- * line; of them nothing may change but what an answer says. Whatever goes wrong is the answer `broken ..`. */
+ * its page ends, so that a read past it is seen. So do the two buffers of a table of records and the state of a hash,
+ * which live from line to line; of them nothing may change but what an answer says. Whatever goes wrong is the answer
+ * `broken ..`. */
 #define _GNU_SOURCE
 #include "kezubimoryu.h"
 
@@ -153,7 +154,7 @@ static void check_numbers(int lent, kez_answer a)
 
 static void check_answer(kez_answer a)
 {
-    if (a.refusal > 24 && a.refusal != 34)
+    if (a.refusal > 24 && a.refusal != 34 && a.refusal != 35)
         wrong("has a refusal that does not exist");
 }
 
@@ -223,15 +224,17 @@ static int do_read(const kind *k, char **words)
     return 1;
 }
 
-static int do_strict(const kind *k, char **words)
+/* Two questions, with the refusals of the reader and no other. */
+static int do_ask(const kind *k, char **words)
 {
-    (void)k;
     if (!lend(&first, words[0]))
         return 0;
-    kez_answer a = kez_notepack_is_strict(first.at, first.len);
-    check_input(&first);
+    int strict = !strcmp(k->name, "strict");
+    kez_answer a = (strict ? kez_notepack_is_strict : kez_id_belongs)(first.at, first.len), read = read_packed(&first);
     if (!a.refusal && a.value > 1)
         wrong("has a value that is neither 0 nor 1");
+    if (a.refusal ? !same(a, read) : read.refusal != 0)
+        wrong("and the reader disagree");
     if (!told_refusal(a))
         printf(a.value ? "yes" : "no");
     return 1;
@@ -392,18 +395,19 @@ static uint8_t *cell(uint64_t n)
     return cells.end - cells.len + KEZ_CELL_BYTES * n;
 }
 
-static uint64_t length_in(const uint8_t *of_slot)
+/* Eight bytes as a number, the lowest first. */
+static uint64_t length_at(const uint8_t *at)
 {
     uint64_t length = 0;
-    for (int i = 15; i >= 8; i--)
-        length = length << 8 | of_slot[i];
+    for (int i = 7; i >= 0; i--)
+        length = length << 8 | at[i];
     return length;
 }
 
-static void put_length(uint8_t *of_slot, uint64_t length)
+static void put_length(uint8_t *at, uint64_t length)
 {
-    for (int i = 8; i < 16; i++, length >>= 8)
-        of_slot[i] = (uint8_t)length;
+    for (int i = 0; i < 8; i++, length >>= 8)
+        at[i] = (uint8_t)length;
 }
 
 static uint8_t *lent(const input *in)
@@ -447,7 +451,7 @@ static int load_slot(char *word)
     for (int i = 1; i < 8; i++)
         slot(n)[i] = pattern(8 * n + (size_t)i);
     slot(n)[0] = used ? (uint8_t)(1 + (line_number + 37 * n) % 255) : 0;
-    put_length(slot(n), length);
+    put_length(slot(n) + 8, length);
     memset(cell(n), 0, KEZ_CELL_BYTES);
     return spelled(rest) <= KEZ_CELL_BYTES && unhex(cell(n), rest);
 }
@@ -514,7 +518,7 @@ static void check_stored(void)
         wrong("stores what has no strict form for a cell");
     memset(now, 0, KEZ_SLOT_BYTES);
     now[0] = 1;
-    put_length(now, strict.value);
+    put_length(now + 8, strict.value);
     check_table("stores something else than the strict form, or elsewhere too");
 }
 
@@ -552,7 +556,7 @@ static int do_look(const kind *k, char **words)
     size_t len = KEZ_CELL_BYTES;
     while (len && !cell(n)[len - 1])
         len--;
-    printf("%s %" PRIu64, *slot(n) ? "used" : "free", length_in(slot(n)));
+    printf("%s %" PRIu64, *slot(n) ? "used" : "free", length_at(slot(n) + 8));
     print_bytes(cell(n), len);
     return 1;
 }
@@ -576,11 +580,177 @@ static int do_view(const kind *k, char **words)
     return 1;
 }
 
+/* The hash */
+
+/* The state that lives from line to line, and one for a message that is asked about in one line. */
+static input session, apart;
+
+enum { LENGTH_AT = 32, WAITING_AT = 40, BLOCK = 64 };
+
+static uint8_t *bytes_of(const input *state)
+{
+    return state->end - state->len;
+}
+
+/* A buffer with a pattern in it, as long as a state or longer. */
+static void make_state(input *state)
+{
+    state->len = KEZ_SHA256_STATE + (line_number % 3 ? 0 : line_number % 50);
+    for (size_t i = 0; i < state->len; i++)
+        bytes_of(state)[i] = pattern(i);
+}
+
+static void keep_state(input *state)
+{
+    memcpy(state->copy, bytes_of(state), state->len);
+}
+
+/* A refusal leaves all of it. Otherwise it has room for a state, nothing behind that changed, the message has this
+ * length, and zeros stand behind the bytes that wait. */
+static void check_state(const input *state, kez_answer a, uint64_t length)
+{
+    const uint8_t *now = bytes_of(state);
+    size_t written = a.refusal ? 0 : KEZ_SHA256_STATE;
+    if (state->len < written || (!a.refusal && a.value != written)) {
+        wrong("has a value that is not 104, or no room for it");
+        return;
+    }
+    if (memcmp(now + written, state->copy + written, state->len - written))
+        wrong(a.refusal ? "refuses, and changes the state" : "changes what is behind the state");
+    if (a.refusal)
+        return;
+    if (length_at(now + LENGTH_AT) != length)
+        wrong("counts another length");
+    for (size_t i = WAITING_AT + length % BLOCK; i < KEZ_SHA256_STATE; i++)
+        if (now[i])
+            wrong("leaves something behind the bytes that wait");
+}
+
+static kez_answer start_state(input *state)
+{
+    keep_state(state);
+    kez_answer a = kez_sha256_start(lent(state), state->len);
+    check_state(state, a, 0);
+    return a;
+}
+
+static kez_answer add_piece(input *state, const input *piece)
+{
+    keep_state(state);
+    kez_answer a = kez_sha256_add(lent(state), state->len, piece->at, piece->len);
+    check_input(piece);
+    check_state(state, a, state->len < KEZ_SHA256_STATE ? 0 : length_at(state->copy + LENGTH_AT) + piece->len);
+    return a;
+}
+
+/* Prints the digest, or the refusal. */
+static void finish_state(input *state, uint64_t room)
+{
+    uint8_t *out = lend_room(room);
+    keep_state(state);
+    kez_answer a = kez_sha256_finish(lent(state), state->len, out, room);
+    check_room(room, a.refusal ? 0 : KEZ_SHA256_DIGEST);
+    if (memcmp(bytes_of(state), state->copy, state->len))
+        wrong("changes the state");
+    if (!a.refusal && (a.value != KEZ_SHA256_DIGEST || room < a.value))
+        wrong("has a value that is not 32, or no room for it");
+    if (told_refusal(a))
+        return;
+    printf("ok");
+    print_bytes(area + GUARD, KEZ_SHA256_DIGEST);
+}
+
+/* `sha_new`, `sha_start`: a fresh buffer, or the one that is there */
+static int do_start(const kind *k, char **words)
+{
+    (void)words;
+    if (!strcmp(k->name, "sha_new"))
+        make_state(&session);
+    if (!told_refusal(start_state(&session)))
+        printf("ok");
+    return 1;
+}
+
+static int do_add(const kind *k, char **words)
+{
+    (void)k;
+    if (!lend(&first, words[0]))
+        return 0;
+    if (!told_refusal(add_piece(&session, &first)))
+        printf("ok %" PRIu64, length_at(bytes_of(&session) + LENGTH_AT));
+    return 1;
+}
+
+/* `sha_finish`, `sha_finish_in ROOM` */
+static int do_finish(const kind *k, char **words)
+{
+    uint64_t room = KEZ_SHA256_DIGEST + line_number % 2 * 9;
+    if (k->words && (!parsed(words[0], &room) || room > MOST))
+        return 0;
+    finish_state(&session, room);
+    return 1;
+}
+
+/* `sha256 BYTES [BYTES ..]` */
+static int do_sha256(const kind *k, char **words)
+{
+    (void)k;
+    char *rest = words[1];
+    make_state(&apart);
+    kez_answer a = start_state(&apart);
+    for (char *piece = words[0]; piece && !a.refusal; piece = strsep(&rest, " ")) {
+        if (!lend(&first, piece))
+            return 0;
+        a = add_piece(&apart, &first);
+    }
+    if (!told_refusal(a))
+        finish_state(&apart, KEZ_SHA256_DIGEST);
+    return 1;
+}
+
+/* A look at the lent bytes, which asks nothing of the library; so do the two below, but for the words of the start. */
+static int do_look_at_state(const kind *k, char **words)
+{
+    (void)k;
+    (void)words;
+    printf("ok");
+    print_bytes(bytes_of(&session), session.len < KEZ_SHA256_STATE ? session.len : KEZ_SHA256_STATE);
+    return 1;
+}
+
+static int do_load_state(const kind *k, char **words)
+{
+    (void)k;
+    session.len = spelled(words[0]);
+    if (session.len > MOST || !unhex(bytes_of(&session), words[0]))
+        return 0;
+    printf("ok");
+    return 1;
+}
+
+/* `sha_set LENGTH`: a state that claims this length; behind the zeros that wait stands ee */
+static int do_set(const kind *k, char **words)
+{
+    (void)k;
+    uint64_t length;
+    if (!parsed(words[0], &length))
+        return 0;
+    make_state(&session);
+    if (told_refusal(start_state(&session)))
+        return 1;
+    uint8_t *waiting = bytes_of(&session) + WAITING_AT;
+    put_length(bytes_of(&session) + LENGTH_AT, length);
+    memset(waiting + length % BLOCK, 0xee, BLOCK - length % BLOCK);
+    printf("ok");
+    return 1;
+}
+
 static const kind kinds[] = {
     {"read", 1, do_read, NULL},
     {"content", 1, do_read, NULL},
     {"lister", 1, do_read, NULL},
-    {"strict", 1, do_strict, NULL},
+    {"strict", 1, do_ask, NULL},
+    {"id_belongs", 1, do_ask, NULL},
     {"element", 3, do_element, NULL},
     {"elements", 3, do_elements, NULL},
     {"pack", 2, do_write, kez_notepack_write},
@@ -598,6 +768,15 @@ static const kind kinds[] = {
     {"table_look", 1, do_look, NULL},
     {"table_load", MORE, do_load, NULL},
     {"table_slot", 1, do_view, NULL},
+    {"sha256", MORE, do_sha256, NULL},
+    {"sha_new", 0, do_start, NULL},
+    {"sha_start", 0, do_start, NULL},
+    {"sha_add", 1, do_add, NULL},
+    {"sha_finish", 0, do_finish, NULL},
+    {"sha_finish_in", 1, do_finish, NULL},
+    {"sha_look", 0, do_look_at_state, NULL},
+    {"sha_load", 1, do_load_state, NULL},
+    {"sha_set", 1, do_set, NULL},
 };
 
 static const kind *kind_of(const char *name)
@@ -626,11 +805,15 @@ int main(void)
     static const int faults[] = {SIGSEGV, SIGBUS, SIGILL, SIGFPE, SIGABRT, SIGALRM};
     for (size_t i = 0; i < sizeof faults / sizeof *faults; i++)
         signal(faults[i], fault);
-    if (!make_input(&first) || !make_input(&second) || !make_input(&slots) || !make_input(&cells)) {
-        fprintf(stderr, "driver: no memory\n");
-        return 2;
-    }
+    input *const all[] = {&first, &second, &slots, &cells, &session, &apart};
+    for (size_t i = 0; i < sizeof all / sizeof *all; i++)
+        if (!make_input(all[i])) {
+            fprintf(stderr, "driver: no memory\n");
+            return 2;
+        }
     make_table(KEZ_SLOTS);
+    make_state(&session);
+    start_state(&session);
     char *line = NULL;
     size_t size = 0;
     for (ssize_t len; (len = getline(&line, &size, stdin)) > 0; line_number++) {

@@ -1,5 +1,5 @@
-// JSON parsers that others wrote, for host/bench: each parses a text into its own tree, and says whether it could.
-// Those are built whose headers are there (host/bench-install gets them).
+// What others wrote, for host/bench: JSON parsers, each of which parses a text into its own tree and says whether it
+// could; and a hash. Those are built whose headers are there (host/bench-install gets them).
 #include <cstddef>
 #include <cstdint>
 
@@ -30,5 +30,17 @@ extern "C" int peer_jansson(const uint8_t *text, size_t len)
     json_t *tree = json_loadb(reinterpret_cast<const char *>(text), len, 0, nullptr);
     json_decref(tree);
     return tree != nullptr;
+}
+#endif
+
+#ifdef HAS_OPENSSL
+#define OPENSSL_SUPPRESS_DEPRECATED
+#include <openssl/sha.h>
+// by its oldest functions, which fetch nothing and so cost least on a short message
+extern "C" int peer_openssl(const uint8_t *message, size_t len)
+{
+    static unsigned char digest[SHA256_DIGEST_LENGTH];
+    SHA256_CTX state;
+    return SHA256_Init(&state) && SHA256_Update(&state, message, len) && SHA256_Final(digest, &state);
 }
 #endif

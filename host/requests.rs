@@ -1,7 +1,8 @@
 //! Requests of the line protocol, always the same for the same words: requests SEED COUNT [KIND..]; without a kind all
 //! of them. `requests changes` is every change of one character of the vector's string form. A kind is the first word of
 //! its requests; but `table` is all that is asked about a table of records, and with `table_slot` its slots are viewed
-//! by the library too.
+//! by the library too; and `sha` is all that is asked about a hash, and with `sha_state` its state is any bytes, is
+//! looked at, and the digest may lack room.
 //!
 //! Three parts: each limit of docs/RULES.md, met and passed; samples cut and changed at every place; then random
 //! inputs. Where COUNT is small the first two are thinned, evenly. The encoders here can also write what no encoder
@@ -15,10 +16,15 @@ mod damage;
 mod dice;
 #[path = "requests/event.rs"]
 mod event;
+#[path = "requests/hash.rs"]
+mod hash;
 #[path = "requests/json.rs"]
 mod json;
 #[path = "requests/notepack.rs"]
 mod notepack;
+#[allow(dead_code)]
+#[path = "reference/sha256.rs"]
+mod sha256;
 #[path = "requests/string_form.rs"]
 mod string_form;
 #[path = "requests/table.rs"]
@@ -58,7 +64,8 @@ fn print(lines: impl Iterator<Item = String>) -> io::Result<()> {
 fn requests(seed: u64, count: usize, kinds: &[String]) -> impl Iterator<Item = String> {
     let both = kinds.iter().any(|kind| kind == "read_both");
     let kinds = kinds.iter().filter(|kind| *kind != "read_both").cloned().collect();
-    let mut g = Requests { dice: Dice(seed), kinds, lines: Vec::new(), of_table: VecDeque::new() };
+    let dice = Dice(seed);
+    let mut g = Requests { dice, kinds, lines: Vec::new(), of_table: VecDeque::new(), of_hash: VecDeque::new() };
     boundaries::all(&mut g);
     let limits = thinned(std::mem::take(&mut g.lines), count / 2);
     damage::everywhere(&mut g);
@@ -98,21 +105,25 @@ fn thinned(groups: Vec<String>, most: usize) -> Vec<String> {
 }
 
 /// Every kind of request.
-const ALL: [&str; 17] = [
+const ALL: [&str; 20] = [
     "read", "strict", "pack", "content", "element", "elements", "lister", "canonical", "nson_write", "nson_read",
-    "json_read", "string_write", "string_read", "rivals", "read_both", "table", "table_slot",
+    "json_read", "string_write", "string_read", "rivals", "read_both", "table", "table_slot", "sha", "sha_state",
+    "id_belongs",
 ];
 
 /// Kinds whose input is a packed event.
-const PACKED: [&str; 10] =
-    ["read", "strict", "pack", "content", "element", "elements", "lister", "canonical", "nson_write", "string_write"];
+const PACKED: [&str; 11] = [
+    "read", "strict", "pack", "content", "element", "elements", "lister", "canonical", "nson_write", "string_write",
+    "id_belongs",
+];
 
 struct Requests {
     dice: Dice,
     kinds: Vec<String>,
     lines: Vec<String>,
-    /// what is left of a run of requests about a table, whose order counts
+    /// what is left of a run of requests about a table, whose order counts; and of one about a hash
     of_table: VecDeque<String>,
+    of_hash: VecDeque<String>,
 }
 
 impl Requests {
@@ -208,6 +219,13 @@ impl Requests {
             self.of_table = table::run(self).into();
         }
         self.lines.extend(self.of_table.pop_front());
+    }
+
+    fn next_of_hash(&mut self) {
+        if self.of_hash.is_empty() {
+            self.of_hash = hash::run(self).into();
+        }
+        self.lines.extend(self.of_hash.pop_front());
     }
 
     fn rivals(&mut self, first: &[u8], second: &[u8]) {

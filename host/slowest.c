@@ -218,6 +218,7 @@ static kez_answer show_elements(void)
     return kez_notepack_elements(record.at, record.len, 0, out, sizeof out);
 }
 static kez_answer rivals(void) { return kez_rivals(record.at, record.len, record.at, record.len); }
+static kez_answer id_belongs(void) { return kez_id_belongs(record.at, record.len); }
 static kez_answer string_write(void) { return kez_notepack_string_write(record.at, record.len, out, sizeof out); }
 static kez_answer string_read(void) { return kez_notepack_string_read(record.at, record.len, out, MOST); }
 
@@ -249,6 +250,7 @@ static void packed_is_slow(const char *what)
     measure("kez_notepack_elements", show_elements, what);
     measure("kez_notepack_string_write", string_write, what);
     measure("kez_rivals", rivals, what);
+    measure("kez_id_belongs", id_belongs, what);
     kez_answer a = nson_write();
     memcpy(beside, out, a.refusal ? 0 : a.value);
     spell();
@@ -451,6 +453,34 @@ static void tables(void)
     measure("kez_table_offer", table_offer, "the same table, a record that is too long");
 }
 
+/* A message as long as a record can be, in one piece; and by single bytes, each of which fetches the state and puts it
+ * back. A piece has no limit of its own, and takes time in proportion to its length. */
+
+static uint8_t state[KEZ_SHA256_STATE];
+
+static kez_answer hash_whole(void)
+{
+    kez_sha256_start(state, sizeof state);
+    kez_sha256_add(state, sizeof state, record.at, record.len);
+    return kez_sha256_finish(state, sizeof state, out, KEZ_SHA256_DIGEST);
+}
+
+static kez_answer hash_bytes(void)
+{
+    kez_sha256_start(state, sizeof state);
+    for (size_t i = 0; i < record.len; i++)
+        kez_sha256_add(state, sizeof state, record.at + i, 1);
+    return kez_sha256_finish(state, sizeof state, out, KEZ_SHA256_DIGEST);
+}
+
+static void messages(void)
+{
+    record.len = 0;
+    fill('a', MOST);
+    measure("kez_sha256_add", hash_whole, "a message in one piece");
+    measure("kez_sha256_add", hash_bytes, "a message by single bytes, all calls");
+}
+
 int main(void)
 {
     printf("%-25s %-44s %13s %8s\n", "entry", "record", "", "us");
@@ -458,6 +488,7 @@ int main(void)
     packed();
     not_strings();
     tables();
+    messages();
     printf("slowest: %s\n", slowest_said);
     return 0;
 }

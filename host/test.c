@@ -49,6 +49,13 @@ static void put_varint(bytes *b, uint64_t n)
 
 #define PUT(b, text) put(b, text, sizeof(text) - 1)
 
+static void put_hex(bytes *b, const char *hex)
+{
+    static const char digits[] = "0123456789abcdef";
+    for (; *hex; hex += 2)
+        fill(b, (uint8_t)((strchr(digits, hex[0]) - digits) << 4 | (strchr(digits, hex[1]) - digits)), 1);
+}
+
 /* These bytes as a string form: notepack_ and base64 (rule 14.1), six bits after six bits. */
 static void string_of(bytes *text, const uint8_t *s, size_t len)
 {
@@ -201,6 +208,7 @@ static void refused(const uint8_t *s, size_t len, uint64_t refusal, uint64_t pla
         kez_notepack_string_write(s, len, NULL, 0),
         kez_notepack_string_read(text.at, text.len, room, sizeof room),
         kez_notepack_string_read(text.at, text.len, NULL, 0),
+        kez_id_belongs(s, len),
         offer(s, len),
     };
     for (size_t i = 0; i < sizeof all / sizeof *all; i++)
@@ -647,7 +655,7 @@ static void a_b(bytes *packed, bytes *text, const char *nson)
 /* The event of the NSON draft. Rule 12.5. */
 static void draft_event(bytes *packed, bytes *text)
 {
-    static const char digits[] = "0123456789abcdef",
+    static const char
         id[] = "57ff66490a6a2af3992accc26ae95f3f60c6e5f84ed0ddf6f59c534d3920d3d2"
                "79be667ef9dcbbac55a06295ce870b07029bfcdb2dce28d959f2815b16f81798"
                "504d142aed7fa7e0f6dab5bcd7eed63963b0277a8e11bbcb03b94531beb4b95a"
@@ -663,8 +671,7 @@ static void draft_event(bytes *packed, bytes *text)
         } else if (i == 2) {
             PUT(packed, "\x0areply\x04\x02p\x41");
         }
-        for (const char *h = hex[i]; *h; h += 2)
-            fill(packed, (uint8_t)((strchr(digits, h[0]) - digits) << 4 | (strchr(digits, h[1]) - digits)), 1);
+        put_hex(packed, hex[i]);
     }
     PUT(packed, "\x00\x28wss://relay.damus.io");
     text->len = 0;
@@ -913,29 +920,43 @@ static void rivals(void)
     CHECK(is(kez_rivals(NULL, 0, NULL, 0), 2, 0), "nothing at all");
 }
 
+static int is_refusal(uint64_t number)
+{
+    return number <= 24 || number == 34 || number == 35;
+}
+
 static void sentences(void)
 {
-    for (uint64_t i = 0; i <= 35; i++)
+    for (uint64_t i = 0; i <= 36; i++)
         for (uint64_t j = 0; j < i; j++) {
-            int none = i > 24 && i != 34 && j > 24 && j != 34;
             int same = !strcmp(kez_refusal_text(i), kez_refusal_text(j));
-            CHECK(same == none, "%d and %d", (int)i, (int)j);
+            CHECK(same == (!is_refusal(i) && !is_refusal(j)), "%d and %d", (int)i, (int)j);
         }
     CHECK(!strcmp(kez_refusal_text(UINT64_MAX), kez_refusal_text(25)), "no such number");
 }
 
 /* With length 0 every entry takes a null pointer, one that is not aligned to anything, and one to a page that can't be
  * touched, for what is read and for what is written. Nothing but a refusal can follow, since no form of an event is
- * empty; kez_notepack_elements alone lists no elements, and succeeds. */
+ * empty; but kez_notepack_elements lists no elements, and an empty piece may be added to a hash. */
 static void nothing_lent(void)
 {
+    uint8_t started[KEZ_SHA256_STATE], copy[sizeof started];
+    kez_sha256_start(started, sizeof started);
+    memcpy(copy, started, sizeof copy);
     uint8_t *page = mmap(NULL, 4096, PROT_NONE, MAP_PRIVATE | MAP_ANONYMOUS, -1, 0);
     uint8_t *const none[] = {NULL, (uint8_t *)1, page, page + 4096};
     for (int i = 0; i < 4; i++) {
         const uint8_t *in = none[i];
         refused(in, 0, 2, 0);
+        CHECK(is(kez_sha256_start(none[i], 0), 11, KEZ_SHA256_STATE), "%d", i);
+        CHECK(is(kez_sha256_add(started, sizeof started, in, 0), 0, KEZ_SHA256_STATE), "%d", i);
+        CHECK(is(kez_sha256_finish(started, sizeof started, none[i], 0), 11, KEZ_SHA256_DIGEST), "%d", i);
+        CHECK(!memcmp(copy, started, sizeof copy), "%d: an empty piece changed a state", i);
         for (int j = 0; j < 4; j++) {
             uint8_t *out = none[j];
+            CHECK(is(kez_sha256_add(none[i], 0, out, 0), 11, KEZ_SHA256_STATE), "%d %d", i, j);
+            CHECK(is(kez_sha256_add(none[i], 0, vector.at, vector.len), 11, KEZ_SHA256_STATE), "%d", i);
+            CHECK(is(kez_sha256_finish(in, 0, out, 0), 11, KEZ_SHA256_STATE), "%d %d", i, j);
             CHECK(is(kez_notepack_write(in, 0, out, 0), 2, 0), "%d %d", i, j);
             CHECK(is(kez_notepack_write(vector.at, vector.len, out, 0), 11, vector.len), "%d", j);
             CHECK(is(kez_notepack_elements(in, 0, 0, out, 0), 2, 0), "%d %d", i, j);
@@ -1369,6 +1390,346 @@ static void any_order(void)
     }
 }
 
+/* Hashes. A state is lent with bytes behind it. */
+
+static uint8_t state[KEZ_SHA256_STATE + 40], state_before[sizeof state];
+
+static void keep_state(void)
+{
+    memcpy(state_before, state, sizeof state);
+}
+
+static int state_same_from(size_t from)
+{
+    return !memcmp(state + from, state_before + from, sizeof state - from);
+}
+
+static void put_claim(uint64_t length)
+{
+    for (int i = 32; i < 40; i++, length >>= 8)
+        state[i] = (uint8_t)length;
+}
+
+static uint64_t claim(void)
+{
+    uint64_t length = 0;
+    for (int i = 39; i >= 32; i--)
+        length = length << 8 | state[i];
+    return length;
+}
+
+/* Is what the buffer held, whatever it was, now the state of no bytes, and nothing behind it changed? */
+static int started(void)
+{
+    static bytes wanted_state;
+    if (!wanted_state.len) {
+        put_hex(&wanted_state, "6a09e667bb67ae853c6ef372a54ff53a510e527f9b05688c1f83d9ab5be0cd19");
+        fill(&wanted_state, 0, 72);
+    }
+    memset(state, 0xa5, sizeof state);
+    keep_state();
+    return is(kez_sha256_start(state, sizeof state), 0, KEZ_SHA256_STATE) &&
+           !memcmp(state, wanted_state.at, KEZ_SHA256_STATE) && state_same_from(KEZ_SHA256_STATE);
+}
+
+/* Is the piece taken: counted, zeros behind the bytes that wait, and nothing behind the state changed? */
+static int added(const void *piece, size_t len)
+{
+    uint64_t length = claim() + len;
+    keep_state();
+    kez_answer a = kez_sha256_add(state, sizeof state, piece, len);
+    size_t zeros = 40 + length % 64;
+    while (zeros < KEZ_SHA256_STATE && !state[zeros])
+        zeros++;
+    return is(a, 0, KEZ_SHA256_STATE) && claim() == length && zeros == KEZ_SHA256_STATE &&
+           state_same_from(KEZ_SHA256_STATE);
+}
+
+/* What is finished is this digest, with room just enough and more; with less it is 11, and the state always stays. */
+static void digest_is(const uint8_t *digest)
+{
+    const size_t rooms[] = {KEZ_SHA256_DIGEST, KEZ_SHA256_DIGEST + 1, sizeof room};
+    keep_state();
+    for (int i = 0; i < 3; i++) {
+        lend();
+        CHECK(is(kez_sha256_finish(state, sizeof state, room, rooms[i]), 0, KEZ_SHA256_DIGEST), "not finished");
+        CHECK(!memcmp(room, digest, KEZ_SHA256_DIGEST), "another digest");
+        CHECK(untouched_from(KEZ_SHA256_DIGEST), "bytes behind the digest changed");
+    }
+    lend();
+    CHECK(is(kez_sha256_finish(state, sizeof state, room, KEZ_SHA256_DIGEST - 1), 11, KEZ_SHA256_DIGEST), "31 bytes");
+    CHECK(is(kez_sha256_finish(state, sizeof state, room, 0), 11, KEZ_SHA256_DIGEST), "no room");
+    CHECK(is(kez_sha256_finish(state, sizeof state, NULL, 0), 11, KEZ_SHA256_DIGEST), "nothing lent");
+    CHECK(untouched() && state_same_from(0), "finishing changed something else");
+}
+
+/* In pieces of so many bytes. */
+static void hash_by(const uint8_t *message, size_t len, size_t piece)
+{
+    int good = started();
+    for (size_t at = 0; at < len; at += piece)
+        good &= added(message + at, len - at < piece ? len - at : piece);
+    CHECK(good, "%zu bytes by %zu", len, piece);
+}
+
+/* The examples that NIST gives for FIPS 180-4. */
+static void nist(void)
+{
+    static uint8_t a_million[1000000];
+    static const struct {
+        const char *message, *digest;
+    } cases[] = {
+        {"", "e3b0c44298fc1c149afbf4c8996fb92427ae41e4649b934ca495991b7852b855"},
+        {"abc", "ba7816bf8f01cfea414140de5dae2223b00361a396177a9cb410ff61f20015ad"},
+        {"abcdbcdecdefdefgefghfghighijhijkijkljklmklmnlmnomnopnopq",
+         "248d6a61d20638b8e5c026930c3e6039a33ce45964ff2167f6ecedd419db06c1"},
+        {"abcdefghbcdefghicdefghijdefghijkefghijklfghijklmghijklmnhijklmnoijklmnopjklmnopqklmnopqrlmnopqrsmnopqrstnopqr"
+         "stu",
+         "cf5b16a778af8380036ce59e7b0492370b249b11e8f07a51afac45037afee9d1"},
+        {NULL, "cdc76e5c9914fb9281a1c7e284d73e67f1809a48a497200e046d39ccc7112cd0"},
+    };
+    static const size_t pieces[] = {1, 55, 56, 63, 64, 65, 999, sizeof a_million};
+    memset(a_million, 'a', sizeof a_million);
+    for (size_t i = 0; i < sizeof cases / sizeof *cases; i++)
+        for (size_t j = cases[i].message ? 0 : 4; j < sizeof pieces / sizeof *pieces; j++) {
+            const char *message = cases[i].message;
+            size_t len = message ? strlen(message) : sizeof a_million;
+            bytes digest = {.len = 0};
+            put_hex(&digest, cases[i].digest);
+            hash_by(message ? (const uint8_t *)message : a_million, len, pieces[j]);
+            digest_is(digest.at);
+        }
+}
+
+/* Every length up to 300, cut in two everywhere: the same state and the same digest. The digest of all these digests is
+ * what Python's hashlib makes of its own. */
+static void cuts(void)
+{
+    enum { LENGTHS = 301 };
+    static bytes message, digests, wanted_digest;
+    uint8_t whole[KEZ_SHA256_STATE], digest[KEZ_SHA256_DIGEST];
+    message.len = digests.len = wanted_digest.len = 0;
+    for (size_t i = 0; i < LENGTHS; i++)
+        fill(&message, (uint8_t)(7 * i + 3), 1);
+    for (size_t len = 0; len < LENGTHS; len++) {
+        hash_by(message.at, len, LENGTHS);
+        memcpy(whole, state, sizeof whole);
+        kez_answer a = kez_sha256_finish(state, sizeof state, digest, sizeof digest);
+        CHECK(is(a, 0, sizeof digest), "%zu bytes", len);
+        put(&digests, digest, sizeof digest);
+        size_t cut = 0;
+        while (cut <= len && started() && added(message.at, cut) && added(message.at + cut, 0) &&
+               added(message.at + cut, len - cut) && !memcmp(whole, state, sizeof whole))
+            cut++;
+        CHECK(cut > len, "%zu bytes cut at %zu", len, cut);
+        digest_is(digest);
+    }
+    put_hex(&wanted_digest, "7d917fbd2cf49ddff9ad0a8706bba32d204e92e71d2e369c5a03d6af29278c9f");
+    hash_by(digests.at, digests.len, 1000);
+    digest_is(wanted_digest.at);
+}
+
+/* The piece is refused with 35, and so is finishing, if the message is too long already; the state stays. */
+static void too_long(uint64_t length, size_t piece)
+{
+    static const uint8_t some[200];
+    CHECK(started(), "not started");
+    memset(state + 40, 0xee, KEZ_SHA256_STATE - 40);
+    put_claim(length);
+    keep_state();
+    lend();
+    CHECK(is(kez_sha256_add(state, sizeof state, some, piece), 35, 0), "%zu bytes more", piece);
+    CHECK(state_same_from(0), "35 changed the state");
+    kez_answer a = kez_sha256_finish(state, sizeof state, room, sizeof room);
+    kez_answer short_of = kez_sha256_finish(state, sizeof state, room, 31);
+    if (length >> 61) {
+        CHECK(is(a, 35, 0) && is(short_of, 35, 0), "finished, though it is too long");
+        CHECK(untouched(), "35 changed what was lent");
+    } else {
+        CHECK(is(a, 0, KEZ_SHA256_DIGEST) && is(short_of, 11, KEZ_SHA256_DIGEST), "not finished");
+    }
+    CHECK(state_same_from(0), "finishing changed the state");
+}
+
+/* A message has fewer than 2^61 bytes; the sum does not wrap. */
+static void hash_limits(void)
+{
+    static const uint64_t most = UINT64_C(1) << 61;
+    static const uint64_t past[] = {0, 1, 63, 64, (UINT64_C(1) << 61) - 1, UINT64_C(1) << 61, UINT64_C(3) << 61,
+                                    UINT64_MAX - (UINT64_C(1) << 61)};
+    static const uint8_t some[200];
+    for (size_t left = 1; left < 130; left++) {
+        too_long(most - left, left);
+        too_long(most - left, left + 1);
+        kez_sha256_start(state, sizeof state);
+        put_claim(most - left);
+        CHECK(added(some, left - 1) && claim() == most - 1 && added(some, 0), "one byte less than too many");
+        too_long(claim(), 1);
+    }
+    for (size_t i = 0; i < sizeof past / sizeof *past; i++)
+        for (size_t piece = 0; piece < 130; piece += 1 + piece / 3)
+            too_long(most + past[i], piece);
+    /* the longest message there is, brought there in one piece and byte by byte: nobody has such a message, so the two
+     * are compared */
+    uint8_t digest[KEZ_SHA256_DIGEST];
+    kez_sha256_start(state, sizeof state);
+    put_claim(most - 65);
+    CHECK(added(some, 64), "the longest, in one piece");
+    CHECK(is(kez_sha256_finish(state, sizeof state, digest, sizeof digest), 0, sizeof digest), "the longest");
+    kez_sha256_start(state, sizeof state);
+    put_claim(most - 65);
+    for (int i = 0; i < 64; i++)
+        CHECK(added(some, 1), "the longest, by single bytes");
+    digest_is(digest);
+}
+
+/* Any bytes are a state: what stands behind the waiting bytes makes no difference, all else does. */
+static void any_bytes(void)
+{
+    uint8_t digest[KEZ_SHA256_DIGEST], other_digest[sizeof digest], next[KEZ_SHA256_STATE];
+    for (size_t waits = 0; waits < 64; waits++) {
+        for (size_t i = 0; i < KEZ_SHA256_STATE; i++)
+            state[i] = mark(i + waits);
+        put_claim(640 + waits);
+        CHECK(is(kez_sha256_finish(state, sizeof state, digest, sizeof digest), 0, sizeof digest), "%zu wait", waits);
+        uint8_t first_state[sizeof state];
+        memcpy(first_state, state, sizeof state);
+        CHECK(added("hello", 5), "%zu wait", waits);
+        memcpy(next, state, sizeof next);
+        for (size_t i = 0; i < KEZ_SHA256_STATE; i++) {
+            if (i >= 32 && i < 40)
+                continue;
+            memcpy(state, first_state, sizeof state);
+            state[i] ^= 0x10;
+            kez_sha256_finish(state, sizeof state, other_digest, sizeof other_digest);
+            int counts = i < 40 + waits;
+            CHECK(!memcmp(digest, other_digest, sizeof digest) == !counts && added("hello", 5) &&
+                      !memcmp(next, state, sizeof next) == !counts, "byte %zu, %zu wait", i, waits);
+        }
+    }
+}
+
+/* A buffer that is too short is 11 with 104, before all else. */
+static void short_states(void)
+{
+    memset(state, 0xff, sizeof state); /* a length that would be 35 */
+    keep_state();
+    lend();
+    for (size_t len = 0; len < KEZ_SHA256_STATE; len++) {
+        CHECK(is(kez_sha256_start(state, len), 11, KEZ_SHA256_STATE), "%zu", len);
+        CHECK(is(kez_sha256_add(state, len, vector.at, vector.len), 11, KEZ_SHA256_STATE), "%zu", len);
+        CHECK(is(kez_sha256_finish(state, len, room, sizeof room), 11, KEZ_SHA256_STATE), "%zu", len);
+        CHECK(is(kez_sha256_finish(state, len, room, 0), 11, KEZ_SHA256_STATE), "%zu", len);
+    }
+    CHECK(untouched() && state_same_from(0), "a refusal changed what was lent");
+}
+
+/* The id belongs, or it does not; the signature plays no part, all else does. */
+static void belongs(bytes *b)
+{
+    CHECK(is(kez_id_belongs(b->at, b->len), 0, 1), "%zu bytes have another id", b->len);
+    for (size_t bit = 0; bit < 8 * 128; bit += b->len < 1000 ? 1 : 83) {
+        b->at[bit / 8] ^= (uint8_t)(1 << bit % 8);
+        CHECK(is(kez_id_belongs(b->at, b->len), 0, bit >= 8 * 64), "%zu bytes, bit %zu changed", b->len, bit);
+        b->at[bit / 8] ^= (uint8_t)(1 << bit % 8);
+    }
+    for (unsigned last = 0; last < 256; last++) {
+        uint8_t was = b->at[31];
+        b->at[31] = (uint8_t)last;
+        if (b->len < 1000)
+            CHECK(is(kez_id_belongs(b->at, b->len), 0, last == was), "its last byte %u", last);
+        b->at[31] = was;
+    }
+    b->at[128] ^= 1;
+    CHECK(is(kez_id_belongs(b->at, b->len), 0, 0), "%zu bytes, another time", b->len);
+    b->at[128] ^= 1;
+}
+
+/* An event with this id, zero pubkey and sig, and what follows them. */
+static void identified(bytes *b, const char *id, const void *rest, size_t len)
+{
+    b->len = 0;
+    put_hex(b, id);
+    fill(b, 0, 96);
+    put(b, rest, len);
+}
+
+/* The NSON draft's event has its id, and so have events whose ids Python's hashlib made, however they are spelled. */
+static void ids(void)
+{
+#define REST(text) text, sizeof(text) - 1
+#define ODD "\n\"\\\r\t\b\f\x01\x1f\x7f/"
+    static const struct {
+        const char *id, *rest;
+        size_t len;
+    } cases[] = {
+        {"d23368f79cfcdd3ade5259fed1b761a9810fbbf55bc4a2d3dbbecd1d19a86b81", REST("\x00\x00\x00\x00")},
+        {"313c2592107f2a38e7961ba7590abf32d362cf91623e02b0aee2b94a3c60bd73",
+         REST("\x80\x94\xeb\xdc\x03\x01\x03""a\"b\x00")},
+        {"657dd77b9b32ddf1e1e9c9b0de95e1f3ab15ec056712710cfcc6f1fbb7107283",
+         REST("\x00\x01\x0b" ODD "\x01\x01\x16" ODD)},
+        {"739d9f78806150b32df02451a9ffcddce8557a8b269e8b7674f8675f4b011a88",
+         REST("\x00\x01\x00\x01\x02\x02""d\x03\xab")},
+        {"739d9f78806150b32df02451a9ffcddce8557a8b269e8b7674f8675f4b011a88",
+         REST("\x00\x01\x00\x01\x02\x02""d\x04""ab")},
+        {"f9f679439674d749f9766dad3e61f75abef42bbfd88f4eb8176c6780f70bbce0", REST("\x00\x01\x00\x01\x01\x00")},
+        {"f9f679439674d749f9766dad3e61f75abef42bbfd88f4eb8176c6780f70bbce0", REST("\x00\x01\x00\x01\x01\x01")},
+        {"5cbd9d8a1dd0ec837a249ff837409da273f5e9dd0989f18fff280918e2b35626",
+         REST("\x00\x01\x00\x02\x01\x04""AB\x01\x06""abc")},
+        {"f5cf063f46b7e36fb76929256c7ca4e4146d233f9c39c21439390f40d1638688",
+         REST("\x80\xbc\x94\xb4\x06\xb0\xea\x01\x07\xe2\x82\xac\xf0\x9f\x91\x82"
+              "\x01\x02\x02""d\x04\xc3\xa9")},
+        {"c24d1c7cf623e9b37dd5d172c0f9f76fca49d72b94d7a35ab2cdc10622336952",
+         REST("\xf7\xa7\x8d\xaf\xba\x93\xb1\x10\xff\xff\x03\x00\x00")},
+    };
+    static bytes b, text;
+    for (size_t i = 0; i < sizeof cases / sizeof *cases; i++) {
+        identified(&b, cases[i].id, cases[i].rest, cases[i].len);
+        belongs(&b);
+    }
+    static const char tags[] = "7d2cba9b77ad048677487f5d5b64c1aa7f6bf776dce78f21767a680391774694";
+    static const char longest[] = "76a88a695708cbf81454b27a6096087f26d0257c69064b5cd42f36888bf91f6f";
+    static const char line_ends[] = "b45e3e9a71c76765176c04733c37608ebaaca2a978d4493e78a38f3f22b575cf";
+    identified(&b, tags, REST("\x00\x01\x00\xe8\x07"));
+    for (int i = 0; i < 1000; i++)
+        PUT(&b, "\x01\x00");
+    belongs(&b);
+    identified(&b, longest, REST("\x00\x01\xfa\xfe\x03"));
+    fill(&b, 'x', 65402);
+    fill(&b, 0, 1);
+    CHECK(b.len == KEZ_MOST, "%zu", b.len);
+    belongs(&b);
+    identified(&b, line_ends, REST("\x00\x01\xe0\xd4\x03"));
+    fill(&b, '\n', 60000);
+    fill(&b, 0, 1);
+    belongs(&b);
+    draft_event(&b, &text);
+    belongs(&b);
+    for (size_t len = 0; len < b.len; len++)
+        CHECK(kez_id_belongs(b.at, len).refusal == read_it(b.at, len).refusal, "cut at %zu", len);
+    CHECK(is(kez_id_belongs(vector.at, vector.len), 0, 0), "the vector's id is zero");
+}
+
+/* The canonical text through the entries of the hash says what the id question says, at each length of a text in a
+ * block. */
+static void ids_by_hash(void)
+{
+    static bytes b;
+    static uint8_t text[1000];
+    for (size_t len = 0; len < 130; len++) {
+        start(&b);
+        PUT(&b, "\x00\x01");
+        put_varint(&b, len);
+        fill(&b, 'x', len);
+        put_varint(&b, 0);
+        kez_answer a = kez_canonical_write(b.at, b.len, text, sizeof text);
+        hash_by(text, a.value, 100);
+        CHECK(is(kez_id_belongs(b.at, b.len), 0, 0), "content of %zu bytes, no id", len);
+        kez_sha256_finish(state, sizeof state, b.at, KEZ_ID_LEN);
+        CHECK(is(kez_id_belongs(b.at, b.len), 0, 1), "content of %zu bytes", len);
+    }
+}
+
 /* The buffer that is lent beside room. */
 static uint8_t other[sizeof room];
 
@@ -1486,6 +1847,13 @@ int main(void)
     twins();
     table_sizes();
     any_order();
+    nist();
+    cuts();
+    hash_limits();
+    any_bytes();
+    short_states();
+    ids();
+    ids_by_hash();
     printf("%d passed, %d failed\n", passed, failed);
     return failed != 0;
 }

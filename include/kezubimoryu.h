@@ -1,5 +1,5 @@
 /* Kezubimoryu: Nostr events as notepack, its string form, canonical text, NSON and plain JSON; a table of current
- * records.
+ * records; SHA-256, and whether an event's id is that of its canonical text.
  *
  * The caller lends byte buffers and numbers to each entry for one call and keeps owning them. Any bytes may be passed
  * as input: every entry returns on every input, with a result or with a refusal.
@@ -48,8 +48,8 @@ extern "C" {
 
 /* The version of this header; the tool and the pkg-config file have it from here. As a number: 10,000 for a major
  * version, 100 for a minor one, 1 for a patch. */
-#define KEZ_VERSION "0.8.0"
-#define KEZ_VERSION_NUMBER 800
+#define KEZ_VERSION "0.9.0"
+#define KEZ_VERSION_NUMBER 900
 
 /* The version of the library that runs, as such a number. A host that was compiled with this header and runs with the
  * library of the same version has kez_version() == KEZ_VERSION_NUMBER.
@@ -63,8 +63,8 @@ uint64_t kez_version(void);
  * these lengths never gets refusal 11. The sizes below are enough for every input. Rules 3.7, 5.8, 6.14, 12.3.6, 14.1
  * and 14.2. */
 
-/* No accepted input is longer, but for a string form, of which the bytes that it holds are counted; nor is an event in
- * strict form, nor NSON. Rules 1.9, 14.3 and 14.6. */
+/* No accepted input is longer, but for a string form, of which the bytes that it holds are counted, and a piece of a
+ * message that is hashed; nor is an event in strict form, nor NSON. Rules 1.9, 14.3, 14.6 and 16.8. */
 #define KEZ_MOST 65536
 
 /* No canonical text is longer: three bytes for each byte that was packed. Rule 5.8. */
@@ -84,11 +84,12 @@ uint64_t kez_version(void);
 
 /* What every entry but kez_version answers. Rules 12.1.2 to 12.1.8.
  * Success: refusal is 0, and value is what the entry's comment says.
- * Refusal: refusal is a number from 1 to 24, or 34, and value is the place in the input where the fault was found, or
- * the input's length if the fault is at its end. Rule 10.N says when refusal N is given, and its place. Refusals 1, 17,
- * 19, 20, 22 and 23 have no place of their own: value is then 0. With refusal 11, an output buffer that is too short,
- * value is the length needed; 11 is given only if there is no other refusal. For kez_notepack_string_read the places of
- * 2 to 10 and of 24 are in the bytes that the text holds. With refusal 34 value is the number of a slot.
+ * Refusal: refusal is a number from 1 to 24, or 34 or 35, and value is the place in the input where the fault was
+ * found, or the input's length if the fault is at its end. Rule 10.N says when refusal N is given, and its place.
+ * Refusals 1, 17, 19, 20, 22, 23 and 35 have no place of their own: value is then 0. With refusal 11, a lent buffer
+ * that is too short, value is the length needed; 11 is given only if there is no other refusal, but for a hash's state
+ * that is too short (kez_sha256_add). For kez_notepack_string_read the places of 2 to 10 and of 24 are in the bytes
+ * that the text holds. With refusal 34 value is the number of a slot.
  * So refusal alone tells whether the call succeeded. After a refusal every buffer and number that was passed still
  * holds what it held before the call. After success the bytes behind the written length are unchanged. */
 typedef struct {
@@ -176,9 +177,9 @@ kez_answer kez_notepack_string_write(const uint8_t *packed, size_t packed_len,
 /* Reads a string form and writes the packed event that it holds to out, byte for byte as it was encoded. These bytes
  * are ones that kez_notepack_read accepts; they need not be strict. No other text that is read holds the same bytes: a
  * line end or other white space, padding with =, and the characters - and _ are refused, like all that is not A-Z, a-z,
- * 0-9, + or /. But base64 has no check sum: where a character was changed into another of the alphabet, lost, doubled or
- * exchanged, the bytes may be another event, and only its id and signature show that. The text may have any length. An
- * out_len of text_len is always enough, and so is KEZ_MOST.
+ * 0-9, + or /. But base64 has no check sum: where a character was changed into another of the alphabet, lost, doubled
+ * or exchanged, the bytes may be another event, and only its id (kez_id_belongs) and its signature show that. The text
+ * may have any length. An out_len of text_len is always enough, and so is KEZ_MOST.
  * Refusals: 20 if the text does not start with notepack_; then 21, at the first character outside the alphabet, counted
  * in the whole text, or if there is none at the text's length, for a lone last character or leftover bits that are not
  * zero; then 1 if the text holds more than 65,536 bytes; then 2 to 10 and 24 as kez_notepack_read gives them, with
@@ -224,9 +225,9 @@ static inline int kez_rivals_refused(const uint8_t *first, size_t first_len)
  *
  * Start with two buffers of these lengths, emptied once. They are plain bytes: a host may copy them, save them to a
  * file and lend them again later, together. Offers and views look through the whole table first, so one that is no
- * table any more is refused with 34; but a changed content or signature is not seen, since only the id and the
- * signature could show it. The two buffers overlap neither each other nor what else is passed. Two threads must not
- * call with the same table at once, unless both only view it.
+ * table any more is refused with 34; but a changed content or signature is not seen, since only the id
+ * (kez_id_belongs) and the signature could show it. The two buffers overlap neither each other nor what else is passed.
+ * Two threads must not call with the same table at once, unless both only view it.
  * Rules 15. */
 #define KEZ_SLOTS 64
 #define KEZ_SLOT_BYTES 16
@@ -288,13 +289,70 @@ kez_answer kez_table_slot(const uint8_t *slots, size_t slots_len,
                           uint64_t n, uint64_t *at, uint64_t *len);
 
 /* Writes the canonical text of NIP-01 to out: [0,"pubkey",created_at,kind,tags,"content"]. An event's id is the SHA-256
- * of this text; the library does not compute it. An out_len of 3 * packed_len is always enough.
+ * of this text; kez_id_belongs asks whether it is. An out_len of 3 * packed_len is always enough.
  * Refusals: those of kez_notepack_read; then 11.
  * value: the length written
  * Cost: linear in packed_len.
  * Rules 5.1 to 5.9, 12.2.8; of the input 2.1 to 2.17. */
 kez_answer kez_canonical_write(const uint8_t *packed, size_t packed_len,
                                uint8_t *out, size_t out_len);
+
+/* SHA-256 (FIPS 180-4) of a message that comes in consecutive pieces. What is known between two pieces is a state. It
+ * stands in a byte buffer of the caller's, in the first KEZ_SHA256_STATE bytes:
+ *     bytes 0 to 31    the eight chaining words, big endian
+ *     bytes 32 to 39   how many bytes the message has so far, little endian
+ *     bytes 40 to 103  what waits until its block of 64 bytes is full: so many of them as that number leaves after
+ *                      division by 64. The rest is zero where the library writes it, and never looked at
+ * Start it, add the pieces, finish:
+ *
+ *     uint8_t state[KEZ_SHA256_STATE], digest[KEZ_SHA256_DIGEST];
+ *     kez_sha256_start(state, sizeof state);
+ *     kez_sha256_add(state, sizeof state, piece, piece_len);            (for each piece)
+ *     kez_sha256_finish(state, sizeof state, digest, sizeof digest);
+ *
+ * Where the message is cut makes no difference, to the digest and to the state. A state is plain bytes: a host may copy
+ * it, save it and lend it again later. Any bytes are a state, so damage to them is not seen. Bytes of the buffer behind
+ * the state are never changed. Two threads must not call with one state at once, unless both only finish it.
+ * Rules 16. */
+#define KEZ_SHA256_STATE 104
+#define KEZ_SHA256_DIGEST 32
+
+/* Starts a state, whatever the buffer holds: that of a message of no bytes.
+ * Refusals: 11 with KEZ_SHA256_STATE if state_len is less than that; no other.
+ * value: KEZ_SHA256_STATE, the length written
+ * Cost: constant.
+ * Rules 16.1 to 16.6. */
+kez_answer kez_sha256_start(uint8_t *state, size_t state_len);
+
+/* Adds a piece to the message: the bytes that come next. It may have any length, also none.
+ * Refusals: 11 with KEZ_SHA256_STATE if state_len is less than that; then 35 if the message would have 2^61 bytes or
+ * more with this piece, or has so many already, also where the piece is empty.
+ * value: KEZ_SHA256_STATE, the length written
+ * Cost: linear in piece_len: each byte is looked at once.
+ * Rules 16.1 to 16.5, 16.7 to 16.9, 12.7.1 to 12.7.3. */
+kez_answer kez_sha256_add(uint8_t *state, size_t state_len,
+                          const uint8_t *piece, size_t piece_len);
+
+/* Writes the digest of the message so far to out. The state stays as it is, so more may be added, and it may be
+ * finished again.
+ * Refusals: 11 with KEZ_SHA256_STATE if state_len is less than that; then 35 if the message has 2^61 bytes or more;
+ * then 11 with KEZ_SHA256_DIGEST if out_len is less than that.
+ * value: KEZ_SHA256_DIGEST, the length written
+ * Cost: constant.
+ * Rules 16.1 to 16.5, 16.10, 16.11, 12.7.1 to 12.7.3. */
+kez_answer kez_sha256_finish(const uint8_t *state, size_t state_len,
+                             uint8_t *out, size_t out_len);
+
+/* Does the id belong to the packed event: is it the SHA-256 of the event's canonical text? All 32 bytes are compared.
+ * The text does not depend on how the event is spelled, so the strict form has the same answer. The signature is not in
+ * the text: a yes says nothing of it, nor of who wrote the event. No other entry asks this question.
+ * Refusals: those of kez_notepack_read; no other.
+ * value: 1 it belongs, 0 it does not
+ * Cost: linear in packed_len; the text that is hashed has up to three times as many bytes.
+ * Stack: some 200 KB in this version, since the text is made there whole, in KEZ_CANONICAL_MOST bytes. A later version
+ * will do without; until then a thread that calls this needs that much left on its stack.
+ * Rules 16.12 to 16.14, 12.7.4; of the text 5.1 to 5.6; of the input 2.1 to 2.17. */
+kez_answer kez_id_belongs(const uint8_t *packed, size_t packed_len);
 
 /* Writes a packed event to out as NSON. kez_nson_read and kez_json_read both read that text as the same event. An
  * out_len of KEZ_MOST is always enough.
@@ -378,6 +436,7 @@ static inline const char *kez_refusal_text(uint64_t number)
     case 34: /* rule 10.34 */
         return "The table is not as it must be: not of 64 slots and cells, "
                "or a used slot without a strict event to be kept, or with the name of another.";
+    case 35: return "The message has 2^61 bytes or more, or would have with this piece."; /* rule 10.35 */
     default: return "There is no refusal with this number.";
     }
 }

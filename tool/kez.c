@@ -31,6 +31,8 @@ static const char help[] =
     "  to-letter     the string form, for a letter or a mail: notepack_ and base64, one line\n"
     "  from-letter   a string form as the packed event that it holds\n"
     "  canonical     the canonical text, over which the id is taken\n"
+    "  check-id      is the id of a packed event the SHA-256 of its canonical text? 'belongs', or\n"
+    "                'does not belong' and both: the id that stands there, and that of the text\n"
     "  to-nson       a packed event as NSON\n"
     "  from-nson     NSON, read by its counts, as a packed event\n"
     "  from-json     an event in plain JSON as a packed event\n"
@@ -769,10 +771,10 @@ static void put_tags(const frame *f, int numbered)
     }
 }
 
-static void put_fixed(const char *name, size_t at, size_t len)
+static void put_named(const char *name, const uint8_t *at, size_t len)
 {
     put(json ? "\"%s\":\"" : "%s ", name);
-    put_hex(first.at + at, len);
+    put_hex(at, len);
     put(json ? "\"," : "\n");
 }
 
@@ -789,9 +791,9 @@ static int do_list(void)
         put("created_at %" PRIu64 "\nkind %" PRIu64 "\ncontent %" PRIu64 "\ntags %" PRIu64 "\n", created_at, kind,
             content_len, tags);
     if (json || all) {
-        put_fixed("id", KEZ_ID_AT, KEZ_ID_LEN);
-        put_fixed("pubkey", KEZ_PUBKEY_AT, KEZ_PUBKEY_LEN);
-        put_fixed("sig", KEZ_SIG_AT, KEZ_SIG_LEN);
+        put_named("id", first.at + KEZ_ID_AT, KEZ_ID_LEN);
+        put_named("pubkey", first.at + KEZ_PUBKEY_AT, KEZ_PUBKEY_LEN);
+        put_named("sig", first.at + KEZ_SIG_AT, KEZ_SIG_LEN);
         put(json ? "\"content\":" : "content ");
         put_quoted(first.at + content_at, content_len);
         put(json ? ",\"tags\":[" : "\n");
@@ -831,6 +833,30 @@ static int do_strict(void)
         written(!fflush(stdout));
         tell_difference();
     }
+    return ACCEPTED;
+}
+
+/* The two ids where they differ: the one in the record, and that of its canonical text. Of what is accepted neither the
+ * writer nor the hash refuses anything. */
+static void put_ids(void)
+{
+    uint8_t state[KEZ_SHA256_STATE], digest[KEZ_SHA256_DIGEST];
+    uint64_t len = kez_canonical_write(first.at, first.len, out, sizeof out).value;
+    kez_sha256_start(state, sizeof state);
+    kez_sha256_add(state, sizeof state, out, len);
+    kez_sha256_finish(state, sizeof state, digest, sizeof digest);
+    put_named("id", first.at + KEZ_ID_AT, KEZ_ID_LEN);
+    put_named("SHA-256", digest, sizeof digest);
+}
+
+static int do_check_id(void)
+{
+    kez_answer a = kez_id_belongs(first.at, first.len);
+    if (a.refusal)
+        return refused(&first, a, PACKED);
+    put(a.value ? "belongs\n" : "does not belong\n");
+    if (!a.value)
+        put_ids();
     return ACCEPTED;
 }
 
@@ -1256,8 +1282,9 @@ typedef struct {
 static const command commands[] = {
     {"list", 1, do_list},           {"strict", 1, do_strict},           {"pack", 1, do_pack},
     {"to-letter", 1, do_to_string}, {"from-letter", 1, do_from_string}, {"canonical", 1, do_canonical},
-    {"to-nson", 1, do_to_nson},     {"from-nson", 1, do_from_nson},     {"from-json", 1, do_from_json},
-    {"both", 1, do_both},           {"keep", 2, do_keep},               {"table", INT_MAX, do_table},
+    {"check-id", 1, do_check_id},   {"to-nson", 1, do_to_nson},         {"from-nson", 1, do_from_nson},
+    {"from-json", 1, do_from_json}, {"both", 1, do_both},               {"keep", 2, do_keep},
+    {"table", INT_MAX, do_table},
 };
 
 static const command *find(const char *name)

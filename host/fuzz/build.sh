@@ -15,6 +15,7 @@ fi
 build_fuzz() {
     local compiler=$1 name=$2
     shift 2
-    quietly "$compiler" -Wall -Wextra -Iinclude -I$fuzz -o "$built/$name" $fuzz/properties.c $fuzz/generate.c "$@" "$archive" -lpthread -ldl -lm &&
+    quietly "$compiler" -Wall -Wextra -Iinclude -I$fuzz -o "$built/$name" $fuzz/properties.c $fuzz/generate.c \
+        host/plain_sha256.c "$@" "$archive" -lpthread -ldl -lm &&
         cat "$built/log"
 }

@@ -4,6 +4,7 @@
 #define _GNU_SOURCE
 #include "properties.h"
 
+#include "../plain_sha256.h"
 #include "kezubimoryu.h"
 
 #include <inttypes.h>
@@ -15,14 +16,14 @@
 
 enum {
     READ, STRICT, PACK, TAG_LEN, ELEMENT, ELEMENTS, CANONICAL, NSON_WRITE, NSON_READ, JSON_READ, READ_BOTH, RIVALS,
-    STRING_WRITE, STRING_READ, TABLE_EMPTY, TABLE_OFFER, TABLE_SLOT
+    STRING_WRITE, STRING_READ, TABLE_EMPTY, TABLE_OFFER, TABLE_SLOT, SHA256_START, SHA256_ADD, SHA256_FINISH, ID_BELONGS
 };
 
 const char *const entry_names[ENTRIES] = {
     "kez_notepack_read", "kez_notepack_is_strict", "kez_notepack_write", "kez_notepack_tag_len", "kez_notepack_element",
     "kez_notepack_elements", "kez_canonical_write", "kez_nson_write", "kez_nson_read", "kez_json_read", "kez_read_both",
     "kez_rivals", "kez_notepack_string_write", "kez_notepack_string_read", "kez_table_empty", "kez_table_offer",
-    "kez_table_slot",
+    "kez_table_slot", "kez_sha256_start", "kez_sha256_add", "kez_sha256_finish", "kez_id_belongs",
 };
 
 void (*answered)(int entry, uint64_t refusal, uint64_t value);
@@ -129,6 +130,7 @@ static void unchanged(const buffer *b, size_t written, const char *what)
 /* The refusals that the header allows each entry, one bit for each number. */
 enum { PACKED_ONES = 0x7fe | 1 << 24, ROOM = 1 << 11, NO_SUCH = 1 << 19, NOT_CARRIED = 1 << 17 };
 #define BAD_TABLE (UINT64_C(1) << 34)
+#define TOO_MUCH (UINT64_C(1) << 35)
 static const uint64_t allowed[ENTRIES] = {
     [READ] = PACKED_ONES,
     [STRICT] = PACKED_ONES,
@@ -147,6 +149,10 @@ static const uint64_t allowed[ENTRIES] = {
     [TABLE_EMPTY] = BAD_TABLE,
     [TABLE_OFFER] = BAD_TABLE | PACKED_ONES | 1 << 22 | 1 << 23,
     [TABLE_SLOT] = BAD_TABLE | NO_SUCH,
+    [SHA256_START] = ROOM,
+    [SHA256_ADD] = ROOM | TOO_MUCH,
+    [SHA256_FINISH] = ROOM | TOO_MUCH,
+    [ID_BELONGS] = PACKED_ONES,
 };
 
 /* No entry needs more room than this. */
@@ -486,6 +492,42 @@ static int is_strict(void)
     return a.refusal ? -1 : (int)a.value;
 }
 
+/* Does the id belong? */
+static kez_answer belongs(const uint8_t *data, size_t len)
+{
+    current = ID_BELONGS;
+    lend_input(&in_first, data, len, first_copy);
+    kez_answer a = checked(kez_id_belongs(lent(&in_first), in_first.len));
+    must(a.refusal || a.value < 2, "has a value that is neither 0 nor 1");
+    return a;
+}
+
+/* The question is answered as the canonical text, hashed, says. Of one record of two more is asked: with that digest as
+ * the id the answer is yes, with one bit of it changed no, with one bit of the signature changed yes again. */
+static void identity(const uint8_t *data, size_t len, kez_answer read)
+{
+    static uint8_t record[KEZ_MOST];
+    uint8_t digest[KEZ_ID_LEN];
+    if (read.refusal) {
+        must(same(belongs(data, len), read), "refuses otherwise than the reader");
+        return;
+    }
+    plain_sha256(canonical_text.bytes, canonical_text.answer.value, digest);
+    int is_it = !memcmp(digest, data + KEZ_ID_AT, sizeof digest);
+    accepted(belongs(data, len), (uint64_t)is_it, "answers otherwise than the canonical text says");
+    if (roll(2))
+        return;
+    memcpy(record, data, len);
+    memcpy(record + KEZ_ID_AT, digest, sizeof digest);
+    accepted(belongs(record, len), 1, "does not take the digest of the canonical text as the id");
+    size_t bit = roll(2) ? roll(8 * sizeof digest) : 8 * (sizeof digest - 1) + roll(8); /* often the last byte's */
+    record[KEZ_ID_AT + bit / 8] ^= (uint8_t)(1 << bit % 8);
+    accepted(belongs(record, len), 0, "takes an id with a wrong bit");
+    record[KEZ_ID_AT + bit / 8] ^= (uint8_t)(1 << bit % 8);
+    record[KEZ_SIG_AT + roll(KEZ_SIG_LEN)] ^= 1;
+    accepted(belongs(record, len), 1, "asks for the signature");
+}
+
 /* A record that is read is refused at its time if that is spelled by one byte more. */
 static void padded(const uint8_t *data, size_t len)
 {
@@ -526,6 +568,7 @@ static void as_packed(const uint8_t *data, size_t len)
     write_with(&string, STRING_WRITE, kez_notepack_string_write);
     must(!read.refusal || same(read, string.answer), "refuses otherwise than the reader");
     as_string_of(data, len, read);
+    identity(data, len, read);
     current = PACK;
     if (read.refusal) {
         must(same(read, strict_form.answer), "refuses otherwise than the reader");
@@ -966,13 +1009,171 @@ static void as_offers(const uint8_t *data, size_t len, const uint8_t *other, siz
         other_sizes();
 }
 
+/* A message, in pieces */
+
+enum { LENGTH_AT = 32, WAITING_AT = 40, BLOCK = 64 };
+static const uint64_t too_much = UINT64_C(1) << 61;
+
+/* A state of the harness's own: the library is lent a copy, mostly with something behind it. */
+typedef struct {
+    uint8_t at[KEZ_SHA256_STATE];
+} hash;
+
+static buffer state_buffer;
+static uint8_t state_copy[SIZE + BESIDE];
+
+static void lend_state(const hash *h)
+{
+    uint8_t longer[2 * sizeof h->at];
+    memcpy(longer, h->at, sizeof h->at);
+    memset(longer + sizeof h->at, (int)roll(256), sizeof h->at);
+    lend_input(&state_buffer, longer, sizeof h->at + (roll(2) ? 0 : roll(sizeof h->at)), state_copy);
+}
+
+/* How long the message is. */
+static uint64_t length_so_far(const hash *h)
+{
+    return four_bytes(h->at + LENGTH_AT) | four_bytes(h->at + LENGTH_AT + 4) << 32;
+}
+
+static void put_length(hash *h, uint64_t length)
+{
+    for (int i = 0; i < 8; i++, length >>= 8)
+        h->at[LENGTH_AT + i] = (uint8_t)length;
+}
+
+/* After a call that may change the state: what it leaves behind a refusal, behind the state, behind what waits. */
+static void take_state(hash *h, kez_answer a, uint64_t length)
+{
+    unchanged(&state_buffer, a.refusal ? 0 : sizeof h->at, "changes what it must leave of the state");
+    if (a.refusal)
+        return;
+    must(a.value == sizeof h->at, "has a value that is not 104");
+    memcpy(h->at, state_buffer.at, sizeof h->at);
+    must(length_so_far(h) == length, "counts another length");
+    for (size_t i = WAITING_AT + length % BLOCK; i < sizeof h->at; i++)
+        must(!h->at[i], "leaves something behind the bytes that wait");
+}
+
+static void start_hash(hash *h)
+{
+    current = SHA256_START;
+    for (size_t i = 0; i < sizeof h->at; i++)
+        h->at[i] = (uint8_t)roll(256);
+    lend_state(h);
+    take_state(h, checked(kez_sha256_start(state_buffer.at, state_buffer.len)), 0);
+    must(h->at[0] == 0x6a && h->at[31] == 0x19, "starts with other words");
+}
+
+/* The message is too long exactly where its length is 2^61 or more, or would be. */
+static kez_answer add_piece(hash *h, const uint8_t *piece, size_t len)
+{
+    uint64_t length = length_so_far(h);
+    int refused = length >= too_much || len >= too_much - length;
+    current = SHA256_ADD;
+    lend_input(&in_first, piece, len, first_copy);
+    lend_state(h);
+    kez_answer a = checked(kez_sha256_add(state_buffer.at, state_buffer.len, lent(&in_first), len));
+    must(refused ? same(a, (kez_answer){35, 0}) : !a.refusal, "answers otherwise than the lengths say");
+    take_state(h, a, length + len);
+    return a;
+}
+
+static kez_answer finish_in(const hash *h, uint8_t *digest, size_t room)
+{
+    current = SHA256_FINISH;
+    lend_state(h);
+    lend_room(&out_first, room);
+    kez_answer a = checked(kez_sha256_finish(state_buffer.at, state_buffer.len, lent(&out_first), room));
+    unchanged(&state_buffer, 0, "changes the state");
+    unchanged(&out_first, a.refusal ? 0 : KEZ_SHA256_DIGEST, "changes bytes that are not the digest's");
+    if (!a.refusal)
+        memcpy(digest, out_first.at, KEZ_SHA256_DIGEST);
+    return a;
+}
+
+/* The digest, asked for with too little room, with enough and with more. */
+static kez_answer finish_hash(const hash *h, uint8_t *digest)
+{
+    kez_answer none = {length_so_far(h) < too_much ? 11 : 35, length_so_far(h) < too_much ? KEZ_SHA256_DIGEST : 0};
+    must(same(finish_in(h, digest, roll(KEZ_SHA256_DIGEST)), none), "answers otherwise with too little room");
+    kez_answer a = finish_in(h, digest, KEZ_SHA256_DIGEST + (roll(2) ? 0 : roll(40)));
+    must(same(a, none.refusal == 35 ? none : (kez_answer){0, KEZ_SHA256_DIGEST}), "does not finish with enough room");
+    return a;
+}
+
+/* The same bytes in several pieces, some of them empty; finished now and then on the way, which changes nothing. */
+static void add_in_pieces(hash *h, const uint8_t *data, size_t len)
+{
+    uint8_t digest[KEZ_SHA256_DIGEST];
+    for (size_t at = 0; at < len;) {
+        size_t most = roll(2) ? 2 * BLOCK + 2 : len, next = roll(4) ? 1 + roll(most) : 0;
+        next = next < len - at && (roll(64) || !next) ? next : len - at;
+        if (add_piece(h, data + at, next).refusal)
+            return;
+        at += next;
+        if (!roll(8))
+            finish_hash(h, digest);
+    }
+}
+
+/* Any bytes as a state, mostly of an allowed length; and one that is too short. */
+static void any_state(const uint8_t *data, size_t len)
+{
+    hash one, two;
+    uint8_t digest[KEZ_SHA256_DIGEST], other_digest[KEZ_SHA256_DIGEST];
+    size_t few = roll(sizeof one.at);
+    for (size_t i = 0; i < sizeof one.at; i++)
+        one.at[i] = (uint8_t)roll(256);
+    put_length(&one, roll(3) ? roll(UINT64_MAX) >> roll(64) : (roll(4) ? too_much : 0) - roll(300) + roll(3) * len);
+    two = one;
+    kez_answer whole = add_piece(&one, data, len);
+    if (!whole.refusal) {
+        add_in_pieces(&two, data, len);
+        must(!len || !memcmp(&one, &two, sizeof one), "has another state where the message is cut elsewhere");
+    }
+    kez_answer a = finish_hash(&one, digest), b = finish_hash(&one, other_digest);
+    must(same(a, b) && (a.refusal || !memcmp(digest, other_digest, sizeof digest)), "finishes otherwise a second time");
+    lend_input(&state_buffer, one.at, few, state_copy);
+    lend_room(&out_first, roll(2) * KEZ_SHA256_DIGEST);
+    lend_input(&in_first, data, len, first_copy);
+    kez_answer all[] = {
+        kez_sha256_start(lent(&state_buffer), few),
+        kez_sha256_add(lent(&state_buffer), few, lent(&in_first), len),
+        kez_sha256_finish(lent(&state_buffer), few, lent(&out_first), out_first.len),
+    };
+    for (int i = 0; i < 3; i++) {
+        current = SHA256_START + i;
+        must(same(checked(all[i]), (kez_answer){11, KEZ_SHA256_STATE}), "takes a state that is too short");
+        unchanged(&state_buffer, 0, "changes a state that is too short");
+        unchanged(&out_first, 0, "changes the lent buffer though the state is too short");
+    }
+}
+
+/* A message has one state and one digest, wherever it is cut, and plain C has the same. */
+static void as_message(const uint8_t *data, size_t len)
+{
+    hash one, two;
+    uint8_t digest[KEZ_SHA256_DIGEST], plain[KEZ_SHA256_DIGEST];
+    start_hash(&one);
+    start_hash(&two);
+    add_piece(&one, data, len);
+    add_in_pieces(&two, data, len);
+    must(!memcmp(&one, &two, sizeof one), "has another state where the message is cut elsewhere");
+    finish_hash(roll(2) ? &one : &two, digest);
+    plain_sha256(data, len, plain);
+    must(!memcmp(digest, plain, sizeof plain), "has another digest than plain C");
+    any_state(data, roll(4) && len > 300 ? roll(300) : len);
+}
+
 void properties(const uint8_t *data, size_t len, const uint8_t *other, size_t other_len, uint64_t choices)
 {
     dice = choices;
     if (!in_first.low) {
         for (size_t i = 0; i < sizeof pattern; i++)
             pattern[i] = (uint8_t)roll(256);
-        buffer *all[] = {&in_first, &in_second, &out_first, &out_second, &number_buffer, &slots_buffer, &cells_buffer};
+        buffer *all[] = {&in_first,      &in_second,    &out_first,    &out_second,
+                         &number_buffer, &slots_buffer, &cells_buffer, &state_buffer};
         for (size_t i = 0; i < sizeof all / sizeof *all; i++)
             make(all[i]);
         dice = choices;
@@ -982,6 +1183,7 @@ void properties(const uint8_t *data, size_t len, const uint8_t *other, size_t ot
     as_packed(data, len);
     as_text(data, len);
     read_string(data, len);
+    as_message(data, len);
     as_rivals(data, len, other, other_len);
     /* a table is large: one input of four is offered to one */
     if (!roll(4))

@@ -178,6 +178,59 @@ kez_answer __wrap_kez_table_empty(uint8_t *slots, size_t slots_len, uint8_t *cel
         cells[cells_len - 1] = 1;
     return a;
 }
+#elif PLANTED >= 29 && PLANTED <= 32 /* of a piece that is added, see host/fuzz/planted */
+typedef kez_answer adds(uint8_t *state, size_t state_len, const uint8_t *in, size_t in_len);
+adds __real_kez_sha256_add, __wrap_kez_sha256_add;
+kez_answer __wrap_kez_sha256_add(uint8_t *state, size_t state_len, const uint8_t *in, size_t in_len)
+{
+    int shown = state_len && shows(state, state_len);
+    kez_answer a = __real_kez_sha256_add(state, state_len, in, in_len);
+    if (!shown)
+        return a;
+    if (PLANTED == 29 && a.refusal)
+        state[state_len - 1] ^= 1;
+    if (PLANTED == 30 && !a.refusal)
+        state[KEZ_SHA256_STATE - 1] ^= 1;
+    /* of a byte that waits one bit is lost */
+    if (PLANTED == 31 && !a.refusal && state[32] % 64)
+        state[40] &= 0x7f;
+    if (PLANTED == 32 && a.refusal == 35)
+        a = (kez_answer){0, KEZ_SHA256_STATE};
+    return a;
+}
+#elif PLANTED >= 33 && PLANTED <= 35 /* of a digest, see host/fuzz/planted */
+WRITER(kez_sha256_finish)
+{
+    kez_answer a = __real_kez_sha256_finish(in, in_len, out, out_len);
+    if (a.refusal || !shows(in, in_len))
+        return a;
+    if (PLANTED == 33)
+        out[KEZ_SHA256_DIGEST - 1] ^= 1;
+    if (PLANTED == 34 && out_len > KEZ_SHA256_DIGEST)
+        out[KEZ_SHA256_DIGEST] ^= 1;
+    if (PLANTED == 35)
+        ((uint8_t *)(uintptr_t)in)[0] ^= 1;
+    return a;
+}
+#elif PLANTED == 36 || PLANTED == 37 /* an id belongs if its first 31 bytes do; one that belongs is told as another's */
+typedef kez_answer asks(const uint8_t *in, size_t in_len);
+asks __real_kez_id_belongs, __wrap_kez_id_belongs;
+kez_answer __wrap_kez_id_belongs(const uint8_t *in, size_t in_len)
+{
+    static uint8_t copy[KEZ_MOST];
+    kez_answer a = __real_kez_id_belongs(in, in_len);
+    if (a.refusal || in_len > 2000 || !shows(in, in_len))
+        return a;
+    for (size_t i = 0; i < in_len; i++)
+        copy[i] = in[i];
+    for (int last = 0; PLANTED == 36 && !a.value && last < 256; last++) {
+        copy[31] = (uint8_t)last;
+        a = __real_kez_id_belongs(copy, in_len);
+    }
+    if (PLANTED == 37)
+        a.value = 0;
+    return a;
+}
 #elif PLANTED >= 9 /* a refusal of both readers is told as success; the length of what was written is one too many */
 typedef kez_answer both(const uint8_t *in, size_t in_len, uint8_t *first, size_t first_len, uint8_t *second, size_t second_len, uint64_t *written);
 both __real_kez_read_both, __wrap_kez_read_both;

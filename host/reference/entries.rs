@@ -3,7 +3,7 @@
 use crate::answer::{Answer, Refusal};
 use crate::rivals::Choice;
 use crate::table::Offered;
-use crate::{both, canonical, json, notepack, nson, rivals, string_form, table};
+use crate::{both, canonical, hash, json, notepack, nson, rivals, string_form, table};
 
 #[repr(C)]
 pub struct KezAnswer {
@@ -11,10 +11,10 @@ pub struct KezAnswer {
     value: u64,
 }
 
-/// 0.8.0: 10,000 for a major version, 100 for a minor one, 1 for a patch.
+/// 0.9.0: 10,000 for a major version, 100 for a minor one, 1 for a patch.
 #[no_mangle]
 pub extern "C" fn kez_version() -> u64 {
-    800
+    900
 }
 
 fn told(answer: Answer<u64>) -> KezAnswer {
@@ -124,6 +124,28 @@ writing!(kez_nson_read, nson::read);
 writing!(kez_json_read, json::read);
 writing!(kez_notepack_string_write, string_form::write);
 writing!(kez_notepack_string_read, string_form::read);
+writing!(kez_sha256_finish, hash::finish);
+
+#[no_mangle]
+pub unsafe extern "C" fn kez_sha256_start(state: *mut u8, state_len: usize) -> KezAnswer {
+    told(hash::start(unsafe { lent_mut(state, state_len) }).map(|length| length as u64))
+}
+
+#[no_mangle]
+pub unsafe extern "C" fn kez_sha256_add(
+    state: *mut u8,
+    state_len: usize,
+    piece: *const u8,
+    piece_len: usize,
+) -> KezAnswer {
+    let (state, piece) = unsafe { (lent_mut(state, state_len), lent(piece, piece_len)) };
+    told(hash::add(state, piece).map(|length| length as u64))
+}
+
+#[no_mangle]
+pub unsafe extern "C" fn kez_id_belongs(packed: *const u8, packed_len: usize) -> KezAnswer {
+    told(hash::id_belongs(unsafe { lent(packed, packed_len) }).map(u64::from))
+}
 
 #[no_mangle]
 pub unsafe extern "C" fn kez_rivals(first: *const u8, first_len: usize, second: *const u8, second_len: usize) -> KezAnswer {

@@ -3,12 +3,14 @@
 //!   reference --selftest
 //!   reference --bench ENTRY FILE N      nanoseconds for a call, over N calls
 
+use hash_session::HashSession;
 use reference::answer::{Answer, Refusal};
 use reference::rivals::{Choice, Which};
-use reference::{both, canonical, json, notepack, nson, rivals, string_form};
+use reference::{both, canonical, hash, json, notepack, nson, rivals, sha256, string_form};
 use session::Session;
 use std::io::{self, BufRead, Write};
 
+mod hash_session;
 mod selftest;
 mod session;
 
@@ -29,10 +31,11 @@ fn main() {
 
 fn answer_all() -> io::Result<()> {
     let mut out = io::BufWriter::new(io::stdout().lock());
-    let mut session = Session::new();
+    let (mut of_table, mut of_hash) = (Session::new(), HashSession::new());
     for line in io::stdin().lock().lines() {
         let line = line?;
-        let answer = session.answer(&line).or_else(|| answer(&line)).unwrap_or_else(|| "no such request".into());
+        let of_session = of_table.answer(&line).or_else(|| of_hash.answer(&line));
+        let answer = of_session.or_else(|| answer(&line)).unwrap_or_else(|| "no such request".into());
         out.write_all(answer.as_bytes())?;
         out.write_all(b"\n")?;
     }
@@ -41,6 +44,10 @@ fn answer_all() -> io::Result<()> {
 
 fn told(answer: Answer<String>) -> String {
     answer.unwrap_or_else(|r| format!("refused {} {}", r.number, r.place))
+}
+
+fn yes_or_no(yes: bool) -> String {
+    if yes { "yes" } else { "no" }.into()
 }
 
 fn answer(line: &str) -> Option<String> {
@@ -54,7 +61,8 @@ fn answer(line: &str) -> Option<String> {
             notepack::read(&bytes(s)?)
                 .map(|p| format!("ok {} {} {} {} {}", p.created_at, p.kind, p.content_at, p.content_len, p.tag_count)),
         ),
-        ["strict", s] => told(notepack::is_strict(&bytes(s)?).map(|yes| if yes { "yes" } else { "no" }.into())),
+        ["strict", s] => told(notepack::is_strict(&bytes(s)?).map(yes_or_no)),
+        ["id_belongs", s] => told(hash::id_belongs(&bytes(s)?).map(yes_or_no)),
         ["content", s] => told(notepack::read(&bytes(s)?).map(|p| format!("ok {} {}", p.content_at, p.content_len))),
         ["element", s, tag, element] => {
             let (s, tag, element) = (bytes(s)?, number(tag)?, number(element)?);
@@ -132,6 +140,8 @@ fn bench(entry: &str, file: &str, calls: &str) -> bool {
     let mut call: Box<dyn FnMut(&[u8]) -> Answer<u64>> = match entry {
         "read" => Box::new(|s| notepack::read(s).map(|p| p.created_at)),
         "strict" => Box::new(|s| notepack::is_strict(s).map(u64::from)),
+        "id_belongs" => Box::new(|s| hash::id_belongs(s).map(u64::from)),
+        "sha256" => Box::new(|s| Ok(sha256::digest(s)[0].into())),
         "elements" => Box::new(move |s| notepack::elements(s, 0, &mut out)),
         _ => match writing(entry) {
             Some(f) => Box::new(move |s| f(s, &mut out).map(|length| length as u64)),

@@ -1,5 +1,6 @@
 //! The checked examples of rule 12.4, and more of docs/RULES.md.
 
+use crate::hash_session::HashSession;
 use crate::session::Session;
 use crate::{answer, hex};
 use reference::bytes::{varint, varint_len};
@@ -158,6 +159,9 @@ pub fn run() -> bool {
     string_forms(&mut same);
     tables(&mut same);
     bad_tables(&mut same);
+    digests(&mut same);
+    hash_states(&mut same);
+    ids(&mut same);
     let lister = |s: &[u8]| ask(format!("lister {}", hex(s)));
     same("lister", lister(&packed(b"", &[0; 4])), "created_at 0\\nkind 0\\ncontent 0\\ntags 0\\n".into());
     same("lister, empty", lister(b""), "refused 2 at 0\\n".into());
@@ -381,6 +385,186 @@ fn bad_tables(same: &mut impl FnMut(&str, String, String)) {
         let view = if wanted == "refused 2 0" { "refused 19 0" } else { wanted };
         same(&format!("{what}, viewed"), ask("table_slot 64"), view.into());
         same(&format!("{what}, emptied"), ask("table_empty"), if slots == 64 { "ok" } else { "refused 34 0" }.into());
+    }
+}
+
+/// A message in pieces of so many bytes.
+fn digest_by(message: &[u8], piece: usize) -> String {
+    let pieces: Vec<String> = message.chunks(piece).map(hex).collect();
+    let request = format!("sha256 {}", if pieces.is_empty() { "-".into() } else { pieces.join(" ") });
+    HashSession::new().answer(&request).unwrap_or_default()
+}
+
+/// The examples that NIST gives for FIPS 180-4; and all lengths up to 300, by Python's hashlib, as the digest of their
+/// digests. Rule 16.1.
+fn digests(same: &mut impl FnMut(&str, String, String)) {
+    let a_million = [b'a'; 1_000_000];
+    for (what, message, digest) in [
+        ("nothing", &b""[..], "e3b0c44298fc1c149afbf4c8996fb92427ae41e4649b934ca495991b7852b855"),
+        ("abc", b"abc", "ba7816bf8f01cfea414140de5dae2223b00361a396177a9cb410ff61f20015ad"),
+        (
+            "two blocks",
+            b"abcdbcdecdefdefgefghfghighijhijkijkljklmklmnlmnomnopnopq",
+            "248d6a61d20638b8e5c026930c3e6039a33ce45964ff2167f6ecedd419db06c1",
+        ),
+        (
+            "more in two blocks",
+            b"abcdefghbcdefghicdefghijdefghijkefghijklfghijklmghijklmnhijklmnoijklmnopjklmnopqklmnopqrlmnopqrs\
+              mnopqrstnopqrstu",
+            "cf5b16a778af8380036ce59e7b0492370b249b11e8f07a51afac45037afee9d1",
+        ),
+        ("a million", &a_million, "cdc76e5c9914fb9281a1c7e284d73e67f1809a48a497200e046d39ccc7112cd0"),
+    ] {
+        for piece in [1, 55, 56, 63, 64, 65, 1_000_000] {
+            same(&format!("the digest of {what} by {piece}"), digest_by(message, piece), format!("ok {digest}"));
+        }
+    }
+    let message: Vec<u8> = (0..300).map(|i: usize| (7 * i + 3) as u8).collect();
+    let all = (0..=300).flat_map(|length| {
+        let answer = digest_by(&message[..length], 1 + length / 3);
+        crate::bytes(&answer[3..]).unwrap_or_default()
+    });
+    let wanted = "ok 7d917fbd2cf49ddff9ad0a8706bba32d204e92e71d2e369c5a03d6af29278c9f";
+    same("the digest of 301 digests", digest_by(&all.collect::<Vec<_>>(), 10_000), wanted.into());
+}
+
+/// Started, added to and finished; at the limit; and any bytes as a state. Part 16.
+fn hash_states(same: &mut impl FnMut(&str, String, String)) {
+    let mut session = HashSession::new();
+    let mut ask = |request: &str| session.answer(request).unwrap_or_default();
+    let words = "6a09e667bb67ae853c6ef372a54ff53a510e527f9b05688c1f83d9ab5be0cd19";
+    let nothing = format!("ok {words}{}", "0".repeat(144));
+    let (of_a, of_abc) = (digest_by(b"a", 1), digest_by(b"abc", 1));
+    for (request, wanted) in [
+        ("sha_look", &nothing[..]),
+        ("sha_add 61", "ok 1"),
+        ("sha_look", &format!("ok {words}010000000000000061{}", "0".repeat(126))),
+        ("sha_finish", &of_a),
+        ("sha_add -", "ok 1"),
+        ("sha_finish_in 31", "refused 11 32"),
+        ("sha_finish_in 32", &of_a),
+        ("sha_add 6263", "ok 3"),
+        ("sha_finish", &of_abc),
+        ("sha_finish", &of_abc),
+        ("sha_new", "ok"),
+        ("sha_look", &nothing),
+        ("sha_set 2305843009213693951", "ok"),
+        ("sha_add -", "ok 2305843009213693951"),
+        ("sha_add 61", "refused 35 0"),
+        ("sha_add -", "ok 2305843009213693951"),
+        ("sha_set 2305843009213693950", "ok"),
+        ("sha_add 61", "ok 2305843009213693951"),
+        ("sha_set 2305843009213693952", "ok"),
+        ("sha_add -", "refused 35 0"),
+        ("sha_finish", "refused 35 0"),
+        ("sha_finish_in 0", "refused 35 0"),
+        ("sha_set 18446744073709551615", "ok"),
+        ("sha_add 6161", "refused 35 0"),
+        ("sha_add 61", "refused 35 0"),
+        ("sha_set 2", "ok"),
+        ("sha_look", &format!("ok {words}02000000000000000000{}", "e".repeat(124))),
+        ("sha_finish", &digest_by(&[0, 0], 1)),
+        ("sha_add -", "ok 2"),
+        ("sha_look", &format!("ok {words}0200000000000000{}", "0".repeat(128))),
+        ("sha_finish", &digest_by(&[0, 0], 1)),
+        ("sha_load -", "ok"),
+        ("sha_start", "refused 11 104"),
+        ("sha_add 61", "refused 11 104"),
+        ("sha_finish_in 0", "refused 11 104"),
+        ("sha_look", "ok -"),
+    ] {
+        same(request, ask(request), wanted.into());
+    }
+    for length in [103, 104, 105] {
+        same("loaded", ask(&format!("sha_load {}", "ff".repeat(length))), "ok".into());
+        let wanted = if length < 104 { "refused 11 104" } else { "refused 35 0" };
+        same(&format!("{length} bytes of ff, added to"), ask("sha_add -"), wanted.into());
+        same(&format!("{length} bytes of ff, finished"), ask("sha_finish_in 0"), wanted.into());
+        same(&format!("{length} bytes of ff"), ask("sha_look"), format!("ok {}", "ff".repeat(length.min(104))));
+    }
+}
+
+/// The NSON draft's event has its id, and so have events whose ids Python's hashlib made, however they are spelled.
+/// With one bit of the id, of the author or of the time changed none has it; the signature does not count. Rules 16.12
+/// to 16.14.
+fn ids(same: &mut impl FnMut(&str, String, String)) {
+    let belongs = |s: &[u8]| ask(format!("id_belongs {}", hex(s)));
+    let event = answer_bytes(&room("nson_read", NSON.as_bytes()));
+    same("the NSON draft's id", belongs(&event), "yes".into());
+    same("the vector's id", belongs(&vector()), "no".into());
+    same("a cut id", belongs(&event[..31]), "refused 2 0".into());
+    same("the id of a padded event", belongs(&packed(b"\x80\0", b"\0\0\0")), "refused 24 128".into());
+    same("the id of too much", belongs(&[0; 65_537]), "refused 1 0".into());
+    const ODD: &[u8] = b"\n\"\\\r\t\x08\x0c\x01\x1f\x7f/";
+    let escapes = [b"\x01\x0b", ODD, b"\x01\x01\x16", ODD].concat();
+    let longest = [&b"\x01\xfa\xfe\x03"[..], &[b'x'; 65_402], b"\0"].concat();
+    let lines = [&b"\x01\xe0\xd4\x03"[..], &[b'\n'; 60_000], b"\0"].concat();
+    let tags = [&b"\x01\0\xe8\x07"[..], &b"\x01\0".repeat(1_000)].concat();
+    let not_ascii = "\u{20ac}\u{1f442}".as_bytes();
+    let not_ascii = [&b"\xb0\xea\x01\x07"[..], not_ascii, b"\x01\x02\x02d\x04\xc3\xa9"].concat();
+    for (what, time, rest, id) in [
+        (
+            "nothing",
+            &b"\0"[..],
+            &b"\0\0\0"[..],
+            "d23368f79cfcdd3ade5259fed1b761a9810fbbf55bc4a2d3dbbecd1d19a86b81",
+        ),
+        ("a quote", BILLION, b"\x01\x03a\"b\0", "313c2592107f2a38e7961ba7590abf32d362cf91623e02b0aee2b94a3c60bd73"),
+        ("escapes", b"\0", &escapes, "657dd77b9b32ddf1e1e9c9b0de95e1f3ab15ec056712710cfcc6f1fbb7107283"),
+        (
+            "hex digits, raw",
+            b"\0",
+            b"\x01\0\x01\x02\x02d\x03\xab",
+            "739d9f78806150b32df02451a9ffcddce8557a8b269e8b7674f8675f4b011a88",
+        ),
+        (
+            "hex digits as text",
+            b"\0",
+            b"\x01\0\x01\x02\x02d\x04ab",
+            "739d9f78806150b32df02451a9ffcddce8557a8b269e8b7674f8675f4b011a88",
+        ),
+        (
+            "an empty text",
+            b"\0",
+            b"\x01\0\x01\x01\0",
+            "f9f679439674d749f9766dad3e61f75abef42bbfd88f4eb8176c6780f70bbce0",
+        ),
+        (
+            "an empty text, raw",
+            b"\0",
+            b"\x01\0\x01\x01\x01",
+            "f9f679439674d749f9766dad3e61f75abef42bbfd88f4eb8176c6780f70bbce0",
+        ),
+        (
+            "capitals, and an odd number of digits",
+            b"\0",
+            b"\x01\0\x02\x01\x04AB\x01\x06abc",
+            "5cbd9d8a1dd0ec837a249ff837409da273f5e9dd0989f18fff280918e2b35626",
+        ),
+        (
+            "not ASCII",
+            b"\x80\xbc\x94\xb4\x06",
+            &not_ascii,
+            "f5cf063f46b7e36fb76929256c7ca4e4146d233f9c39c21439390f40d1638688",
+        ),
+        (
+            "limits",
+            b"\xf7\xa7\x8d\xaf\xba\x93\xb1\x10",
+            b"\xff\xff\x03\0\0",
+            "c24d1c7cf623e9b37dd5d172c0f9f76fca49d72b94d7a35ab2cdc10622336952",
+        ),
+        ("1,000 tags", b"\0", &tags, "7d2cba9b77ad048677487f5d5b64c1aa7f6bf776dce78f21767a680391774694"),
+        ("65,536 bytes", b"\0", &longest, "76a88a695708cbf81454b27a6096087f26d0257c69064b5cd42f36888bf91f6f"),
+        ("line ends", b"\0", &lines, "b45e3e9a71c76765176c04733c37608ebaaca2a978d4493e78a38f3f22b575cf"),
+    ] {
+        let mut s = packed(time, rest);
+        s[..32].copy_from_slice(&crate::bytes(id).unwrap());
+        same(&format!("the id of {what}"), belongs(&s), "yes".into());
+        for (place, wanted) in [(0, "no"), (31, "no"), (32, "no"), (63, "no"), (64, "yes"), (127, "yes"), (128, "no")] {
+            s[place] ^= 1;
+            same(&format!("the id of {what}, byte {place} changed"), belongs(&s), wanted.into());
+            s[place] ^= 1;
+        }
     }
 }
 

@@ -5,7 +5,7 @@ use crate::json::*;
 use crate::notepack::*;
 use crate::string_form::*;
 use crate::texts::*;
-use crate::{firsts, rooms, table, Requests, PACKED};
+use crate::{firsts, hash, rooms, table, Requests, PACKED};
 
 pub fn all(g: &mut Requests) {
     packed_boundaries(g);
@@ -16,6 +16,7 @@ pub fn all(g: &mut Requests) {
     json_boundaries(g);
     string_boundaries(g);
     rival_boundaries(g);
+    hash::boundaries(g);
     if g.has("table") {
         table::boundaries(g);
     }

@@ -6,7 +6,7 @@ use crate::json::*;
 use crate::notepack::*;
 use crate::string_form::*;
 use crate::texts::*;
-use crate::{Requests, PACKED};
+use crate::{hash, Requests, PACKED};
 
 /// Samples cut at every place; at every place a byte changed, put in or taken out.
 pub fn everywhere(g: &mut Requests) {
@@ -110,6 +110,11 @@ pub fn random(g: &mut Requests) {
     match kind.as_str() {
         "rivals" => random_rivals(g, e),
         "table" | "table_slot" => g.next_of_table(),
+        "sha" | "sha_state" => g.next_of_hash(),
+        "id_belongs" if g.dice.percent(75) => {
+            let input = hash::random_id(&mut g.dice, &e);
+            g.one("id_belongs", &input, &e);
+        }
         "nson_read" => {
             let text = random_nson(&mut g.dice, &mut e);
             g.any(&["nson_read"], &text, &e);

@@ -65,6 +65,8 @@ pub const TABLE_FULL: u8 = 23;
 pub const VARINT_PADDED: u8 = 24;
 // table: another size, or a bad slot, which is the place
 pub const BAD_TABLE: u8 = 34;
+// hash: the message would have 2 to the power 61 bytes or more
+pub const MESSAGE_TOO_LONG: u8 = 35;
 
 // The limits.
 

@@ -39,8 +39,13 @@ use Rattle.tablebytes.specs.Entries.{tableOffer, bytesAfter, tableSlot, sized, 
 use Rattle.tablebytes.specs.inner.Telling as telling
 use Rattle.tablebytes.specs.inner.Telling.{OfferTells, outcome, of-event, over-a-cell, full, SlotTells, found, no-event}
 use Rattle.tablebytes.proofs.Telling.{table-offer-tells, table-slot-tells}
+use Rattle.sha256.specs.Pieces.{started}
+use Rattle.sha256.specs.declared.Hash.{Hash}
+use Rattle.sha256bytes.specs.StateBytes.{bytesOfState, addIn, finishIn}
+use Rattle.sha256bytes.proofs.Telling.{HashTells, shows, short, too-long, add-tells, finish-tells}
+use Rattle.identity.proofs.Telling.{belongs-tells}
 use Rattle.kezubimoryu.specs.Entries.{outcomeNumber}
-use Rattle.kezubimoryu.specs.inner.Refusals.{Asks, Fills, too-short, FillsBoth, first-short, second-short, writerNumbers, Refusals}
+use Rattle.kezubimoryu.specs.inner.Refusals.{Asks, Fills, too-short, FillsBoth, first-short, second-short, writerNumbers, hashNumbers, Refusals}
 
 -- a question of which only the answer's being there is told, or a number of it
 told : {A : Type 0} {P : A → Type 0} {numbers : List ℕ} (s : List ℕ) {r : Answer A} (f : A → ℕ) → Tells numbers (length s) P r
@@ -173,6 +178,33 @@ empty-keeps : (slots cells : List ℕ) (n p : ℕ) → sized slots cells ≡ ref
     → (zeroed (sized slots cells) slots ≡ slots) × (zeroed (sized slots cells) cells ≡ cells)
 empty-keeps slots cells n p e = rw e (refl, refl)
 
+-- ---- the hash
+
+-- a state tells nothing
+some : {numbers : List ℕ} (s : Hash) → Tells numbers 0 (λ (x : Hash). Unit {0}) (shown s)
+some s = value tt
+
+add-fills : (b p : List ℕ) → Fills hashNumbers [] b (writes bytesOfState (addIn b p) b)
+add-fills b p = go (addIn b p) (add-tells b p)
+  where
+    go : (a : Answer Hash) → HashTells b a → Fills hashNumbers [] b (writes bytesOfState a b)
+    go (shown s) h = fills [] bytesOfState (shown s) b (some s)
+    go (refused n q) (short h) = too-short h
+    go (refused n q) too-long = Fills.refusal {p = 0} refl (omega arith)
+
+finish-fills : (b d : List ℕ) → FillsBoth hashNumbers [] b d (writes itself (finishIn b) d)
+unfolding written
+finish-fills b d = go (finishIn b) (finish-tells b)
+  where
+    room : (text : List ℕ) (t : Bool) → leb (length text) (length d) ≡ t → FillsBoth hashNumbers [] b d (pick t (shown (length text)) (refused 11 (length text)))
+    room text true e = FillsBoth.written
+    room text false e = second-short (leb-false (length text) (length d) e)
+
+    go : (a : Answer (List ℕ)) → HashTells b a → FillsBoth hashNumbers [] b d (writes itself a d)
+    go (shown text) h = room text (leb (length text) (length d)) refl
+    go (refused n q) (short h) = first-short h
+    go (refused n q) too-long = FillsBoth.refusal {p = 0} refl (omega arith)
+
 -- THE refusals of the C entries
 pub entries-refuse : Refusals
 entries-refuse =
@@ -194,12 +226,20 @@ entries-refuse =
       table-offer = λ slots cells s. offer-told outcomeNumber (offer-told (λ (o : Offer). o .outcome) (table-offer-tells s slots cells));
       table-slot = λ slots cells n. slot-told (λ (p : Stand). 0) (table-slot-tells slots cells n);
       table-empty = sized-tells;
+      sha256-start = λ b. fills [] bytesOfState (shown started) b (some started);
+      sha256-add = add-fills;
+      sha256-finish = finish-fills;
+      id-belongs = λ s. told s (λ b. pick b 1 0) (belongs-tells s);
       write-keeps = write-keeps;
       string-keeps = λ t d. write-keeps itself (readString t) d;
       elements-keep = elements-keep;
       both-keeps = both-keeps;
       offer-keeps = offer-keeps;
       empty-keeps = empty-keeps;
+      start-keeps = λ b. write-keeps bytesOfState (shown started) b;
+      add-keeps = λ b p. write-keeps bytesOfState (addIn b p) b;
+      finish-keeps = λ b d. write-keeps itself (finishIn b) d;
+      hash-not-0 = refl;
       packed-not-0 = refl;
       string-not-0 = refl;
       view-not-0 = refl;

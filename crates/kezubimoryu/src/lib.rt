@@ -3,6 +3,7 @@ use archive::Outcome;
 use bothreaders::BothRead;
 use event::Refusal;
 use event::Writing;
+use identity::IdRead;
 use notepack::CountRead;
 use notepack::ElementRead;
 use notepack::HeadRead;
@@ -15,7 +16,7 @@ ghost use mathlib.Core.Path.{_≡_};
 ghost use Rattle.scan.specs.Choice.{pick, andThen, shown};
 ghost use Rattle.event.specs.Answers.{twoNumbers};
 ghost use Rattle.event.specs.inner.Told.{writing};
-ghost use Rattle.buffer.specs.Entry.{writes, leaves};
+ghost use Rattle.buffer.specs.Entry.{written, filled, writes, leaves};
 ghost use Rattle.notepack.specs.Strict.{pack};
 ghost use Rattle.notepack.specs.Unpack.{unpack};
 ghost use Rattle.notepack.specs.Views.{numbersOf, textsIn, elementOf};
@@ -30,6 +31,9 @@ ghost use Rattle.rivals.specs.Rivals.{rivals};
 ghost use Rattle.table.specs.Offer.{outcomeOf, cellsAfter};
 ghost use Rattle.tableoffer.specs.inner.Decision.{offering};
 ghost use Rattle.tablebytes.specs.Entries.{tableOffer, bytesAfter, tableSlot, sized, zeroed};
+ghost use Rattle.sha256.specs.Pieces.{started};
+ghost use Rattle.sha256bytes.specs.StateBytes.{bytesOfState, addIn, finishIn};
+ghost use Rattle.identity.specs.Identity.{belongs};
 ghost use Rattle.kezubimoryu.specs.Entries.{ok, yesNo, lent, keptNumber, keptAnswer, outcomeNumber, outcomeTold};
 
 // `kez_answer` of the header: refusal 0 and a value, or the number of refusal and its place.
@@ -264,12 +268,48 @@ pub extern "C" fn kez_rivals(first: &[u8], second: &[u8]) -> KezAnswer
     }
 }
 
+#[no_mangle]
+pub extern "C" fn kez_sha256_start(state: &mut [u8]) -> KezAnswer
+    ensures { λ a. ⌜ (a .refusal, a .value) ≡ twoNumbers (written (bytesOfState started) (now (state .entry))) ⌝ }
+    ensures { λ _. ⌜ now (state .exit) ≡ filled (bytesOfState started) (now (state .entry)) ⌝ }
+{
+    written(sha256bytes::start_in(state))
+}
+
+#[no_mangle]
+pub extern "C" fn kez_sha256_add(state: &mut [u8], piece: &[u8]) -> KezAnswer
+    ensures { λ a. ⌜ (a .refusal, a .value) ≡ twoNumbers (writes bytesOfState (addIn (now (state .entry)) (now (piece .entry))) (now (state .entry))) ⌝ }
+    ensures { λ _. ⌜ now (state .exit) ≡ leaves bytesOfState (addIn (now (state .entry)) (now (piece .entry))) (now (state .entry)) ⌝ }
+{
+    written(sha256bytes::add_in(state, piece))
+}
+
+#[no_mangle]
+pub extern "C" fn kez_sha256_finish(state: &[u8], out: &mut [u8]) -> KezAnswer
+    ensures { λ a. ⌜ (a .refusal, a .value) ≡ twoNumbers (writes itself (finishIn (now (state .entry))) (now (out .entry))) ⌝ }
+    ensures { λ _. ⌜ now (out .exit) ≡ leaves itself (finishIn (now (state .entry))) (now (out .entry)) ⌝ }
+{
+    written(sha256bytes::finish_in(state, out))
+}
+
+// Whether the id is the SHA-256 of the canonical text.
+#[no_mangle]
+pub extern "C" fn kez_id_belongs(packed: &[u8]) -> KezAnswer
+    ensures { λ a. ⌜ (a .refusal, a .value) ≡ twoNumbers (yesNo (belongs (now (packed .entry)))) ⌝ }
+{
+    let found = identity::id_belongs(packed);
+    match found {
+        IdRead::Belongs(b) => { shown(bit(b)) }
+        IdRead::Refused(r) => refused(r),
+    }
+}
+
 // The version as one number: 10,000 for a major one, 100 for a minor one, 1 for a patch.
 #[no_mangle]
 pub extern "C" fn kez_version() -> u64
-    ensures { λ r. ⌜ r ≡ 800 ⌝ }
+    ensures { λ r. ⌜ r ≡ 900 ⌝ }
 {
-    800
+    900
 }
 
 fn outcome_number(o: Outcome) -> u64

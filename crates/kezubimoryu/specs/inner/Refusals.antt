@@ -29,6 +29,9 @@ use Rattle.rivals.specs.inner.Telling.{RivalsTell}
 use Rattle.table.specs.Offer.{outcomeOf, cellsAfter}
 use Rattle.tablebytes.specs.Entries.{tableOffer, bytesAfter, tableSlot, sized, zeroed}
 use Rattle.tablebytes.specs.inner.Telling.{OfferTells, SlotTells}
+use Rattle.sha256.specs.Pieces.{started}
+use Rattle.sha256bytes.specs.StateBytes.{bytesOfState, addIn, finishIn}
+use Rattle.identity.specs.Identity.{belongs}
 use Rattle.kezubimoryu.specs.Entries.{ok, yesNo, outcomeTold}
 
 -- an entry that only asks: a value, or one of the numbers at a place of the input
@@ -47,6 +50,10 @@ pub data FillsBoth (numbers s d₁ d₂ : List ℕ) : Answer ℕ → Type 0 wher
   refusal : {n p : ℕ} → among numbers n ≡ true → p ≤ length s → FillsBoth numbers s d₁ d₂ (refused n p)
   first-short : {n : ℕ} → length d₁ < n → FillsBoth numbers s d₁ d₂ (refused 11 n)
   second-short : {n : ℕ} → length d₂ < n → FillsBoth numbers s d₁ d₂ (refused 11 n)
+
+-- the hash: a message that is too long; it has no input with places, so its own is 0
+abbrev pub hashNumbers : List ℕ
+hashNumbers = 35 ∷ []
 
 -- what the NSON writer adds to the reader's numbers: 17, and 0 is a place of every input
 abbrev pub writerNumbers : List ℕ
@@ -72,6 +79,11 @@ pub record Refusals : Type 0 where
   pub table-offer : (slots cells s : List ℕ) → OfferTells s (outcomeTold (outcomeOf (tableOffer slots cells s)))
   pub table-slot : (slots cells : List ℕ) (n : ℕ) → SlotTells (ok (tableSlot slots cells n))
   pub table-empty : (slots cells : List ℕ) → Tells (34 ∷ []) 0 (λ (v : ℕ). Unit {0}) (sized slots cells)
+  -- SHA-256: 11 with a length that the state, or the digest's buffer, does not have; the id question
+  pub sha256-start : (b : List ℕ) → Fills [] [] b (writes bytesOfState (shown started) b)
+  pub sha256-add : (b p : List ℕ) → Fills hashNumbers [] b (writes bytesOfState (addIn b p) b)
+  pub sha256-finish : (b d : List ℕ) → FillsBoth hashNumbers [] b d (writes itself (finishIn b) d)
+  pub id-belongs : (s : List ℕ) → Asks packedNumbers s (yesNo (belongs s))
   -- after a refusal a lent buffer is as it was (rule 12.1.5): of an entry that writes the text of an event, and of both
   -- readers over one text
   pub write-keeps : (text : Event → List ℕ) (a : Answer Event) (d : List ℕ) (n p : ℕ) → writes text a d ≡ refused n p → leaves text a d ≡ d
@@ -82,7 +94,11 @@ pub record Refusals : Type 0 where
       → (bytesAfter (tableOffer slots cells s) slots ≡ slots) × (cellsAfter (tableOffer slots cells s) cells ≡ cells)
   pub empty-keeps : (slots cells : List ℕ) (n p : ℕ) → sized slots cells ≡ refused n p
       → (zeroed (sized slots cells) slots ≡ slots) × (zeroed (sized slots cells) cells ≡ cells)
+  pub start-keeps : (b : List ℕ) (n p : ℕ) → writes bytesOfState (shown started) b ≡ refused n p → leaves bytesOfState (shown started) b ≡ b
+  pub add-keeps : (b p : List ℕ) (n q : ℕ) → writes bytesOfState (addIn b p) b ≡ refused n q → leaves bytesOfState (addIn b p) b ≡ b
+  pub finish-keeps : (b d : List ℕ) (n p : ℕ) → writes itself (finishIn b) d ≡ refused n p → leaves itself (finishIn b) d ≡ d
   -- no number is 0
+  pub hash-not-0 : among hashNumbers 0 ≡ false
   pub packed-not-0 : among writerNumbers 0 ≡ false
   pub string-not-0 : among stringNumbers 0 ≡ false
   pub view-not-0 : among viewNumbers 0 ≡ false

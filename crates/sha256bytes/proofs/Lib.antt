@@ -1,0 +1,4 @@
+pub mod StateLaws
+pub mod Entries
+pub mod Calls
+pub mod Telling
