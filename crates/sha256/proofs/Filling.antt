@@ -109,6 +109,18 @@ module _ (s : Hash) (p : List ℕ) (whole : length (s .pending) ≡ 64) where
       let a : w ++ p ≡ front ++ drop (64 - r) p = ap (λ (l : List ℕ). w ++ l) (sym (take-append-drop (64 - r) p)) ∙ sym (append-assoc w (take (64 - r) p) (drop (64 - r) p)) in
       rw (a, hashed-append (s .chain) front (drop (64 - r) p), behind-append front (drop (64 - r) p), behind-whole front v, ← g, ← b, ← f, ← i, ← j)
 
+-- nothing waits
+pub none-waits : (s : Hash) (p : List ℕ) → s .count % 64 ≡ 0 → settled (s .chain) p (s .count + length p) ≡ withPiece s p
+unfolding withPiece waiting
+none-waits s p h = rw h
+
+-- the rest behind a block that was ended
+pub rest-settled : (s : Hash) (p : List ℕ) (whole : length (s .pending) ≡ 64) (block rest : List ℕ) (h : Words) (x : Hash) → 64 - s .count % 64 ≤ length p
+    → block ≡ zeroFilled (take (s .count % 64) (s .pending) ++ take (64 - s .count % 64) p)
+    → h ≡ hashed (s .chain) block → rest ≡ drop (64 - s .count % 64) p → x ≡ settled h rest (s .count + length p) → x ≡ withPiece s p
+unfolding settled
+rest-settled s p whole block rest h x k e f g i = i ∙ long-piece s p whole block rest (zeroFilled (behindBlocks rest)) h (hashed h rest) k e f g refl refl
+
 -- ---- the padding
 
 take-replicate : (n m : ℕ) → n ≤ m → take {A = ℕ} n (replicate m 0) ≡ replicate n 0

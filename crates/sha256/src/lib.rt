@@ -9,7 +9,7 @@ ghost use Rattle.sha256.specs.Constants.{constants};
 ghost use Rattle.sha256.specs.Compression.{wordOf, wordsOf, nextWord, schedule};
 ghost use Rattle.sha256.specs.Compression.{round, rounds, addWords, compress};
 ghost use Rattle.sha256.specs.Message.{wordBytes, longBytes, digestBytes, hashed};
-ghost use Rattle.sha256.specs.Pieces.{zeroFilled, started, tooLong, addedTo, finalWords, finishOf};
+ghost use Rattle.sha256.specs.Pieces.{zeroFilled, started, tooLong, addedTo, finalWords, finishOf, settled};
 ghost use Rattle.sha256.specs.inner.Answers.{finishTold};
 
 // The 64 constants (4.2.2).
@@ -395,6 +395,20 @@ fn block_of(front: &[u8], piece: &[u8]) -> [u8; 64]
     block
 }
 
+// The state behind the bytes of l, where h0 was before them: whole blocks are hashed, and the rest waits.
+fn settle(h0: Words, l: &[u8], count: u64) -> Hash
+    ensures { λ r. ⌜ r ≡ settled h0 (now (l .entry)) count ⌝ }
+{
+    let h = whole_blocks(h0, l);
+    let done = l.len() / 64 * 64;
+    let tail = block_of(&l[done..], &l[..0]);
+    Hash {
+        chain: h,
+        pending: tail,
+        count: count,
+    }
+}
+
 // One piece more; the state as it was where the message would be too long.
 pub fn add(s: Hash, piece: &[u8]) -> Hash
     ensures { λ r. ⌜ r ≡ addedTo s (now (piece .entry)) ⌝ }
@@ -406,6 +420,9 @@ pub fn add(s: Hash, piece: &[u8]) -> Hash
     let count = s.count + piece.len() as u64;
     let pending = s.pending;
     let chain = s.chain;
+    if waits == 0 {
+        return settle(chain, piece, count);
+    }
     let room = 64 - waits;
     if piece.len() < room {
         let block = block_of(&pending[..waits], piece);
@@ -416,15 +433,7 @@ pub fn add(s: Hash, piece: &[u8]) -> Hash
         };
     }
     let block = block_of(&pending[..waits], &piece[..room]);
-    let rest = &piece[room..];
-    let h = whole_blocks(whole_blocks(chain, &block), rest);
-    let done = rest.len() / 64 * 64;
-    let tail = block_of(&rest[done..], &rest[..0]);
-    Hash {
-        chain: h,
-        pending: tail,
-        count: count,
-    }
+    settle(whole_blocks(chain, &block), &piece[room..], count)
 }
 
 // 5.1.1: the bytes that wait and the padding, which are the last block or the last two.
