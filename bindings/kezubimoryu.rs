@@ -417,7 +417,7 @@ pub enum Outcome {
 ///
 /// A table that a version before 0.10.0 filled may be refused with 34, since two events of one author and one kind,
 /// 30000 to 39999, whose labels are missing or empty, are one record now. List it with that version, and offer what it
-/// had to a new table: none is refused.
+/// had to a new table: none is refused. What that version refused with 23 is offered too.
 ///
 /// ```ignore
 /// let mut table = kezubimoryu::Table::new();

@@ -231,12 +231,13 @@ static inline int kez_rivals_refused(const uint8_t *first, size_t first_len)
  * Two threads must not call with the same table at once, unless both only view it.
  *
  * A table that a version before 0.10.0 filled is emptied and offered its events again, once. To that version an event
- * of kinds 30000 to 39999 without a label had no key, and it kept each edition beside the last. Two of one author and
- * kind whose labels are missing or empty have one key now, so a table that has two of them is refused with 34, at the
- * lowest slot that has one (or an otherwise bad one). Copy the events out first: with that version by kez_table_slot,
- * for slots 0 to 63, or, if it is gone, by the layout above, those of used slots. Keep the copies until the last is
- * offered. Then empty the table and offer it the copies, in any order. None of them is refused, and of the editions the
- * current one is kept. What that version refused with 23 is not among them: offer it too.
+ * of kinds 30000 to 39999 without a label (no tag has "d" in front, or nothing stands behind the "d" of the first) had
+ * no key, and it kept each edition beside the last. Two of one author and kind whose labels are missing or empty have
+ * one key now, so a table that has two of them is refused with 34, at the lowest slot that has one (or an otherwise bad
+ * one). Copy the events out first: with that version by kez_table_slot, for slots 0 to 63, or, if it is gone, by the
+ * layout above, those of used slots. Keep the copies until the last is offered. Then empty the table and offer it the
+ * copies, in any order. None of them is refused, unless the table was damaged too, and of the editions the current one
+ * is kept. What that version refused with 23 is not among them: offer it too.
  * Rules 12.6.9, 15. */
 #define KEZ_SLOTS 64
 #define KEZ_SLOT_BYTES 16

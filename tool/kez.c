@@ -1031,10 +1031,17 @@ static uint64_t twin(uint64_t slot, const bytes *b)
     return i;
 }
 
-/* What is wrong with a bad slot. Is it the label, as in a table that was filled before 0.10.0? */
+/* Could a version before 0.10.0 have kept both of two events of one name? It kept one without a label by its id. */
+static int kept_before(const bytes *a, const bytes *b)
+{
+    int mine = label(a) != NULL, other = label(b) != NULL;
+    return mine != other || (!mine && memcmp(a->at + KEZ_ID_AT, b->at + KEZ_ID_AT, KEZ_ID_LEN));
+}
+
+/* What is wrong with a bad slot. Is it a missing label, as in a table that was filled before 0.10.0? */
 static int tell_slot(uint64_t slot)
 {
-    bytes b;
+    bytes b, other;
     uint64_t len, kind = 0, n[4];
     said(slot, &b, &len);
     kez_answer a = kez_notepack_read(b.at, b.len, &n[0], &kind, &n[1], &n[2], &n[3]);
@@ -1049,9 +1056,10 @@ static int tell_slot(uint64_t slot)
     } else if (kind >= 20000 && kind <= 29999) {
         fprintf(stderr, " has an event of kind %" PRIu64 ", and these are never kept.\n", kind);
     } else {
-        fprintf(stderr, " and slot %" PRIu64 " have two events of which one alone may be kept.\n", twin(slot, &b));
-        const uint8_t *e = label(&b);
-        if (has_label(kind) && (!e || !number_at(e + 8))) {
+        uint64_t second = twin(slot, &b);
+        fprintf(stderr, " and slot %" PRIu64 " have two events of which one alone may be kept.\n", second);
+        said(second, &other, &len);
+        if (has_label(kind) && kept_before(&b, &other)) {
             fprintf(stderr, "     Their label is missing or empty, so they are one record; before 0.10.0 a missing "
                             "label made each its own. The manual says how to mend such a table.\n");
             return 1;
