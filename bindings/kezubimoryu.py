@@ -31,7 +31,7 @@ import os
 import struct
 from typing import Any, Dict, Iterator, List, NamedTuple, Optional, Tuple, Union
 
-__version__ = "0.9.0"
+__version__ = "0.10.0"
 
 __all__ = [
     "KEZ_MOST", "KEZ_CANONICAL_MOST", "KEZ_NOTEPACK_STRING_MOST", "KEZ_ELEMENT_BYTES", "KEZ_ELEMENTS_MOST",
@@ -606,7 +606,11 @@ class Table:
     kezubimoryu.Refused: refused 34 at 0: The table is not as it must be: not of 64 slots and cells, \
 or a used slot without a strict event to be kept, or with the name of another.
 
-    Two threads must not use one table at once. Rules 15.1 to 15.24."""
+    Two threads must not use one table at once. Rules 15.1 to 15.24.
+
+    A table that a version before 0.10.0 filled may be refused with 34, since two events of one author and one kind,
+    30000 to 39999, whose labels are missing or empty, are one record now. List it with that version, and offer what it
+    had to a new table: none is refused. What that version refused with 23 is offered too."""
 
     _slots: Any
     _cells: Any

@@ -21,7 +21,7 @@
 use std::fmt;
 
 /// The version of the library, as in the header.
-pub const KEZ_VERSION: &str = "0.9.0";
+pub const KEZ_VERSION: &str = "0.10.0";
 /// No accepted input is longer, but for a string form, of which the bytes that it holds are counted, and a piece of a
 /// message that is hashed; nor is an event in strict form, nor NSON (rules 1.9, 14.3 and 16.8). A strict form is never
 /// longer than what it was read from, so a buffer as long as the packed bytes or the text is always enough (rules 3.7
@@ -414,6 +414,10 @@ pub enum Outcome {
 
 /// A table of current records: of the events with a key one for each key, the current one, and of those without a key
 /// one for each id. It owns its bytes. (Rules 15.1 to 15.24.)
+///
+/// A table that a version before 0.10.0 filled may be refused with 34, since two events of one author and one kind,
+/// 30000 to 39999, whose labels are missing or empty, are one record now. List it with that version, and offer what it
+/// had to a new table: none is refused. What that version refused with 23 is offered too.
 ///
 /// ```ignore
 /// let mut table = kezubimoryu::Table::new();

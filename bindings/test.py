@@ -181,9 +181,11 @@ for data, outcome in ((form, "NEW"), (offered(1, 5, 0), "NEW"), (offered(2, 6, 0
                       (offered(1, 6, 0), "REPLACED"), (offered(2, 6, 0), "LOSES"), (offered(9, 5, 0), "LOSES"),
                       (offered(1, 6, 0), "HELD"), (offered(7, 6, 1), "NEW"), (offered(7, 9, 2), "HELD"),
                       (offered(1, 5, 20000), "NOT_KEPT"), (offered(1, 5, 29999), "NOT_KEPT"),
-                      (offered(8, 5, 30000), "NEW")):
+                      (offered(8, 5, 30000), "NEW"), (offered(7, 4, 30000), "LOSES"),
+                      (offered(9, 6, 30000, b"\0\1\1\2d"), "REPLACED"),
+                      (offered(9, 7, 30000, b"\0\1\2\2d\0"), "REPLACED"), (offered(8, 8, 30000), "REPLACED")):
     check("offered, to be %s" % outcome, table.offer(data), kez.Outcome[outcome])
-kept = [(0, form), (1, offered(1, 6, 0)), (2, offered(7, 6, 1)), (3, offered(8, 5, 30000))]
+kept = [(0, form), (1, offered(1, 6, 0)), (2, offered(7, 6, 1)), (3, offered(8, 8, 30000))]
 check("what is kept", list(table), kept)
 check("slot by slot", [kez.kez_table_slot(table, n) for n in range(4)], [data for _, data in kept])
 before = bytes(table)

@@ -174,6 +174,7 @@ fn all_elements(record: &[u8]) -> Result<(), Refused> {
 fn table(record: &[u8]) -> Result<(), Refused> {
     let event = |id: u8, time: u8, kind: &[u8]| [&[id][..], &[0; 127], &[time], kind, &[0, 0]].concat();
     let ephemeral = event(1, 5, &[0xa1, 0x9c, 1]);
+    let unlabelled = [0xb0, 0xea, 1]; // kind 30000, and no tags
     let mut table = Table::new();
     assert_eq!(table, Table::default());
     for (packed, outcome) in [
@@ -186,10 +187,13 @@ fn table(record: &[u8]) -> Result<(), Refused> {
         (&event(7, 6, &[1]), Outcome::New),
         (&event(7, 9, &[2]), Outcome::Held),
         (&ephemeral, Outcome::NotKept),
+        (&event(8, 5, &unlabelled), Outcome::New),
+        (&event(9, 6, &unlabelled), Outcome::Replaced),
+        (&event(8, 4, &unlabelled), Outcome::Loses),
     ] {
         assert_eq!(table.offer(packed)?, outcome);
     }
-    let kept = [(0, record), (1, &event(1, 6, &[0])), (2, &event(7, 6, &[1]))];
+    let kept = [(0, record), (1, &event(1, 6, &[0])), (2, &event(7, 6, &[1])), (3, &event(9, 6, &unlabelled))];
     assert_eq!(table.kept()?, kept);
     assert_eq!((table.slot(0)?, table.slot(2)?), (kept[0].1, kept[2].1));
     let before = table.clone();
@@ -199,10 +203,10 @@ fn table(record: &[u8]) -> Result<(), Refused> {
         assert_eq!(table.offer(packed), Err(Refused { number, place }));
         assert_eq!(table, before);
     }
-    for n in [3, 63, 64, u64::MAX] {
+    for n in [4, 63, 64, u64::MAX] {
         assert_eq!(table.slot(n), Err(Refused { number: 19, place: 0 }));
     }
-    for id in 10..71 {
+    for id in 10..70 {
         assert_eq!(table.offer(&event(id, 5, &[1]))?, Outcome::New);
     }
     assert_eq!(table.offer(&event(71, 5, &[1])), Err(Refused { number: 23, place: 0 }));

@@ -1099,12 +1099,15 @@ static void offers(void)
     stored(&b, &b, KEZ_TABLE_NEW, 5);
     record(&b, 9, 2, 99, 40000, "", 500);
     changes_nothing(&b, 0, KEZ_TABLE_HELD);
-    event(&b, 9, 30000); /* no tags, so no label: its id is 0 */
+    event(&b, 9, 30000); /* no tags, so the label is empty; its id is 0 */
     put_varint(&b, 0);
     stored(&b, &b, KEZ_TABLE_NEW, 6);
     event(&b, 10, 30000);
     put_varint(&b, 0);
-    changes_nothing(&b, 0, KEZ_TABLE_HELD);
+    stored(&b, &b, KEZ_TABLE_REPLACED, 6);
+    event(&b, 8, 30000);
+    put_varint(&b, 0);
+    changes_nothing(&b, 0, KEZ_TABLE_LOSES);
     for (uint64_t kind = 20000; kind < 30000; kind += 9999) {
         record(&b, 1, 1, 9, kind, "map", 0);
         changes_nothing(&b, 0, KEZ_TABLE_NOT_KEPT);
@@ -1330,6 +1333,111 @@ static void twins(void)
     want_record(30, &loose);
     lent = wanted;
     bad_table(30);
+}
+
+/* The label by the tags, for two of one author: empty where no tag has "d" in front, or where nothing or an empty text
+ * is behind the first that has it. As rivals, offered one after the other, and found in a table that was filled
+ * before. */
+static void labels(void)
+{
+    static const struct {
+        const char *tags;
+        size_t len;
+        char label;
+    } shapes[] = {
+        {"\0", 1, 0}, {"\1\1\2d", 4, 0}, {"\1\2\2d\0", 5, 0}, {"\2\1\2d\2\2d\2x", 9, 0}, {"\2\2\2d\0\2\2d\2x", 10, 0},
+        {"\1\3\2d\0\2x", 7, 0}, {"\2\2\2e\2x\1\2d", 9, 0}, {"\1\2\4dx\2x", 7, 0}, {"\1\2\2D\2x", 6, 0},
+        {"\1\3\2e\2d\2x", 8, 0},
+        {"\1\2\2d\2x", 6, 'x'}, {"\1\3\2d\2x\0", 7, 'x'}, {"\2\2\2d\2x\1\2d", 9, 'x'}, {"\2\2\2e\2y\2\2d\2x", 11, 'x'},
+        {"\2\2\2d\2X\2\2d\2x", 11, 'X'}, {"\1\2\2d\2d", 6, 'd'},
+    };
+    static bytes one, other_one;
+    const size_t count = sizeof shapes / sizeof *shapes;
+    for (size_t i = 0; i < 2 * count * count; i++) {
+        size_t a = i % count, b = i / count % count;
+        uint64_t kind = i < count * count ? 30000 : 39999;
+        int same = shapes[a].label == shapes[b].label;
+        event(&one, 9, kind);
+        put(&one, shapes[a].tags, shapes[a].len);
+        event(&other_one, 10, kind);
+        put(&other_one, shapes[b].tags, shapes[b].len);
+        other_one.at[0] = 1;
+        CHECK(is(kez_rivals(one.at, one.len, other_one.at, other_one.len), 0, same ? 2 : 0), "tags %zu and %zu", a, b);
+        start_table();
+        stored(&one, &one, KEZ_TABLE_NEW, 0);
+        stored(&other_one, &other_one, same ? KEZ_TABLE_REPLACED : KEZ_TABLE_NEW, !same);
+        start_table();
+        want_record(40, &one);
+        want_record(8, &other_one);
+        lent = wanted;
+        if (same)
+            bad_table(8);
+        else
+            changes_nothing(&one, 0, KEZ_TABLE_HELD);
+    }
+}
+
+/* An event without tags, with a number for its id and one for its author. */
+static void untagged(bytes *b, uint8_t id, uint8_t author, uint64_t time, uint64_t kind)
+{
+    event(b, time, kind);
+    put_varint(b, 0);
+    b->at[0] = id;
+    b->at[32] = author;
+}
+
+/* No label: beside a hollow one, with another author or kind, and of the kinds below and above. */
+static void no_label(void)
+{
+    static bytes one, other_one, form;
+#define ARE(value) is(kez_rivals(one.at, one.len, other_one.at, other_one.len), 0, value)
+    untagged(&one, 0, 0, 10, 30000);
+    event(&other_one, 9, 30000);
+    PUT(&other_one, "\1\2\2d\1");
+    CHECK(ARE(1), "an earlier one with a hollow label");
+    other_one.at[128] = 11;
+    CHECK(ARE(2), "a later one with a hollow label");
+    form = other_one;
+    form.at[form.len - 1] = 0;
+    start_table();
+    stored(&one, &one, KEZ_TABLE_NEW, 0);
+    stored(&other_one, &form, KEZ_TABLE_REPLACED, 0);
+    changes_nothing(&one, 0, KEZ_TABLE_LOSES);
+    untagged(&other_one, 1, 1, 11, 30000);
+    CHECK(ARE(0), "another author");
+    untagged(&other_one, 1, 0, 11, 30001);
+    CHECK(ARE(0), "another kind");
+    untagged(&one, 0, 0, 10, 29999);
+    untagged(&other_one, 1, 0, 11, 29999);
+    CHECK(ARE(0), "kind 29999");
+    start_table();
+    changes_nothing(&one, 0, KEZ_TABLE_NOT_KEPT);
+    changes_nothing(&other_one, 0, KEZ_TABLE_NOT_KEPT);
+    untagged(&one, 0, 0, 10, 40000);
+    untagged(&other_one, 1, 0, 11, 40000);
+    CHECK(ARE(0), "kind 40000");
+    stored(&one, &one, KEZ_TABLE_NEW, 0);
+    stored(&other_one, &other_one, KEZ_TABLE_NEW, 1);
+}
+
+/* None of 64 events that fit a cell is refused by an emptied table, whatever they are; rule 12.6.9. One more is, where
+ * each has a name of its own. */
+static void offered_again(void)
+{
+    static const uint64_t kinds[] = {30000, 20000, 1, 0, 30000}; /* of the last, each has another author and no tags */
+    static bytes b;
+    for (int i = 0; i < 5; i++) {
+        start_table();
+        for (uint8_t n = 0; n <= KEZ_SLOTS; n++) {
+            if (i < 4)
+                record(&b, n, kinds[i] ? 1 : n, 9, kinds[i], n % 2 ? "map" : "", KEZ_CELL_BYTES);
+            else
+                untagged(&b, 0, n, 9, kinds[i]);
+            kez_answer a = offer(b.at, b.len);
+            int good = i > 1 && n == KEZ_SLOTS ? is(a, 23, 0) : !a.refusal;
+            CHECK(good, "kind %d, event %d: %d at %d", (int)kinds[i], n, (int)a.refusal, (int)a.value);
+        }
+    }
 }
 
 /* Buffers of other sizes, for every entry; nothing of them changes. */
@@ -1845,6 +1953,9 @@ int main(void)
     marks();
     bad_slots();
     twins();
+    labels();
+    no_label();
+    offered_again();
     table_sizes();
     any_order();
     nist();

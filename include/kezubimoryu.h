@@ -48,8 +48,8 @@ extern "C" {
 
 /* The version of this header; the tool and the pkg-config file have it from here. As a number: 10,000 for a major
  * version, 100 for a minor one, 1 for a patch. */
-#define KEZ_VERSION "0.9.0"
-#define KEZ_VERSION_NUMBER 900
+#define KEZ_VERSION "0.10.0"
+#define KEZ_VERSION_NUMBER 1000
 
 /* The version of the library that runs, as such a number. A host that was compiled with this header and runs with the
  * library of the same version has kez_version() == KEZ_VERSION_NUMBER.
@@ -193,8 +193,9 @@ kez_answer kez_notepack_string_read(const uint8_t *text, size_t text_len,
 
 /* Which of two packed events is to be kept? Two events are rivals, versions of one record, if both have a key and the
  * keys are equal. The key of kinds 0, 3 and 10000 to 19999 is author and kind; that of kinds 30000 to 39999 is author,
- * kind and label (the text behind "d", in the first tag with "d" in front). Other events have no key. Of two rivals
- * the later is kept; at equal times the one with the lower id; if the ids are equal too, the first.
+ * kind and label. The label is the text behind "d", in the first tag with "d" in front; where no text is behind it, or
+ * no such tag is there, it is the empty text. Other events have no key. Of two rivals the later is kept; at equal times
+ * the one with the lower id; if the ids are equal too, the first.
  * Refusals: those of kez_notepack_read. Any refusal of the first input comes before those of the second. The place is
  * one in the input that is refused, and the answer does not say which that is; kez_rivals_refused below tells.
  * value: 0 not rivals, 1 keep the first, 2 keep the second
@@ -228,7 +229,16 @@ static inline int kez_rivals_refused(const uint8_t *first, size_t first_len)
  * table any more is refused with 34; but a changed content or signature is not seen, since only the id
  * (kez_id_belongs) and the signature could show it. The two buffers overlap neither each other nor what else is passed.
  * Two threads must not call with the same table at once, unless both only view it.
- * Rules 15. */
+ *
+ * A table that a version before 0.10.0 filled is emptied and offered its events again, once. To that version an event
+ * of kinds 30000 to 39999 without a label (no tag has "d" in front, or nothing stands behind the "d" of the first) had
+ * no key, and it kept each edition beside the last. Two of one author and kind whose labels are missing or empty have
+ * one key now, so a table that has two of them is refused with 34, at the lowest slot that has one (or an otherwise bad
+ * one). Copy the events out first: with that version by kez_table_slot, for slots 0 to 63, or, if it is gone, by the
+ * layout above, those of used slots. Keep the copies until the last is offered. Then empty the table and offer it the
+ * copies, in any order. None of them is refused, unless the table was damaged too, and of the editions the current one
+ * is kept. What that version refused with 23 is not among them: offer it too.
+ * Rules 12.6.9, 15. */
 #define KEZ_SLOTS 64
 #define KEZ_SLOT_BYTES 16
 #define KEZ_CELL_BYTES 1024

@@ -985,6 +985,25 @@ static int said(uint64_t slot, bytes *b, uint64_t *len)
     return table[slot * KEZ_SLOT_BYTES];
 }
 
+static int has_label(uint64_t kind)
+{
+    return kind >= 30000 && kind <= 39999;
+}
+
+/* The element with the label: the second text of the first tag with "d" in front. NULL: there is none, and the label is
+ * the empty text. */
+static const uint8_t *label(const bytes *b)
+{
+    uint64_t count = kez_notepack_elements(b->at, b->len, 0, list, sizeof list).value;
+    for (uint64_t i = 0; i < count; i++) {
+        const uint8_t *e = list + i * KEZ_ELEMENT_BYTES;
+        int heads = !i || number_at(e - KEZ_ELEMENT_BYTES) != number_at(e);
+        if (heads && number_at(e + 8) == 1 && !number_at(e + 12) && b->at[number_at(e + 4)] == 'd')
+            return i + 1 < count && number_at(e + KEZ_ELEMENT_BYTES) == number_at(e) ? e + KEZ_ELEMENT_BYTES : NULL;
+    }
+    return NULL;
+}
+
 /* Are these two strict events kept under one name: one key, or, both without a key, one id? */
 static int same_name(const bytes *a, const bytes *b)
 {
@@ -1012,9 +1031,17 @@ static uint64_t twin(uint64_t slot, const bytes *b)
     return i;
 }
 
-static void tell_slot(uint64_t slot)
+/* Could a version before 0.10.0 have kept both of two events of one name? It kept one without a label by its id. */
+static int kept_before(const bytes *a, const bytes *b)
 {
-    bytes b;
+    int mine = label(a) != NULL, other = label(b) != NULL;
+    return mine != other || (!mine && memcmp(a->at + KEZ_ID_AT, b->at + KEZ_ID_AT, KEZ_ID_LEN));
+}
+
+/* What is wrong with a bad slot. Is it a missing label, as in a table that was filled before 0.10.0? */
+static int tell_slot(uint64_t slot)
+{
+    bytes b, other;
     uint64_t len, kind = 0, n[4];
     said(slot, &b, &len);
     kez_answer a = kez_notepack_read(b.at, b.len, &n[0], &kind, &n[1], &n[2], &n[3]);
@@ -1029,21 +1056,32 @@ static void tell_slot(uint64_t slot)
     } else if (kind >= 20000 && kind <= 29999) {
         fprintf(stderr, " has an event of kind %" PRIu64 ", and these are never kept.\n", kind);
     } else {
-        fprintf(stderr, " and slot %" PRIu64 " have two events of which one alone may be kept.\n", twin(slot, &b));
+        uint64_t second = twin(slot, &b);
+        fprintf(stderr, " and slot %" PRIu64 " have two events of which one alone may be kept.\n", second);
+        said(second, &other, &len);
+        if (has_label(kind) && kept_before(&b, &other)) {
+            fprintf(stderr, "     Their label is missing or empty, so they are one record; before 0.10.0 a missing "
+                            "label made each its own. The manual says how to mend such a table.\n");
+            return 1;
+        }
     }
+    return 0;
 }
 
 static int refused_table(kez_answer a)
 {
+    int by_label = 0;
     fprintf(stderr, "%s: ", files[0]);
     tell_refusal(a);
     if (table_len != TABLE)
         fprintf(stderr, "     It has %s%zu bytes, and a table has %d: %d of slots, then %d of cells.\n",
                 table_len > TABLE ? "at least " : "", table_len, TABLE, KEZ_SLOTS_BYTES, KEZ_CELLS_BYTES);
     else
-        tell_slot(a.value);
-    fprintf(stderr, "     The file is no table, or was damaged; it was left as it is. Take a good copy of it, or offer "
-                    "the records to a new file.\n");
+        by_label = tell_slot(a.value);
+    fputs(by_label ? "     It was left as it is.\n"
+                   : "     The file is no table, or was damaged; it was left as it is. Take a good copy of it, or "
+                     "offer the records to a new file.\n",
+          stderr);
     return REFUSED;
 }
 
@@ -1132,19 +1170,6 @@ static int write_table(const char *path, int folder)
 
 /* Listing what is kept. */
 
-/* The label of an event of kinds 30000 to 39999: the second text of the first tag with "d" in front. NULL: none. */
-static const uint8_t *label(const bytes *b, uint64_t kind)
-{
-    uint64_t count = kez_notepack_elements(b->at, b->len, 0, list, sizeof list).value;
-    for (uint64_t i = 0; kind >= 30000 && kind <= 39999 && i < count; i++) {
-        const uint8_t *e = list + i * KEZ_ELEMENT_BYTES;
-        int heads = !i || number_at(e - KEZ_ELEMENT_BYTES) != number_at(e);
-        if (heads && number_at(e + 8) == 1 && !number_at(e + 12) && b->at[number_at(e + 4)] == 'd')
-            return i + 1 < count && number_at(e + KEZ_ELEMENT_BYTES) == number_at(e) ? e + KEZ_ELEMENT_BYTES : NULL;
-    }
-    return NULL;
-}
-
 static void put_field(const bytes *b, const char *name, size_t at, size_t len)
 {
     put(json ? ",\"%s\":\"" : " %s ", name);
@@ -1158,7 +1183,6 @@ static void put_kept(uint64_t slot, const bytes *b)
     uint64_t created_at = 0, kind = 0, n[3];
     kez_notepack_read(b->at, b->len, &created_at, &kind, &n[0], &n[1], &n[2]);
     int has_key = kez_rivals(b->at, b->len, b->at, b->len).value != 0;
-    const uint8_t *e = label(b, kind);
     put(json ? "{\"slot\":%" PRIu64 ",\"kind\":%" PRIu64 ",\"created_at\":%" PRIu64 ",\"length\":%zu"
              : "slot %" PRIu64 " kind %" PRIu64 " created_at %" PRIu64 " length %zu",
         slot, kind, created_at, b->len);
@@ -1166,9 +1190,10 @@ static void put_kept(uint64_t slot, const bytes *b)
         put_field(b, "id", KEZ_ID_AT, KEZ_ID_LEN);
     if (json || has_key)
         put_field(b, "pubkey", KEZ_PUBKEY_AT, KEZ_PUBKEY_LEN);
-    if (e) {
+    if (has_label(kind)) {
+        const uint8_t *e = label(b);
         put(json ? ",\"label\":" : " label ");
-        put_text(b->at + number_at(e + 4), number_at(e + 8), number_at(e + 12) == 1);
+        put_text(e ? b->at + number_at(e + 4) : b->at, e ? number_at(e + 8) : 0, e && number_at(e + 12) == 1);
     }
     put(json ? "}" : "\n");
 }

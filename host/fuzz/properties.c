@@ -668,12 +668,27 @@ static kez_answer rivals_of(const uint8_t *data, size_t len, const uint8_t *othe
     return a;
 }
 
+static uint64_t kind_of(const uint8_t *packed, size_t len)
+{
+    uint64_t kind = 0, none;
+    kez_notepack_read(packed, len, &none, &kind, &none, &none, &none);
+    return kind;
+}
+
+/* Have all events of this kind a key? If not, none has one. */
+static int keyed(uint64_t kind)
+{
+    return kind == 0 || kind == 3 || (kind >= 10000 && kind <= 19999) || (kind >= 30000 && kind <= 39999);
+}
+
 static void as_rivals(const uint8_t *data, size_t len, const uint8_t *other, size_t other_len)
 {
     kez_answer one = rivals_of(data, len, other, other_len), two = rivals_of(other, other_len, data, len);
     must(!one.refusal == !two.refusal, "refuses two inputs in one order only");
     if (one.refusal)
         return;
+    must(rivals_of(data, len, data, len).value == (uint64_t)keyed(kind_of(data, len)),
+         "takes a key for none, or none for a key");
     must(!one.value == !two.value, "takes two inputs as rivals in one order only");
     if (one.value == 2)
         must(two.value == 1, "keeps another record in the other order");
@@ -736,8 +751,7 @@ static void must_hold(const table *t, const char *what)
 
 static int kind_passes(const uint8_t *packed, size_t len)
 {
-    uint64_t kind, none;
-    kez_notepack_read(packed, len, &none, &kind, &none, &none, &none);
+    uint64_t kind = kind_of(packed, len);
     return kind >= 20000 && kind <= 29999;
 }
 
@@ -909,6 +923,11 @@ static void small_record(own *r)
     r->at[r->len++] = roll(8) != 0;
     if (!r->at[r->len - 1])
         return;
+    if (!roll(8)) { /* "d" and nothing behind it */
+        memcpy(r->at + r->len, "\1\2d", 3);
+        r->len += 3;
+        return;
+    }
     r->at[r->len++] = 2;
     r->at[r->len++] = 2;
     r->at[r->len++] = 'd';

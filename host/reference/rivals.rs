@@ -17,7 +17,7 @@ pub enum Which {
     Second,
 }
 
-/// What rivals have in common. The kinds that are replaceable without a label have no text.
+/// What rivals have in common. The kinds that are replaceable by author and kind alone have no text.
 pub struct Key<'a> {
     pubkey: &'a [u8],
     kind: u64,
@@ -37,26 +37,26 @@ impl Key<'_> {
 pub fn key<'a>(p: &Packed<'a>) -> Option<Key<'a>> {
     let text = match p.kind {
         0 | 3 | 10_000..=19_999 => None,
-        30_000..=39_999 => Some(d_text(p)?),
+        30_000..=39_999 => Some(label(p)),
         _ => return None,
     };
     Some(Key { pubkey: p.pubkey(), kind: p.kind, text })
 }
 
-/// The text behind `d`, in the first tag with `d` in front.
-fn d_text<'a>(p: &Packed<'a>) -> Option<Text<'a>> {
+/// The text behind `d`, in the first tag with `d` in front. It is empty where no text or no such tag is there.
+fn label<'a>(p: &Packed<'a>) -> Text<'a> {
     let mut items = p.items();
     while let Some(item) = items.next() {
         let Item::Tag(count) = item else { continue };
-        let Some(Item::Text(name)) = items.next() else { return None };
+        let Some(Item::Text(name)) = items.next() else { break };
         if name.same(&Text::plain(b"d")) {
             return match items.next() {
-                Some(Item::Text(text)) if count > 1 => Some(text),
-                _ => None,
+                Some(Item::Text(text)) if count > 1 => text,
+                _ => Text::plain(b""),
             };
         }
     }
-    None
+    Text::plain(b"")
 }
 
 fn same_key(a: &Packed, b: &Packed) -> bool {

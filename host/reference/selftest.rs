@@ -283,6 +283,10 @@ fn tables(same: &mut impl FnMut(&str, String, String)) {
     let mut ask = |request: &str| session.answer(request).unwrap_or_default();
     let offered = |s: &[u8]| format!("table_offer {}", hex(s));
     let with_kind = |kind: u64| record(1, 1, 9, kind, "map");
+    let tagged = |id: u8, time: u8, tags: &[u8]| {
+        let fixed = [[id; 32], [1; 32], [7; 32], [7; 32]].concat();
+        [&fixed[..], &[time, 0xb0, 0xea, 1, 0], tags].concat()
+    };
     for (what, event, wanted) in [
         ("the first", record(5, 1, 9, 30_000, "map"), "new"),
         ("the same", record(5, 1, 9, 30_000, "map"), "held"),
@@ -291,6 +295,12 @@ fn tables(same: &mut impl FnMut(&str, String, String)) {
         ("as late, a lower id", record(4, 1, 9, 30_000, "map"), "replaced"),
         ("a later one", record(6, 1, 10, 30_000, "map"), "replaced"),
         ("another label", record(6, 1, 9, 30_000, "test"), "new"),
+        ("an empty label", record(6, 1, 9, 30_000, ""), "new"),
+        ("no text behind d", tagged(5, 10, b"\x01\x01\x02d"), "replaced"),
+        ("no tag", tagged(6, 10, b"\0"), "loses"),
+        ("no tag, later", tagged(6, 11, b"\0"), "replaced"),
+        ("no text behind the first d", tagged(6, 12, b"\x02\x01\x02d\x02\x02d\x06map"), "replaced"),
+        ("a label, then no text behind d", tagged(9, 10, b"\x02\x02\x02d\x06map\x01\x02d"), "loses"),
         ("another author", record(6, 2, 9, 30_000, "map"), "new"),
         ("another kind", record(6, 1, 9, 30_001, "map"), "new"),
         ("kind 0", with_kind(0), "new"),
@@ -311,7 +321,8 @@ fn tables(same: &mut impl FnMut(&str, String, String)) {
     same("slot 0", ask("table_look 0"), format!("used {} {}", kept.len(), hex(&kept)));
     same("slot 0, viewed", ask("table_slot 0"), format!("ok 0 {}", kept.len()));
     same("slot 3, viewed", ask("table_slot 3"), format!("ok 3072 {}", kept.len()));
-    for n in [7, 63, 64, u64::MAX] {
+    same("slot 2, viewed", ask("table_slot 2"), format!("ok 2048 {}", kept.len() + 3));
+    for n in [8, 63, 64, u64::MAX] {
         same(&format!("slot {n}, viewed"), ask(&format!("table_slot {n}")), "refused 19 0".into());
     }
     same("emptied", ask("table_empty"), "ok".into());

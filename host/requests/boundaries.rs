@@ -552,26 +552,15 @@ fn string_sizes(g: &mut Requests) {
 }
 
 fn rival_boundaries(g: &mut Requests) {
-    let tag = |texts: &[&str]| -> Vec<Vec<u8>> { texts.iter().map(|t| t.as_bytes().to_vec()).collect() };
-    let shapes = [
-        vec![],
-        vec![tag(&["d"])],
-        vec![tag(&["d", ""])],
-        vec![tag(&["d", "ab"])],
-        vec![tag(&["d", "AB"])],
-        vec![tag(&["d", "ab", "more"])],
-        vec![tag(&["e", "x"]), tag(&["d", "ab"]), tag(&["d", "cd"])],
-        vec![tag(&["d"]), tag(&["d", "ab"])],
-        vec![tag(&["dd", "ab"])],
-        vec![tag(&["D", "ab"])],
-        vec![tag(&["e", "d", "ab"])],
-        vec![tag(&["", "d"]), tag(&["d", "ключ"])],
-    ];
+    let named = labels()[0].clone();
+    let shapes = [empty_labels(), labels()].concat();
     for kind in KINDS {
         for other in [kind, kind ^ 1] {
-            let a = Event { kind, tags: shapes[3].clone(), ..vector() };
-            let b = Event { kind: other, tags: shapes[3].clone(), ..vector() };
-            g.rivals(&strict(&a), &strict(&b));
+            for tags in [&named, &vec![]] {
+                let a = Event { kind, tags: tags.clone(), ..vector() };
+                let b = Event { kind: other, tags: tags.clone(), ..vector() };
+                g.rivals(&strict(&a), &strict(&b));
+            }
         }
     }
     for a in &shapes {
@@ -583,7 +572,7 @@ fn rival_boundaries(g: &mut Requests) {
         }
     }
     // ties
-    for (kind, tags) in [(0, &shapes[0]), (10_000, &shapes[0]), (39_999, &shapes[3])] {
+    for (kind, tags) in [(0, &shapes[0]), (10_000, &shapes[0]), (30_000, &shapes[0]), (39_999, &named)] {
         for time in [-1, 0, 1] {
             for (place, step) in [(0, 0), (0, 1), (0, -1), (31, 1), (31, -1), (32, 1), (63, -1), (64, 1), (127, -1)] {
                 let mut a = Event { kind, tags: tags.clone(), ..vector() };

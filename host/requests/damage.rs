@@ -236,15 +236,16 @@ fn random_rivals(g: &mut Requests, mut a: Event) {
     if d.percent(70) {
         let place = d.below(a.tags.len() + 1);
         let text = random_text(d);
-        a.tags.insert(place, vec![b"d".to_vec(), text]);
+        a.tags.insert(place, if d.percent(80) { vec![b"d".to_vec(), text] } else { tag(&["d"]) });
     }
     let mut b = a.clone();
     for _ in 0..d.below(3) {
-        match d.below(7) {
+        match d.below(8) {
             0 | 1 => b.created_at = (a.created_at + d.next() % 3).saturating_sub(1).min(MAX_CREATED_AT),
             2 | 3 => b.fixed[d.pick(&[0, 1, 31])] = d.pick(&[0, 0x80, 0xff]),
             4 => b.fixed[32 + d.below(96)] ^= 1,
             5 => b.kind = d.pick(&KINDS),
+            6 => b.tags = d.pick(&empty_labels()),
             _ => {
                 d.shuffle(&mut b.tags);
             }

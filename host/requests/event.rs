@@ -51,6 +51,38 @@ pub fn mixed() -> Event {
     }
 }
 
+pub fn tag(texts: &[&str]) -> Vec<Vec<u8>> {
+    texts.iter().map(|text| text.as_bytes().to_vec()).collect()
+}
+
+/// Tags by which the label is the empty text: no tag with `d` in front, or nothing or an empty text behind the first.
+pub fn empty_labels() -> Vec<Vec<Vec<Vec<u8>>>> {
+    vec![
+        vec![],
+        vec![tag(&["d"])],
+        vec![tag(&["d", ""])],
+        vec![tag(&["d"]), tag(&["d", "ab"])],
+        vec![tag(&["d", ""]), tag(&["d", "ab"])],
+        vec![tag(&["d", "", "ab"])],
+        vec![tag(&["e", "x"]), tag(&["d"])],
+        vec![tag(&["dd", "ab"])],
+        vec![tag(&["D", "ab"])],
+        vec![tag(&["e", "d", "ab"])],
+    ]
+}
+
+/// Tags by which the label is `ab`, in different shapes; then tags with other labels.
+pub fn labels() -> Vec<Vec<Vec<Vec<u8>>>> {
+    vec![
+        vec![tag(&["d", "ab"])],
+        vec![tag(&["d", "ab", "more"])],
+        vec![tag(&["d", "ab"]), tag(&["d"])],
+        vec![tag(&["e", "x"]), tag(&["d", "ab"]), tag(&["d", "cd"])],
+        vec![tag(&["d", "AB"])],
+        vec![tag(&["", "d"]), tag(&["d", "ключ"])],
+    ]
+}
+
 pub fn random_text(d: &mut Dice) -> Vec<u8> {
     const CHARS: [char; 24] = [
         'a', 'd', 'e', 'f', 'g', 'A', 'F', '0', '9', ' ', '"', '\\', '\n', '/', '\u{7f}', '\u{80}', '\u{7ff}', '\u{800}', '\u{d7ff}',

@@ -61,17 +61,20 @@ fn spread(n: usize) -> Vec<u8> {
     bytes
 }
 
-/// Few tags, mostly one with a label, in the shapes that give an event a key, another one or none.
+/// Few tags, mostly one with a label, in the shapes that give an event a label, another one or the empty one.
 fn tags_with(d: &mut Dice, label: usize) -> Vec<Vec<Vec<u8>>> {
     let d_tag = vec![b"d".to_vec(), label_of(label)];
     let other = vec![d.pick(&[&b"e"[..], b"", b"dd", b"D", b"64"]).to_vec(), b"d".to_vec(), b"beef".to_vec()];
-    match d.below(12) {
+    match d.below(16) {
         0 => vec![],
-        1 => vec![vec![b"d".to_vec()], d_tag],
+        1 => vec![tag(&["d"]), d_tag],
         2 => vec![other],
         3 => vec![other, d_tag],
-        4 => vec![d_tag, vec![b"d".to_vec(), b"second".to_vec()]],
+        4 => vec![d_tag, tag(&["d", "second"])],
         5 => vec![[d_tag, vec![b"more".to_vec()]].concat()],
+        6 => vec![tag(&["d"])],
+        7 => vec![tag(&["d", ""])],
+        8 => vec![d_tag, tag(&["d"])],
         _ => vec![d_tag],
     }
 }
@@ -286,6 +289,9 @@ fn with_hex(e: &Event) -> Event {
 /// An event with the same name as this one, and one thing or nothing else about it different; or with another name.
 fn twin(d: &mut Dice, e: &Event) -> Event {
     let mut twin = e.clone();
+    if e.tags == [tag(&["d", ""])] && d.percent(50) {
+        twin.tags = d.pick(&empty_labels());
+    }
     match d.below(6) {
         0 => twin.created_at += 1,
         1 => twin.fixed[0] ^= 1,
@@ -392,7 +398,7 @@ fn twins(g: &mut Requests) {
             asked(g, load(SLOTS, &all));
         }
     }
-    // three of one name, and ids that a keyed and a keyless event share
+    // three of one name; one id with a key and without, then twice without; a missing label beside an empty one
     let e = different(1);
     let mut all: Vec<Option<Slot>> = vec![None; SLOTS];
     for n in [5, 6, 40] {
@@ -404,8 +410,20 @@ fn twins(g: &mut Requests) {
     asked(g, load(SLOTS, &all));
     all[7] = Some(Slot::of(strict(&Event { kind: 2, ..e.clone() })));
     asked(g, load(SLOTS, &all));
+    all[7] = None;
     all[5] = Some(Slot::of(strict(&Event { kind: 30_000, tags: vec![], ..e.clone() })));
     asked(g, load(SLOTS, &all));
+    // as a table was filled while events without a label had no key: two editions of one, each under its id
+    for (n, first) in empty_labels().into_iter().enumerate() {
+        for (m, second) in [empty_labels(), labels()].concat().into_iter().enumerate() {
+            let mut all: Vec<Option<Slot>> = vec![None; SLOTS];
+            let mut e = Event { kind: 30_000, tags: first.clone(), ..different(1) };
+            all[n] = Some(Slot::of(strict(&e)));
+            e.fixed[0] ^= 1;
+            all[20 + m] = Some(Slot::of(strict(&Event { tags: second, ..e })));
+            asked(g, load(SLOTS, &all));
+        }
+    }
 }
 
 /// A full table: what replaces, loses, is held, is not kept, has no slot, is too long, is refused.
@@ -449,19 +467,7 @@ fn full(g: &mut Requests) {
 
 /// Two events offered one after the other, both ways: shapes of tags, kinds, times and ids.
 fn pairs(g: &mut Requests) {
-    let tag = |texts: &[&str]| -> Vec<Vec<u8>> { texts.iter().map(|t| t.as_bytes().to_vec()).collect() };
-    let shapes = [
-        vec![],
-        vec![tag(&["d"])],
-        vec![tag(&["d", ""])],
-        vec![tag(&["d", "ab"])],
-        vec![tag(&["d", "AB"])],
-        vec![tag(&["d", "ab", "more"])],
-        vec![tag(&["e", "x"]), tag(&["d", "ab"]), tag(&["d", "cd"])],
-        vec![tag(&["d"]), tag(&["d", "ab"])],
-        vec![tag(&["dd", "ab"])],
-        vec![tag(&["", "d"]), tag(&["d", "ключ"])],
-    ];
+    let shapes = [empty_labels(), labels()].concat();
     for a in &shapes {
         for b in &shapes {
             for id in [0, 1] {
@@ -473,7 +479,7 @@ fn pairs(g: &mut Requests) {
         }
     }
     for kind in KINDS_KEPT.iter().chain(&KINDS_PASSING).copied() {
-        let e = Event { kind, tags: shapes[3].clone(), fixed: vec![0x80; 128], ..vector() };
+        let e = Event { kind, tags: labels()[0].clone(), fixed: vec![0x80; 128], ..vector() };
         for (place, step) in [(0, 0), (0, 1), (31, -1), (32, 1), (63, -1), (64, 1), (127, -1)] {
             for time in [-1, 0, 1] {
                 let mut other = e.clone();

@@ -17,7 +17,7 @@ use Rattle.hex.proofs.Texts.{length-hexes}
 use Rattle.event.specs.Event.{Text, Tag, Event}
 use Rattle.notepack.specs.declared.Head.{Head}
 use Rattle.notepack.specs.declared.Part.{Part}
-use Rattle.notepack.specs.Unpack.{partOf, bytesOf, textOf, unpack}
+use Rattle.notepack.specs.Unpack.{bytesOf, textOf, unpack}
 use Rattle.notepack.specs.Views.{numbersOf}
 use Rattle.notepack.specs.inner.Again.{partAgain, countAgain, textsAgain, textsEnd, tagsAgain}
 use Rattle.notepack.proofs.Walking.{text-raw, text-plain}
@@ -26,8 +26,8 @@ use Rattle.notepack.proofs.Again.{tags-again}
 use Rattle.keys.specs.declared.KeyRead.{KeyRead}
 use Rattle.keys.specs.declared.KeyRead.the-variants.{Keyed, Keyless}
 use Rattle.keys.specs.Key as key
-use Rattle.keys.specs.Key.{isReplaceable, isLabelled, Label, none, label, isDTag, secondText, labelOf, labelKey, keyFor, keyOf}
-use Rattle.keys.specs.inner.Place.{isD, secondAt, labelAt, keyAt, keyThere}
+use Rattle.keys.specs.Key.{isReplaceable, isLabelled, isDTag, secondText, labelOf, keyFor, keyOf}
+use Rattle.keys.specs.inner.Place.{emptyPart, isD, secondAt, labelAt, keyAt, keyThere}
 
 module _ (s : List ℕ) where
   -- `d` by its part is `d` by its text
@@ -47,43 +47,41 @@ module _ (s : List ℕ) where
   pick-there true x y = refl
   pick-there false x y = refl
 
-  pick-key : (author : List ℕ) (k : ℕ) (t : Bool) (x y : Label) → labelKey author k (pick t x y) ≡ pick t (labelKey author k x) (labelKey author k y)
-  pick-key author k true x y = refl
-  pick-key author k false x y = refl
+  pick-text : (t : Bool) (p q : Part) → textOf s (pick t p q) ≡ pick t (textOf s p) (textOf s q)
+  pick-text true p q = refl
+  pick-text false p q = refl
 
-  module _ (k : ℕ) where
-    -- the key by the second of n texts
-    second-there : (n f : ℕ) → keyThere s (secondAt k n s (partAgain s f .next)) ≡ labelKey (take 32 (drop 32 s)) k (secondText (textsAgain n s f))
-    unfolding secondAt textsAgain
-    second-there zero f = refl
-    second-there (suc zero) f = refl
-    second-there (suc (suc n)) f = rw (lt-ltb 1 (suc (suc n)) (omega arith))
+  empty-part : textOf s emptyPart ≡ []
+  empty-part = text-plain s emptyPart refl
 
-    -- whether the first of n texts is `d`
-    first-d : (n f : ℕ) → isD n s (partAgain s f .value) ≡ isDTag (textsAgain n s f)
-    unfolding isD textsAgain
-    first-d zero f = refl
-    first-d (suc n) f = is-d-text n (partAgain s f .value)
+  -- the second of n texts
+  second-there : (n f : ℕ) → textOf s (secondAt n s (partAgain s f .next)) ≡ secondText (textsAgain n s f)
+  unfolding secondAt textsAgain
+  second-there zero f = empty-part
+  second-there (suc zero) f = empty-part
+  second-there (suc (suc n)) f = rw (lt-ltb 1 (suc (suc n)) (omega arith))
 
-    -- the label found among n tags is that of the tags again
-    pub label-there : (n at : ℕ) → keyThere s (labelAt k n s at) ≡ labelKey (take 32 (drop 32 s)) k (labelOf (tagsAgain n s at))
-    unfolding labelAt tagsAgain
-    label-there zero at = refl
-    label-there (suc n) at =
-        let c = countAgain s at in
-        pick-there (isD (c .value) s (partAgain s (c .next) .value)) _ _
-        ∙ rw (second-there (c .value) (c .next), first-d (c .value) (c .next), label-there n (textsEnd (c .value) s (c .next)))
-        (sym (pick-key (take 32 (drop 32 s)) k (isDTag (textsAgain (c .value) s (c .next))) _ _))
+  -- whether the first of n texts is `d`
+  first-d : (n f : ℕ) → isD n s (partAgain s f .value) ≡ isDTag (textsAgain n s f)
+  unfolding isD textsAgain
+  first-d zero f = refl
+  first-d (suc n) f = is-d-text n (partAgain s f .value)
+
+  -- the label found among n tags is that of the tags again
+  pub label-there : (n at : ℕ) → textOf s (labelAt n s at) ≡ labelOf (tagsAgain n s at)
+  unfolding labelAt tagsAgain
+  label-there zero at = empty-part
+  label-there (suc n) at =
+      let c = countAgain s at in
+      pick-text (isD (c .value) s (partAgain s (c .next) .value)) _ _
+      ∙ rw (second-there (c .value) (c .next), first-d (c .value) (c .next), label-there n (textsEnd (c .value) s (c .next)))
 
   -- the key that stands in a packed event, by its tags again
   pub key-there : (h : Head) → keyThere s (keyAt s h) ≡ keyFor (take 32 (drop 32 s)) (h .kind) (labelOf (tagsAgain (h .«tag_count») s (h .«tags_at»)))
   unfolding keyAt keyFor
   key-there h =
       pick-there (isReplaceable (h .kind)) _ _
-      ∙ rw (pick-there (isLabelled (h .kind)) (labelAt (h .kind) (h .«tag_count») s (h .«tags_at»)) Keyless, label-there (h .kind) (h .«tag_count») (h .«tags_at»), no-text)
-    where
-      no-text : textOf s (partOf 0 0 false) ≡ []
-      no-text = text-plain s (partOf 0 0 false) refl
+      ∙ rw (pick-there (isLabelled (h .kind)) (Keyed (record { kind = h .kind; label = labelAt (h .«tag_count») s (h .«tags_at») })) Keyless, label-there (h .«tag_count») (h .«tags_at»), empty-part)
 
   -- a replaceable kind's: no look at the tags
   pub replaceable-key

@@ -20,9 +20,7 @@ use Rattle.hex.specs.Hex.{digitOf, hexes}
 use Rattle.hex.proofs.Texts.{hexes-injective}
 use Rattle.notepack.specs.declared.Part.{Part}
 use Rattle.notepack.specs.inner.Again.{partAgain, countAgain, textsEnd}
-use Rattle.keys.specs.declared.KeyRead.{KeyRead}
-use Rattle.keys.specs.declared.KeyRead.the-variants.{Keyless}
-use Rattle.keys.specs.inner.Place.{isD, secondAt, labelAt}
+use Rattle.keys.specs.inner.Place.{emptyPart, isD, secondAt, labelAt}
 
 -- ---- the hex of bytes
 
@@ -85,22 +83,22 @@ same-hexes {a} {b} p q =
 
 -- ---- the label
 
-module _ (s : List ℕ) (k : ℕ) (X : KeyRead) where
-  pub label-again : (left at : ℕ) {n f : ℕ} {p : Part} {d : Bool} {r : ℕ} → X ≡ labelAt k left s at → 0 < left
+module _ (s : List ℕ) (X : Part) where
+  pub label-again : (left at : ℕ) {n f : ℕ} {p : Part} {d : Bool} {r : ℕ} → X ≡ labelAt left s at → 0 < left
       → n ≡ countAgain s at .value → f ≡ countAgain s at .next → p ≡ partAgain s f .value → d ≡ isD n s p → d ≡ false → r ≡ textsEnd n s f
-      → X ≡ labelAt k (left - 1) s r
+      → X ≡ labelAt (left - 1) s r
   unfolding labelAt
   label-again zero at inv l a b x u v w = absurd (omega arith)
   label-again (suc left) at inv l a b x u v w = inv ∙ rw (← b, ← a, ← x, ← u, v, ← w, sub-one)
 
-  pub label-found : (left at : ℕ) {n f : ℕ} {p : Part} {q : ℕ} {d : Bool} {r : KeyRead} → X ≡ labelAt k left s at → 0 < left
+  pub label-found : (left at : ℕ) {n f : ℕ} {p : Part} {q : ℕ} {d : Bool} {r : Part} → X ≡ labelAt left s at → 0 < left
       → n ≡ countAgain s at .value → f ≡ countAgain s at .next → p ≡ partAgain s f .value → q ≡ partAgain s f .next → d ≡ isD n s p → d ≡ true
-      → r ≡ secondAt k n s q → r ≡ X
+      → r ≡ secondAt n s q → r ≡ X
   unfolding labelAt
   label-found zero at inv l a b x y u v w = absurd (omega arith)
   label-found (suc left) at inv l a b x y u v w = w ∙ sym (inv ∙ rw (← b, ← a, ← x, ← y, ← u, v))
 
-  pub label-none : (left at : ℕ) → X ≡ labelAt k left s at → left ≤ 0 → Keyless ≡ X
+  pub label-missing : (left at : ℕ) {r : Part} → X ≡ labelAt left s at → left ≤ 0 → r ≡ emptyPart → r ≡ X
   unfolding labelAt
-  label-none zero at inv l = sym inv
-  label-none (suc left) at inv l = absurd (omega arith)
+  label-missing zero at inv l e = e ∙ sym inv
+  label-missing (suc left) at inv l e = absurd (omega arith)

@@ -17,24 +17,20 @@ isReplaceable k = pick (eqb k 0) true (pick (eqb k 3) true (within 10_000 19_999
 unfoldable pub isLabelled : ℕ → Bool
 isLabelled k = within 30_000 39_999 k
 
--- a text that may not be there
-pub data Label : Type 0 where
-  none : Label
-  label : Text → Label
-
 -- whether a tag's first text is `d`
 abbrev pub isDTag : Tag → Bool
 isDTag [] = false
 isDTag (t ∷ ts) = sameBytes t (ascii "d")
 
-abbrev pub secondText : Tag → Label
-secondText [] = none
-secondText (t ∷ []) = none
-secondText (t ∷ u ∷ ts) = label u
+-- the second text of a tag; the empty text where there is none
+abbrev pub secondText : Tag → Text
+secondText [] = []
+secondText (t ∷ []) = []
+secondText (t ∷ u ∷ ts) = u
 
--- the text behind `d`, in the first tag with `d` in front; none where there is no such tag, or nothing behind `d`
-abbrev pub labelOf : List Tag → Label
-labelOf [] = none
+-- the label: the text behind `d`, in the first tag with `d` in front; the empty text where there is no such tag
+abbrev pub labelOf : List Tag → Text
+labelOf [] = []
 labelOf (t ∷ ts) = pick (isDTag t) (secondText t) (labelOf ts)
 
 -- A key: pubkey and kind, and for the labelled kinds the label. (For the replaceable ones it is empty: no kind is in
@@ -48,13 +44,11 @@ pub data Keyed : Type 0 where
   keyless : Keyed
   keyed : Key → Keyed
 
--- the key of an author, a kind and a label; none without a label
-abbrev pub labelKey : List ℕ → ℕ → Label → Keyed
-labelKey author k none = keyless
-labelKey author k (label t) = keyed (record { pubkey = author; kind = k; text = t })
-
-unfoldable pub keyFor : List ℕ → ℕ → Label → Keyed
-keyFor author k l = pick (isReplaceable k) (keyed (record { pubkey = author; kind = k; text = [] })) (pick (isLabelled k) (labelKey author k l) keyless)
+-- the key of an author and a kind, and of the label, where the kind has one
+unfoldable pub keyFor : List ℕ → ℕ → Text → Keyed
+keyFor author k t =
+    pick (isReplaceable k) (keyed (record { pubkey = author; kind = k; text = [] }))
+    (pick (isLabelled k) (keyed (record { pubkey = author; kind = k; text = t })) keyless)
 
 abbrev pub keyOf : Event → Keyed
 keyOf e = keyFor (e .pubkey) (e .kind) (labelOf (e .tags))

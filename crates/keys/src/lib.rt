@@ -6,9 +6,10 @@ ghost use Rattle.scan.specs.Compare.{sameBytes};
 ghost use Rattle.hex.specs.Hex.{hexes};
 ghost use Rattle.notepack.specs.Unpack.{textOf};
 ghost use Rattle.keys.specs.Key.{isReplaceable, isLabelled, sameKey};
-ghost use Rattle.keys.specs.inner.Place.{isD, secondAt, labelAt, keyAt, keyThere};
+ghost use Rattle.keys.specs.inner.Place.{emptyPart, isD, secondAt, labelAt, keyAt, keyThere};
 
-// A key's kind, and where its label stands. The author's 32 bytes stand at place 32 of every packed event.
+// A key's kind, and where its label stands; a missing one has the place 0 and no bytes. The author's 32 bytes stand at
+// place 32 of every packed event.
 pub struct KeyPlace {
     pub kind: u64,
     pub label: Part,
@@ -75,21 +76,32 @@ fn is_d(n: u64, s: &[u8], p: Part) -> bool
     false
 }
 
-// The key by the second of n texts, where the first ends at a place.
-fn second_text(kind: u64, s: &[u8], at: usize, n: u64) -> KeyRead
-    ensures { λ r. ⌜ r ≡ secondAt kind n (now (s .entry)) at ⌝ }
+// A part with no bytes: its text is empty.
+fn empty_part() -> Part
+    ensures { λ r. ⌜ r ≡ emptyPart ⌝ }
+{
+    Part {
+        at: 0,
+        len: 0,
+        raw: false,
+    }
+}
+
+// The second of n texts, where the first ends at a place.
+fn second_text(s: &[u8], at: usize, n: u64) -> Part
+    ensures { λ r. ⌜ r ≡ secondAt n (now (s .entry)) at ⌝ }
 {
     if 1 < n {
         let second = notepack::part_again(s, at);
-        let label = second.part;
-        return KeyRead::Keyed(KeyPlace { kind, label });
+        return second.part;
     }
-    KeyRead::Keyless
+    empty_part()
 }
 
-// The key by the label among count tags from a place on: the text behind `d`, in the first tag with `d` in front.
-fn find_label(kind: u64, s: &[u8], at: usize, count: u64) -> KeyRead
-    ensures { λ r. ⌜ r ≡ labelAt kind count (now (s .entry)) at ⌝ }
+// The label among count tags from a place on: the text behind `d`, in the first tag with `d` in front; where there is
+// none, no bytes.
+fn find_label(s: &[u8], at: usize, count: u64) -> Part
+    ensures { λ r. ⌜ r ≡ labelAt count (now (s .entry)) at ⌝ }
 {
     let mut i = at;
     let mut left = count;
@@ -98,12 +110,12 @@ fn find_label(kind: u64, s: &[u8], at: usize, count: u64) -> KeyRead
         let first = notepack::part_again(s, texts.next);
         let p = first.part;
         if is_d(texts.count, s, p) {
-            return second_text(kind, s, first.next, texts.count);
+            return second_text(s, first.next, texts.count);
         }
         i = notepack::texts_end(s, texts.next, texts.count);
         left -= 1;
     }
-    KeyRead::Keyless
+    empty_part()
 }
 
 // Whether the key of a kind is its author and itself, with no label.
@@ -137,15 +149,12 @@ pub fn key_at(s: &[u8], h: Head) -> KeyRead
 {
     let kind = h.kind;
     if is_replaceable(kind) {
-        let label = Part {
-            at: 0,
-            len: 0,
-            raw: false,
-        };
+        let label = empty_part();
         return KeyRead::Keyed(KeyPlace { kind, label });
     }
     if is_labelled(kind) {
-        return find_label(kind, s, h.tags_at, h.tag_count);
+        let label = find_label(s, h.tags_at, h.tag_count);
+        return KeyRead::Keyed(KeyPlace { kind, label });
     }
     KeyRead::Keyless
 }

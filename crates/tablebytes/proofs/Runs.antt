@@ -28,15 +28,15 @@ use Rattle.tablebytes.specs.Runs.{Lent, emptied, after, Ran, stop, next,
 
 -- ---- what the buffers hold
 
-record Stands (t : Lent) (s : List Entry) : Type 0 where
-  many : length (t .slots) ≡ 1_024
-  entries : entriesOf (slotsIn 64 (t .slots)) (t .cells) ≡ shown s
+pub record Stands (t : Lent) (s : List Entry) : Type 0 where
+  pub many : length (t .slots) ≡ 1_024
+  pub entries : entriesOf (slotsIn 64 (t .slots)) (t .cells) ≡ shown s
 
 stands-shown : {t : Lent} {s : List Entry} → Stands t s → tableEntries (t .slots) (t .cells) ≡ shown s
 unfolding tableEntries
 stands-shown {t} w = rw (eq-eqb (length (t .slots)) 1_024 (w .many)) (w .entries)
 
-stands-emptied : Stands emptied (replicate 64 free)
+pub stands-emptied : Stands emptied (replicate 64 free)
 unfolding emptied
 stands-emptied =
     record {
@@ -50,7 +50,7 @@ nothing-kept (suc n) = current.more (nothing-kept n)
 
 -- ---- one call
 
-after-stands : (t : Lent) (p : List ℕ) (o : Offer) → IsBytes p → tableOffer (t .slots) (t .cells) p ≡ shown o → Stands (after t p) (act (o .outcome) (o .event) (o .entries))
+pub after-stands : (t : Lent) (p : List ℕ) (o : Offer) → IsBytes p → tableOffer (t .slots) (t .cells) p ≡ shown o → Stands (after t p) (act (o .outcome) (o .event) (o .entries))
 unfolding after
 after-stands t p o y q =
     let b = offer-bytes (t .slots) (t .cells) p o q in

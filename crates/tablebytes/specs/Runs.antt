@@ -1,13 +1,13 @@
 -- What a lent table holds after any run of calls (rules 15), sentence by sentence: each formal line stands under the
--- words that it is of. `proofs/Runs` and `proofs/Shown` prove them all. Assumes nothing.
-use Prim.Native.Nat.{ℕ}
+-- words that it is of. `proofs/Runs`, `proofs/Shown` and `proofs/Unrefused` prove them all. Assumes nothing.
+use Prim.Native.Nat.{ℕ, _≤_}
 use mathlib.Core.Path.{_≡_}
 use mathlib.Core.Bool.{false}
-use mathlib.Core.List.{List, [], _∷_}
-use lib.ListN.{replicate, take, drop}
+use mathlib.Core.List.{List, [], _∷_, map}
+use lib.ListN.{length, replicate, take, drop}
 use Rattle.scan.specs.Choice.{Answer, shown, andThen}
-use Rattle.scan.specs.Bytes.{IsBytes}
-use Rattle.event.specs.Event.{Event}
+use Rattle.scan.specs.Bytes.{All, IsBytes}
+use Rattle.event.specs.Event.{Event, Valid}
 use Rattle.notepack.specs.Strict.{pack}
 use Rattle.notepack.specs.Unpack.{unpack}
 use Rattle.keys.specs.Key.{Key, keyless, keyOf}
@@ -87,3 +87,8 @@ AnyOrder =
     (ps qs : List (List ℕ)) (es fs : List Event) (t u : Lent) → Ran emptied ps es t → Ran emptied qs fs u
     → ((e : Event) → Among e es → Among e fs) → ((e : Event) → Among e fs → Among e es)
     → ((d e : Event) → Among d es → Among e es → d .id ≡ e .id → d ≡ e) → (n : Name) → keptUnder t n ≡ keptUnder u n
+
+-- At most 64 valid events, each of at most 1,024 bytes in its strict form, offered in that form one after the other to
+-- an emptied table, are never refused: there is a run of all these offers.
+abbrev pub NeverRefused : Type 0
+NeverRefused = (es : List Event) → length es ≤ 64 → All Valid es → All (λ e. length (pack e) ≤ 1_024) es → (t : Lent) × Ran emptied (map pack es) es t

@@ -11,7 +11,8 @@ key-at-spec =
     tie.close
     (tie.spec
     (λ c κs. search needs)
-    (λ c. simp (← c .before .is-replaceable .ensures, c .if1 .taken))
+    (λ c κs. search needs)
+    (λ c. simp (← c .before .before .is-replaceable .ensures, c .before .if1 .taken, ← c .empty-part .ensures))
     (λ c κs. search needs)
     (λ c κs. search needs)
     (λ c. simp (← c .before .before .before .before .is-replaceable .ensures, c .before .before .before .if1 .left, ← c .before .before .is-labelled .ensures, c .before .if2 .taken, ← c .find-label .ensures))

@@ -22,23 +22,27 @@ use Rattle.keys.specs.Key.{isReplaceable, isLabelled}
 unfoldable pub isD : ℕ → List ℕ → Part → Bool
 isD n s p = pick (ltb 0 n) (pick (p .raw) false (sameBytes (bytesOf s p) (ascii "d"))) false
 
+-- a part with no bytes: its text is empty
+abbrev pub emptyPart : Part
+emptyPart = partOf 0 0 false
+
 -- the second of n texts, where the first ends at `at`
-unfoldable pub secondAt : ℕ → ℕ → List ℕ → ℕ → KeyRead
-secondAt k n s at = pick (ltb 1 n) (Keyed (record { kind = k; label = partAgain s at .value })) Keyless
+unfoldable pub secondAt : ℕ → List ℕ → ℕ → Part
+secondAt n s at = pick (ltb 1 n) (partAgain s at .value) emptyPart
 
--- the label among n tags from `at` on, for kind k
-unfoldable pub labelAt : ℕ → ℕ → List ℕ → ℕ → KeyRead
-labelAt k zero s at = Keyless
-labelAt k (suc n) s at =
+-- the label among n tags from `at` on
+unfoldable pub labelAt : ℕ → List ℕ → ℕ → Part
+labelAt zero s at = emptyPart
+labelAt (suc n) s at =
     pick (isD (countAgain s at .value) s (partAgain s (countAgain s at .next) .value))
-    (secondAt k (countAgain s at .value) s (partAgain s (countAgain s at .next) .next))
-    (labelAt k n s (textsEnd (countAgain s at .value) s (countAgain s at .next)))
+    (secondAt (countAgain s at .value) s (partAgain s (countAgain s at .next) .next))
+    (labelAt n s (textsEnd (countAgain s at .value) s (countAgain s at .next)))
 
--- the key of a packed event of which h is read; a replaceable kind's label is empty and stands nowhere
+-- the key of a packed event of which h is read; a replaceable kind's label is empty
 unfoldable pub keyAt : List ℕ → Head → KeyRead
 keyAt s h =
-    pick (isReplaceable (h .kind)) (Keyed (record { kind = h .kind; label = partOf 0 0 false }))
-    (pick (isLabelled (h .kind)) (labelAt (h .kind) (h .«tag_count») s (h .«tags_at»)) Keyless)
+    pick (isReplaceable (h .kind)) (Keyed (record { kind = h .kind; label = emptyPart }))
+    (pick (isLabelled (h .kind)) (Keyed (record { kind = h .kind; label = labelAt (h .«tag_count») s (h .«tags_at») })) Keyless)
 
 -- the key that stands there
 abbrev pub keyThere : List ℕ → KeyRead → key.Keyed
