@@ -1,6 +1,6 @@
 -- The width as the check had it before its cases were the rows of RFC 3629: by bounds of the first byte, and by the range
 -- of the second behind it. `former-width` shows that it is the same on all numbers.
--- By the first byte: where it is one value both sides compute; in a range the tests on it are decided by its bounds.
+-- By the first byte: each row's law of `RowLaws` on one side, the former tests on the other; between the rows both are 0.
 use Prim.Native.Nat.{ℕ, _<_, _≤_}
 use mathlib.Core.Path.{_≡_, refl, sym, _∙_}
 use mathlib.Core.Bool.{Bool, true, false, _&&_}

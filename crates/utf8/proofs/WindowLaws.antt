@@ -4,19 +4,17 @@
 -- there; behind the last of them no tail is asked for (`Clean`), and the next sequence begins.
 use Prim.Native.Nat.{ℕ, zero, suc, _+_, _-_, _/_, _<_, _≤_}
 use mathlib.Core.Path.{_≡_, refl, sym, ap, _∙_}
-use mathlib.Core.Bool.{true}
-use mathlib.Core.List.{List, [], _∷_, _++_}
+use mathlib.Core.List.{List, [], _∷_}
 use mathlib.Core.Logic.{dite}
 use native.Mathlib.Numerals.{unary-clauses}
 use native.Mathlib.Omega.{arith}
 use native.Mathlib.Decide.{decLt, ℕ-discrete}
 use lib.ListN.{length, getD, drop, take, take-append-drop}
-use lib.Seq.{getD-take, getD-drop}
-use Rattle.utf8.specs.Utf8.{Octet, octet, Tail, Char, one, two, three-E0, three-E1, three-ED, three-EE, four-F0, four-F1, four-F4, Utf8, char}
+use Rattle.utf8.specs.Utf8.{octet, Tail, Char, one, two, three-E0, three-E1, three-ED, three-EE, four-F0, four-F1, four-F4, Utf8, char}
 use Rattle.utf8.specs.inner.Width.{isUtf8}
 use Rattle.utf8.specs.inner.Block.{Passed}
-use Rattle.utf8.specs.inner.Windows.{Most, Fits, Fitting, padded}
-use Rattle.utf8.proofs.Laws.{is-utf8, rest-text}
+use Rattle.utf8.specs.inner.Windows.{Fits, Fitting, padded}
+use Rattle.utf8.proofs.Laws.{rest-text}
 
 -- ---- bytes that fit are made of characters
 

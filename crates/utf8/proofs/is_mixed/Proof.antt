@@ -1,6 +1,5 @@
 -- `is_mixed` asks whether sequence after sequence reaches the end, from a place that whole sequences surely reach.
 -- By `walked-all`: where it stops before the end, no sequence stands.
-use native.Mathlib.Omega.{arith}
 use borrow.Author.Needs.{needs}
 use Rattle.utf8.proofs.BlockLaws.{walked-all}
 use Rattle.utf8.proofs.is_mixed.Statement.{statement}

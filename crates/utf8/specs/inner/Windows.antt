@@ -3,7 +3,7 @@
 -- a text is made of sequences up to a place where its bytes fit. Assumes nothing.
 use Prim.Native.Nat.{ℕ, _+_, _/_, _≤_, _<_}
 use mathlib.Core.Path.{_≡_}
-use mathlib.Core.List.{List, [], _∷_}
+use mathlib.Core.List.{List, _∷_}
 use Rattle.scan.specs.Place.{byteAt}
 
 -- no byte is above n
