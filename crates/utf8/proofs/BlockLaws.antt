@@ -1,18 +1,19 @@
 -- What the check passes, sequence after sequence, leaves the decision as it was; at the end it is the answer.
 -- `Passed` composes; each turn of a loop is one law whose premises are what the loop knows.
 use Prim.Native.Nat.{ℕ, _+_, _<_, _≤_}
-use mathlib.Core.Path.{_≡_, refl, sym, _∙_}
+use mathlib.Core.Path.{_≡_, refl, sym, ap, _∙_}
 use mathlib.Core.List.{List}
 use mathlib.Core.Logic.{dite}
 use native.Mathlib.Omega.{arith}
 use native.Mathlib.Decide.{ℕ-discrete}
-use lib.ListN.{length}
+use lib.ListN.{length, drop, take-append-drop}
 use lib.Dec.{eqb}
 use borrow.Author.Tests.{eq-eqb, ne-eqb}
 use Rattle.utf8.specs.inner.Width.{widthAt, isUtf8}
 use Rattle.utf8.specs.inner.Block.{Passed, PassedTo}
+use Rattle.utf8.specs.inner.Windows.{WellTo}
 use Rattle.utf8.proofs.WidthLaws.{width-within}
-use Rattle.utf8.proofs.Laws.{rest-end, rest-stop, rest-step}
+use Rattle.utf8.proofs.Laws.{rest-end, rest-stop, rest-step, rest-text}
 
 -- ---- how far
 
@@ -38,10 +39,10 @@ pub ruleset walks = (passed-sequence, walked-stop, walked-end)
 
 -- ---- the answer
 
--- the text is well-formed exactly if its end was reached
-pub walked-all : (s : List ℕ) (a i : ℕ) → Passed s 0 a → PassedTo s a (length s) i → eqb i (length s) ≡ isUtf8 s
+-- the text is well-formed exactly if its end was reached, from a place up to which it is
+pub walked-all : (s : List ℕ) (a i : ℕ) → WellTo s a → PassedTo s a (length s) i → eqb i (length s) ≡ isUtf8 s
 walked-all s a i p w =
-    let e = p .same ∙ w .passed .same in
+    let e = ap isUtf8 (sym (take-append-drop a s)) ∙ rest-text (p .whole) (drop a s) ∙ w .passed .same in
     dite (ℕ-discrete i (length s)) (λ q. eq-eqb i (length s) q ∙ sym (e ∙ rest-end s i (omega arith)))
     (λ n.
     let h : i < length s = omega (arith, n, w .passed .inside) in

@@ -1,20 +1,17 @@
 -- The fast pass is right where it says yes: if every byte up to a place fits behind the three before it, and no tail is
--- asked for there, whole sequences reach the place (`reach`). Nothing is shown of bytes that misfit.
+-- asked for there, the text is well-formed up to the place (`reach`). Nothing is shown of bytes that misfit.
 -- The windows are read as a list (`Fit`); the first byte of a sequence says how many tails are asked for, and so stand
 -- there; behind the last of them no tail is asked for (`Clean`), and the next sequence begins.
 use Prim.Native.Nat.{ℕ, zero, suc, _+_, _-_, _/_, _<_, _≤_}
-use mathlib.Core.Path.{_≡_, refl, sym, ap, _∙_}
+use mathlib.Core.Path.{_≡_, refl}
 use mathlib.Core.List.{List, [], _∷_}
 use mathlib.Core.Logic.{dite}
 use native.Mathlib.Numerals.{unary-clauses}
 use native.Mathlib.Omega.{arith}
 use native.Mathlib.Decide.{decLt, ℕ-discrete}
-use lib.ListN.{length, getD, drop, take, take-append-drop}
+use lib.ListN.{length, getD, take}
 use Rattle.utf8.specs.Utf8.{octet, Tail, Char, one, two, three-E0, three-E1, three-ED, three-EE, four-F0, four-F1, four-F4, Utf8, char}
-use Rattle.utf8.specs.inner.Width.{isUtf8}
-use Rattle.utf8.specs.inner.Block.{Passed}
-use Rattle.utf8.specs.inner.Windows.{Fits, Fitting, padded}
-use Rattle.utf8.proofs.Laws.{rest-text}
+use Rattle.utf8.specs.inner.Windows.{WellTo, Fits, Fitting, padded}
 
 -- ---- bytes that fit are made of characters
 
@@ -115,12 +112,17 @@ to-fit a b c zero s h f k = done k
 to-fit a b c (suc n) [] h f k = absurd (omega arith)
 to-fit a b c (suc n) (d ∷ s) h f k = more (f .fits 0 (omega arith) (omega arith)) (to-fit b c d n s (omega arith) (next f) (simp unary-clauses (simp unary-clauses at k)))
 
--- THE law of the fast pass: whole sequences reach a place up to which all fits and at which no tail is asked for
-pub reach : (s : List ℕ) (b : ℕ) → Fitting (padded s) 0 b → b ≤ length s
-    → CleanAt (padded s) b → Passed s 0 b
+-- THE law of the fast pass: a text is well-formed up to a place before which all fits and at which no tail is asked for
+pub reach : (s : List ℕ) (b : ℕ) → Fitting (padded s) 0 b → b ≤ length s → CleanAt (padded s) b → WellTo s b
 reach s b f h k =
-    let u = below (suc (length (take b s))) 0 0 0 (take b s) (omega arith) (clean (omega arith) (omega arith) (omega arith)) (to-fit 0 0 0 b s h f k) in
-    record { onward = omega arith; inside = h; same = ap isUtf8 (sym (take-append-drop b s)) ∙ rest-text u (drop b s) }
+    record {
+      inside = h;
+      whole = below (suc (length (take b s))) 0 0 0 (take b s) (omega arith) (clean (omega arith) (omega arith) (omega arith)) (to-fit 0 0 0 b s h f k);
+    }
+
+-- nothing is sure
+pub reach-none : (s : List ℕ) → WellTo s 0
+reach-none s = record { inside = omega arith; whole = Utf8.none }
 
 -- ---- the places that the pass goes back to
 
@@ -129,7 +131,7 @@ padded-at : (s : List ℕ) (j i : ℕ) → j ≡ i + 3 → getD (padded s) j 0 �
 padded-at s j i e = rw e (simp unary-clauses)
 
 -- a first byte of two, three or four: no tail is asked for before it
-pub reach-first : (s : List ℕ) (e b : ℕ) → Fitting (padded s) 0 e → e ≤ length s → b < e → 0xC0 ≤ getD s b 0 → Passed s 0 b
+pub reach-first : (s : List ℕ) (e b : ℕ) → Fitting (padded s) 0 e → e ≤ length s → b < e → 0xC0 ≤ getD s b 0 → WellTo s b
 reach-first s e b f h l k =
     let g = f .fits b (omega arith) l in
     let q = padded-at s (b + 3) b refl in
@@ -138,7 +140,7 @@ reach-first s e b f h l k =
 
 -- the last three bytes ask for none
 pub reach-end : (s : List ℕ) (e : ℕ) → Fitting (padded s) 0 e → 3 ≤ e → e ≤ length s → getD s (e - 1) 0 < 0xC0 → getD s (e - 2) 0 < 0xE0
-    → getD s (e - 3) 0 < 0xF0 → Passed s 0 e
+    → getD s (e - 3) 0 < 0xF0 → WellTo s e
 reach-end s e f m h p q r =
     let u = padded-at s e (e - 3) (omega arith) in
     let v = padded-at s (e + 1) (e - 2) (omega arith) in

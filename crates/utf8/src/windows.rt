@@ -1,11 +1,10 @@
-// A fast pass in front of the rows: how far a text surely stands in whole sequences. It refuses nothing. Where it finds
-// less than there is, the rows (`width_of`) decide.
+// A fast pass in front of the rows: how far a text surely is well-formed. It refuses nothing. Where it finds less than
+// there is, the rows (`width_of`) decide. What is `pub` here reaches this crate alone.
 ghost use Prim.Native.Nat.{_+_, _≤_};
 ghost use mathlib.Core.Path.{_≡_};
 ghost use mathlib.Core.Bool.{true};
 ghost use lib.ListN.{length};
-ghost use Rattle.utf8.specs.inner.Block.{Passed};
-ghost use Rattle.utf8.specs.inner.Windows.{Most, Fits, Fitting, padded};
+ghost use Rattle.utf8.specs.inner.Windows.{WellTo, Most, Fits, Fitting, padded};
 
 // A number that no byte of a block is above. No exit on the way: a loop for vectors.
 fn highest(block: &[u8]) -> u8
@@ -132,7 +131,7 @@ fn fitting_end(s: &[u8]) -> usize
 // The end of the last whole sequence before e: e itself, or the first byte that asks for a tail at e or past it.
 fn whole_end(s: &[u8], e: usize) -> usize
     requires { ⌜ (3 ≤ e) × ((e ≤ length (now s)) × Fitting (padded (now s)) 0 e) ⌝ }
-    ensures { λ r. ⌜ Passed (now (s .entry)) 0 r ⌝ }
+    ensures { λ r. ⌜ WellTo (now (s .entry)) r ⌝ }
 {
     if 0xC0 <= s[e - 1] {
         return e - 1;
@@ -146,9 +145,9 @@ fn whole_end(s: &[u8], e: usize) -> usize
     e
 }
 
-// A place that whole sequences surely reach from the start; 0 where nothing is sure.
+// A place up to which the text surely is well-formed; 0 where nothing is sure.
 pub fn pass(s: &[u8]) -> usize
-    ensures { λ r. ⌜ Passed (now (s .entry)) 0 r ⌝ }
+    ensures { λ r. ⌜ WellTo (now (s .entry)) r ⌝ }
 {
     if s.len() < 32 {
         return 0;

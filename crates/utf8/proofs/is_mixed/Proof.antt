@@ -1,4 +1,4 @@
--- `is_mixed` asks whether sequence after sequence reaches the end, from a place that whole sequences surely reach.
+-- `is_mixed` asks whether sequence after sequence reaches the end, from a place up to which the text surely is well-formed.
 -- By `walked-all`: where it stops before the end, no sequence stands.
 use borrow.Author.Needs.{needs}
 use Rattle.utf8.proofs.BlockLaws.{walked-all}

@@ -6,7 +6,7 @@ use mathlib.Core.List.{List}
 use lib.ListN.{length, drop}
 use Rattle.utf8.specs.inner.Width.{widthAt, isUtf8}
 
--- from place a to place b whole sequences were passed
+-- from place a to place b nothing was decided: the rest is well-formed from the one on exactly if it is from the other
 pub record Passed (s : List ℕ) (a b : ℕ) : Type 0 where
   pub onward : a ≤ b
   pub inside : b ≤ length s

@@ -1,10 +1,17 @@
--- What the fast pass in front of the rows promises: how far a text surely stands in whole sequences. Every promise is
--- one-sided: it says what holds where nothing misfits, and nothing where something does. `WindowLaws.reach` shows that
--- a text is made of sequences up to a place where its bytes fit. Assumes nothing.
+-- What the fast pass in front of the rows promises: how far a text surely is well-formed. Every promise is one-sided: it
+-- says what holds where nothing misfits, and nothing where something does. `WindowLaws.reach` shows that a text is
+-- well-formed up to a place where its bytes fit. Assumes nothing.
 use Prim.Native.Nat.{ℕ, _+_, _/_, _≤_, _<_}
 use mathlib.Core.Path.{_≡_}
 use mathlib.Core.List.{List, _∷_}
+use lib.ListN.{length, take}
 use Rattle.scan.specs.Place.{byteAt}
+use Rattle.utf8.specs.Utf8.{Utf8}
+
+-- a text is well-formed up to place b
+pub record WellTo (s : List ℕ) (b : ℕ) : Type 0 where
+  pub inside : b ≤ length s
+  pub whole : Utf8 (take b s)
 
 -- no byte is above n
 pub record Most (s : List ℕ) (n : ℕ) : Type 0 where
