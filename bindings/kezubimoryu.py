@@ -31,7 +31,7 @@ import os
 import struct
 from typing import Any, Dict, Iterator, List, NamedTuple, Optional, Tuple, Union
 
-__version__ = "0.10.0"
+__version__ = "0.10.1"
 
 __all__ = [
     "KEZ_MOST", "KEZ_CANONICAL_MOST", "KEZ_NOTEPACK_STRING_MOST", "KEZ_ELEMENT_BYTES", "KEZ_ELEMENTS_MOST",

@@ -21,7 +21,7 @@
 use std::fmt;
 
 /// The version of the library, as in the header.
-pub const KEZ_VERSION: &str = "0.10.0";
+pub const KEZ_VERSION: &str = "0.10.1";
 /// No accepted input is longer, but for a string form, of which the bytes that it holds are counted, and a piece of a
 /// message that is hashed; nor is an event in strict form, nor NSON (rules 1.9, 14.3 and 16.8). A strict form is never
 /// longer than what it was read from, so a buffer as long as the packed bytes or the text is always enough (rules 3.7

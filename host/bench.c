@@ -1,10 +1,12 @@
 /* Nanoseconds for a call of each entry on its records: the library as linked, host/reference by its shared library
  * (first word), a plain memcpy, what the shared library of host/peers.cc has (second word, `-`: none), and a program
  * that takes `--bench ENTRY FILE N` (third word, may be missing; NAMES, a sed script, turns an entry's name into its
- * own). The JSON parsers take the text that kez_json_read takes, and only parse it. A hash is its three entries, one
- * after the other; beside it stand plain C, OpenSSL, and OpenSSL without the processor's SHA instructions, in a process
- * of its own. The table is gone through several times and the best figure of each kept, so that a busy moment of the
- * machine does not count. It goes to standard output, and its figures line by line to target/host/bench.tsv. */
+ * own). The JSON parsers take the text that kez_json_read takes, and only parse it. `utf8` is kez_notepack_read, and
+ * `utf8_json` kez_json_read, of records that are nearly all content; beside the first stands simdjson's check of UTF-8
+ * on the content alone, and the reference's check is Rust's own, from_utf8. A hash is its three entries, one after the
+ * other; beside it stand plain C, OpenSSL, and OpenSSL without the processor's SHA instructions, in a process of its
+ * own. The table is gone through several times and the best figure of each kept, so that a busy moment of the machine
+ * does not count. It goes to standard output, and its figures line by line to target/host/bench.tsv. */
 #define _GNU_SOURCE
 #include "kezubimoryu.h"
 #include "plain_sha256.h"
@@ -20,7 +22,7 @@ enum { PASSES = 12, ROUNDS = 3, ROUND_NS = 1500000, ROOM = KEZ_ELEMENTS_MOST };
 /* Records */
 
 /* The forms that an entry can take. */
-typedef enum { PACKED, NSON, STRING, FORMS } form;
+typedef enum { PACKED, NSON, STRING, CONTENT, FORMS } form;
 
 /* A table of records. */
 typedef struct {
@@ -29,15 +31,15 @@ typedef struct {
 
 typedef struct {
     const char *name;
-    const char *only; /* the entries that it is for: their names start so; NULL: all but those of tables and hashes */
+    const char *only; /* the entries that it is for: their names start so; NULL: all but those of tables, hashes, utf8 */
     uint64_t refusal; /* what they refuse it with */
     table *table;     /* that it is offered to, if it is one for those */
     uint64_t value;   /* what that offer is answered */
     uint8_t packed[69632], text[69632], string[94208];
-    size_t packed_len, text_len, string_len;
+    size_t packed_len, text_len, string_len, content_at, content_len;
 } __attribute__((aligned(4096))) record;
 
-static record records[24];
+static record records[31];
 
 static void put(record *r, const void *part, size_t len)
 {
@@ -69,6 +71,8 @@ static void make(record *r, const char *name, size_t size, size_t tags, const ch
     size_t content = size - r->packed_len - 1 - tags * TAG_BYTES;
     content -= content < 130 ? 1 : content < 16386 ? 2 : 3;
     put_varint(r, content);
+    r->content_at = r->packed_len;
+    r->content_len = content;
     size_t unit = strlen(text), whole = content / unit * unit;
     for (size_t at = 0; at < whole; at += unit)
         put(r, text, unit);
@@ -247,10 +251,12 @@ static const entry entries[] = {
     {"table_empty", "kez_table_empty", EMPTIES, kez_table_empty, PACKED},
     {"sha256", "kez_sha256_add", HASHES, &library_hash, PACKED},
     {"id_belongs", "kez_id_belongs", ASKS, kez_id_belongs, PACKED},
+    {"utf8", "kez_notepack_read", READS, kez_notepack_read, PACKED},
+    {"utf8_json", "kez_json_read", WRITES, kez_json_read, NSON},
 };
 
 /* Who is measured. Some stand beside one entry alone; those that have a symbol are in the peers' library. */
-enum { LIBRARY, REFERENCE, PLAIN_C, OPENSSL, NO_SHA, RAPIDJSON, SIMDJSON, JANSSON, MEMCPY, PROGRAM, ALL };
+enum { LIBRARY, REFERENCE, PLAIN_C, OPENSSL, NO_SHA, RAPIDJSON, SIMDJSON, JANSSON, SIMD_UTF8, MEMCPY, PROGRAM, ALL };
 static const struct {
     const char *name, *beside, *symbol;
 } others[ALL] = {
@@ -262,6 +268,7 @@ static const struct {
     [RAPIDJSON] = {"RapidJSON", "json_read", "peer_rapidjson"},
     [SIMDJSON] = {"simdjson", "json_read", "peer_simdjson"},
     [JANSSON] = {"Jansson", "json_read", "peer_jansson"},
+    [SIMD_UTF8] = {"simd utf8", "utf8", "peer_simdjson_utf8"},
     [MEMCPY] = {"memcpy", NULL, NULL},
     [PROGRAM] = {"program", NULL, NULL},
 };
@@ -290,6 +297,7 @@ static entry by(const entry *e, int who, void *reference, void *peers)
         o.function = is_beside ? plain_sha256 : NULL;
     } else if (who != LIBRARY) {
         o.shape = PARSES;
+        o.takes = who == SIMD_UTF8 ? CONTENT : e->takes;
         o.function = peers && is_beside && others[who].symbol ? dlsym(peers, others[who].symbol) : NULL;
     }
     return o;
@@ -462,18 +470,20 @@ static void keep_figure(double *best, double ns)
 
 static void measure(row *best, const entry *e, const record *r, void *reference, void *peers, const char *program)
 {
-    const uint8_t *const forms[FORMS] = {r->packed, r->text, r->string}, *in = forms[e->takes];
-    const size_t lengths[FORMS] = {r->packed_len, r->text_len, r->string_len};
+    const uint8_t *const forms[FORMS] = {r->packed, r->text, r->string, r->packed + r->content_at};
+    const uint8_t *const in = forms[e->takes];
+    const size_t lengths[FORMS] = {r->packed_len, r->text_len, r->string_len, r->content_len};
     uint64_t calls = 16;
     best->len = lengths[e->takes];
     offered = r;
     lent = r->table ? *r->table : empty;
     for (int who = 0; who < PROGRAM; who++) {
         entry o = by(e, who, reference, peers);
-        uint64_t refusal = o.shape >= HASHES ? 0 : r->refusal;
+        /* who only checks UTF-8 has no other word than no */
+        uint64_t refusal = who == SIMD_UTF8 ? r->refusal != 0 : o.shape >= HASHES ? 0 : r->refusal;
         calls = 16;
         for (int i = 0; i < ROUNDS && o.function; i++)
-            keep_best(&best->ns[who], round_of(&o, in, best->len, refusal, &calls));
+            keep_best(&best->ns[who], round_of(&o, forms[o.takes], lengths[o.takes], refusal, &calls));
     }
     if (best->ns[OPENSSL] > 0)
         keep_figure(&best->ns[NO_SHA], without_sha(in, best->len));
@@ -484,7 +494,7 @@ static void measure(row *best, const entry *e, const record *r, void *reference,
 /* All elements are listed of the small, the middle and the fullest record: content does not matter. */
 static int is_for(const record *r, const entry *e)
 {
-    if (!r->only && e->shape >= OFFERS)
+    if (!r->only && (e->shape >= OFFERS || !strncmp(e->name, "utf8", 4)))
         return 0;
     if (r->only)
         return !strncmp(r->only, e->name, strlen(r->only));
@@ -600,6 +610,38 @@ static void make_messages(int first)
         records[j].only = "sha256";
 }
 
+/* Texts of each kind, from records[first] on: ASCII, a third of it not, and nothing but characters of two, three or
+ * four bytes; and the last two once more, which make_forms spoils at their ends. */
+static void make_texts(int first)
+{
+    static const struct {
+        const char *name, *text;
+        int is_bad;
+    } all[] = {
+        {"ASCII", "Threshold 42 dB at 1000 Hz, comfort 61 dB; the next visit is in spring. ", 0},
+        {"a third", "abcd\xd0\xb4", 0},
+        {"two bytes", "\xd0\xb4", 0},
+        {"three bytes", "\xe8\x81\xb4", 0},
+        {"four bytes", "\xf0\x9f\x91\x82", 0},
+        {"three, bad", "\xe8\x81\xb4", 1},
+        {"four, bad", "\xf0\x9f\x91\x82", 1},
+    };
+    for (size_t i = 0; i < sizeof all / sizeof *all; i++) {
+        record *r = &records[first + (int)i];
+        make(r, all[i].name, 60000, 0, all[i].text);
+        r->only = "utf8";
+        r->refusal = all[i].is_bad ? 5 : 0;
+    }
+}
+
+/* The last byte that is not ASCII becomes one that no character has. */
+static void spoil(uint8_t *text, size_t len)
+{
+    while (len && text[len - 1] < 0x80)
+        len--;
+    text[len - 1] = 0xff;
+}
+
 /* The other forms of each record. */
 static void make_forms(writes *nson_write)
 {
@@ -607,6 +649,10 @@ static void make_forms(writes *nson_write)
         record *r = &records[j];
         r->text_len = nson_write(r->packed, r->packed_len, r->text, sizeof r->text).value;
         spell(r);
+        if (r->refusal == 5) {
+            spoil(r->packed, r->packed_len);
+            spoil(r->text, r->text_len);
+        }
     }
     records[12].string[records[12].string_len - 1] = '=';
 }
@@ -634,6 +680,7 @@ int main(int count, char **words)
     make_tables();
     make_offered(13);
     make_messages(22);
+    make_texts(24);
     make_forms(nson_write);
     for (int pass = 0; pass < PASSES; pass++)
         for (int i = 0; i < ENTRIES; i++)

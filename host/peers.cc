@@ -1,5 +1,5 @@
 // What others wrote, for host/bench: JSON parsers, each of which parses a text into its own tree and says whether it
-// could; and a hash. Those are built whose headers are there (host/bench-install gets them).
+// could; a check of UTF-8; and a hash. Those are built whose headers are there (host/bench-install gets them).
 #include <cstddef>
 #include <cstdint>
 
@@ -20,6 +20,11 @@ extern "C" int peer_simdjson(const uint8_t *text, size_t len)
 {
     static simdjson::dom::parser parser;
     return parser.parse(reinterpret_cast<const char *>(text), len, true).error() == simdjson::SUCCESS;
+}
+
+extern "C" int peer_simdjson_utf8(const uint8_t *text, size_t len)
+{
+    return simdjson::validate_utf8(reinterpret_cast<const char *>(text), len);
 }
 #endif
 

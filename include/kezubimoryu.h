@@ -48,8 +48,8 @@ extern "C" {
 
 /* The version of this header; the tool and the pkg-config file have it from here. As a number: 10,000 for a major
  * version, 100 for a minor one, 1 for a patch. */
-#define KEZ_VERSION "0.10.0"
-#define KEZ_VERSION_NUMBER 1000
+#define KEZ_VERSION "0.10.1"
+#define KEZ_VERSION_NUMBER 1001
 
 /* The version of the library that runs, as such a number. A host that was compiled with this header and runs with the
  * library of the same version has kez_version() == KEZ_VERSION_NUMBER.

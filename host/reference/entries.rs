@@ -11,10 +11,10 @@ pub struct KezAnswer {
     value: u64,
 }
 
-/// 0.10.0: 10,000 for a major version, 100 for a minor one, 1 for a patch.
+/// 0.10.1: 10,000 for a major version, 100 for a minor one, 1 for a patch.
 #[no_mangle]
 pub extern "C" fn kez_version() -> u64 {
-    1000
+    1001
 }
 
 fn told(answer: Answer<u64>) -> KezAnswer {

@@ -307,9 +307,9 @@ pub extern "C" fn kez_id_belongs(packed: &[u8]) -> KezAnswer
 // The version as one number: 10,000 for a major one, 100 for a minor one, 1 for a patch.
 #[no_mangle]
 pub extern "C" fn kez_version() -> u64
-    ensures { λ r. ⌜ r ≡ 1000 ⌝ }
+    ensures { λ r. ⌜ r ≡ 1001 ⌝ }
 {
-    1000
+    1001
 }
 
 fn outcome_number(o: Outcome) -> u64

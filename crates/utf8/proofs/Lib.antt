@@ -3,4 +3,6 @@ pub mod WidthLaws
 pub mod Laws
 pub mod EncodeLaws
 pub mod BlockLaws
-pub mod MisfitLaws
+pub mod WindowLaws
+pub mod FittingLaws
+pub mod Former

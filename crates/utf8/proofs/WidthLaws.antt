@@ -13,9 +13,9 @@ use borrow.Author.Tests.{lt-ltb, le-ltb}
 use Rattle.scan.specs.inner.Span.{here, step, Span}
 use Rattle.scan.proofs.Step.{byte-none}
 use Rattle.scan.proofs.SpanLaws.{from-span, span-fits}
-use Rattle.utf8.specs.Utf8.{Char, one, two, three-E0, three-E1, three-ED, three-EE, four-F0, four-F1, four-F4}
+use Rattle.utf8.specs.Utf8.{octet, Char, one, two, three-E0, three-E1, three-ED, three-EE, four-F0, four-F1, four-F4}
 use Rattle.utf8.specs.inner.Width.{widthOf, widthAt}
-use Rattle.utf8.proofs.RowLaws.{of-one, widthFirst, char-width, Row, bad, row-one, row-two, row-three, row-four, row}
+use Rattle.utf8.proofs.RowLaws.{at-one, widthFirst, char-width, Row, bad, row-one, row-two, row-three, row-four, row}
 
 -- ---- from bytes to places
 
@@ -109,7 +109,7 @@ width-within s a n = omega (arith, width-left s a, width-place s a n)
 
 -- an ASCII byte is a sequence of its own
 pub width-ascii : (s : List ℕ) (a : ℕ) → a < length s → getD s a 0 < 0x80 → widthAt s a ≡ 1
-width-ascii s a h l = width-here s a h ∙ of-one (getD s a 0) _ _ _ l
+width-ascii s a h l = width-here s a h ∙ at-one (getD s a 0) _ _ _ (octet (omega arith) (omega arith))
 
 -- the width in a part that starts at a place is the width there in the whole
 pub width-drop : (s : List ℕ) (a i : ℕ) → widthAt (drop a s) i ≡ widthAt s (a + i)

@@ -1,4 +1,4 @@
 pub mod Block
-pub mod Misfit
+pub mod Windows
 pub mod Width
 pub mod Scalar

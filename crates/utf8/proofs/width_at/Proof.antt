@@ -22,13 +22,22 @@ returns c = let a = c .before .before .args in bounded _ _ _ (sym (width-none (a
 returns-2 : tie.Need-returns-2
 returns-2 c = let a = c .before .before .before .before .args in bounded _ _ _ (sym (width-ascii (a .s .now) (a .at) (c .before .before .if1 .left) (c .if2 .taken)))
 
--- the width of the four bytes
+-- four bytes that are there
 returns-3 : tie.Need-returns-3
 returns-3 c =
-    let a = c .before .before .before .before .before .before .before .before .before .args in
+    let p = c .before .before .before .before .before .before .before .before in
+    let a = p .before .before .args in
+    bounded (a .s .now) (a .at) _ (rw (width-here (a .s .now) (a .at) (p .if1 .left)) (c .width-of .ensures))
+
+-- four bytes, those past the end being 0
+returns-4 : tie.Need-returns-4
+returns-4 c =
+    let b = c .before .before in
+    let p = b .before .before .before .before .before .before in
+    let a = p .before .before .args in
     bounded (a .s .now) (a .at) _
-    (rw (width-here (a .s .now) (a .at) (c .before .before .before .before .before .before .before .if1 .left), ← c .before .before .before .before .byte-at .ensures, ← c .before .before .before .byte-at2 .ensures, ← c .before .before .byte-at3 .ensures)
-    (c .width-of .ensures))
+    (rw (width-here (a .s .now) (a .at) (p .if1 .left), ← b .before .before .byte-at .ensures, ← b .before .byte-at2 .ensures, ← b .byte-at3 .ensures)
+    (c .width-of2 .ensures))
 
 pub width-at-spec : {M : Type 1} → statement M
 width-at-spec =
@@ -38,11 +47,21 @@ width-at-spec =
     (λ c. search needs)
     returns-2
     (λ c. search needs)
+    (λ c. search needs)
+    (λ c. search needs)
+    (λ c. search needs)
+    (λ c. search needs)
+    (λ c. search needs)
+    (λ c. search needs)
+    (λ c. search needs)
     (λ c κs. search needs)
+    returns-3
     (λ c. search needs)
     (λ c κs. search needs)
     (λ c. search needs)
     (λ c κs. search needs)
     (λ c. search needs)
     (λ c κs. search needs)
-    returns-3)
+    (λ c. search needs)
+    (λ c κs. search needs)
+    returns-4)

@@ -1,17 +1,12 @@
 -- What the private loops of the check promise one another: how far they went, and that nothing was decided on the way.
 -- Assumes nothing.
-use Prim.Native.Nat.{ℕ, _≤_, _<_, max}
+use Prim.Native.Nat.{ℕ, _≤_, _<_}
 use mathlib.Core.Path.{_≡_}
-use mathlib.Core.List.{List, [], _∷_}
+use mathlib.Core.List.{List}
 use lib.ListN.{length, drop}
 use Rattle.utf8.specs.inner.Width.{widthAt, isUtf8}
 
--- the highest byte, 0 where there is none
-unfoldable pub highest : List ℕ → ℕ
-highest [] = 0
-highest (b ∷ l) = max b (highest l)
-
--- from place a to place b whole sequences were passed
+-- from place a to place b nothing was decided: the rest is well-formed from the one on exactly if it is from the other
 pub record Passed (s : List ℕ) (a b : ℕ) : Type 0 where
   pub onward : a ≤ b
   pub inside : b ≤ length s

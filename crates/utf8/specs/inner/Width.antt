@@ -3,40 +3,40 @@
 -- `width-consumes` (a width other than 0 is that of a character that stands there), both stated by `scan/inner/Span`,
 -- which an auditor of them reads too; and `width-here` (`widthAt` is `widthOf` of four bytes). Assumes nothing.
 use Prim.Native.Nat.{ℕ, zero, suc, _+_, _-_}
-use mathlib.Core.Bool.{Bool, true, false}
+use mathlib.Core.Bool.{Bool, true, false, _&&_}
 use mathlib.Core.List.{List, [], _∷_}
 use lib.ListN.{length}
 use lib.Dec.{ltb, eqb}
 use Rattle.scan.specs.Choice.{pick}
 use Rattle.scan.specs.Place.{byteAt, within}
 
+-- UTF8-tail = %x80-BF
 abbrev pub isTail : ℕ → Bool
 isTail b = within 0x80 0xBF b
 
--- the range of the second byte behind a first byte of three or four: no overlong form, no surrogate, nothing past
--- 10FFFF
-unfoldable pub secondLow : ℕ → ℕ
-secondLow a = pick (eqb a 0xE0) 0xA0 (pick (eqb a 0xF0) 0x90 0x80)
-
-unfoldable pub secondHigh : ℕ → ℕ
-secondHigh a = pick (eqb a 0xED) 0x9F (pick (eqb a 0xF4) 0x8F 0xBF)
-
--- the bytes behind the first: as many as the width says
-unfoldable pub twoOf : ℕ → ℕ
-twoOf b = pick (isTail b) 2 0
-
-unfoldable pub threeOf : ℕ → ℕ → ℕ → ℕ
-threeOf a b c = pick (within (secondLow a) (secondHigh a) b) (pick (isTail c) 3 0) 0
-
-unfoldable pub fourOf : ℕ → ℕ → ℕ → ℕ → ℕ
-fourOf a b c d = pick (within (secondLow a) (secondHigh a) b) (pick (isTail c) (pick (isTail d) 4 0) 0) 0
-
--- the width of the sequence that begins with the bytes a, b, c, d: 1 to 4, or 0 where it is ill-formed. A byte past the
--- end is 0, which is no tail.
+-- the width of the sequence that begins with the bytes a, b, c, d: 1 to 4, or 0 where it is ill-formed. One case for
+-- each row of RFC 3629, section 4, in its order: the first byte chooses the row, the others must be as it says. A byte
+-- past the end is 0, which no row has behind its first byte.
 unfoldable pub widthOf : ℕ → ℕ → ℕ → ℕ → ℕ
 widthOf a b c d =
-    pick (ltb a 0x80) 1
-    (pick (ltb a 0xC2) 0 (pick (ltb a 0xE0) (twoOf b) (pick (ltb a 0xF0) (threeOf a b c) (pick (ltb a 0xF5) (fourOf a b c d) 0))))
+    -- UTF8-1 = %x00-7F
+    pick (within 0x00 0x7F a) 1
+    -- UTF8-2 = %xC2-DF UTF8-tail
+    (pick (within 0xC2 0xDF a) (pick (isTail b) 2 0)
+    -- UTF8-3 = %xE0 %xA0-BF UTF8-tail /
+    (pick (eqb a 0xE0) (pick (within 0xA0 0xBF b && isTail c) 3 0)
+    --          %xE1-EC 2( UTF8-tail ) /
+    (pick (within 0xE1 0xEC a) (pick (isTail b && isTail c) 3 0)
+    --          %xED %x80-9F UTF8-tail /
+    (pick (eqb a 0xED) (pick (within 0x80 0x9F b && isTail c) 3 0)
+    --          %xEE-EF 2( UTF8-tail )
+    (pick (within 0xEE 0xEF a) (pick (isTail b && isTail c) 3 0)
+    -- UTF8-4 = %xF0 %x90-BF 2( UTF8-tail ) /
+    (pick (eqb a 0xF0) (pick (within 0x90 0xBF b && isTail c && isTail d) 4 0)
+    --          %xF1-F3 3( UTF8-tail ) /
+    (pick (within 0xF1 0xF3 a) (pick (isTail b && isTail c && isTail d) 4 0)
+    --          %xF4 %x80-8F 2( UTF8-tail )
+    (pick (eqb a 0xF4) (pick (within 0x80 0x8F b && isTail c && isTail d) 4 0) 0))))))))
 
 -- the width of the sequence at a place: 0 where it is ill-formed, is cut by the end, or where nothing stands
 unfoldable pub widthAt : List ℕ → ℕ → ℕ
