@@ -1,3 +1,1 @@
 pub mod Refusals
-pub mod Given
-pub mod Offering

@@ -48,7 +48,3 @@ outcomeNumber NotKept = 4
 
 abbrev pub outcomeTold : Answer Outcome → Answer ℕ
 outcomeTold a = andThen a λ r. shown (outcomeNumber r)
-
--- an offer of no bytes answers a: its 34 comes first, and else why there are none
-abbrev pub nothingOffered : ℕ × ℕ → ℕ → ℕ → ℕ × ℕ
-nothingOffered a n p = pick (eqb (a .0) 34) a (n, p)

@@ -12,7 +12,6 @@ use rivals::RivalsRead;
 use strict::StrictRead;
 use tableoffer::Offering;
 use tableslot::SlotRead;
-use versioned::StartRead;
 ghost use mathlib.Core.Path.{_≡_};
 ghost use mathlib.Core.Bool.{true, false};
 ghost use Rattle.scan.specs.Choice.{pick, andThen, shown};
@@ -27,7 +26,6 @@ ghost use Rattle.strict.specs.inner.Answers.{strictRead};
 ghost use Rattle.versioned.specs.Versioned.{given};
 ghost use Rattle.versioned.specs.Views.{numbersGiven, textsGiven, elementGiven};
 ghost use Rattle.versioned.specs.Moves.{versions, versionLeaves, bares, bareLeaves};
-ghost use Rattle.versioned.specs.inner.Moved.{movedNumbers};
 ghost use Rattle.stringform.specs.StringForm.{eventString, readString, itself};
 ghost use Rattle.canonical.specs.Canonical.{canonical};
 ghost use Rattle.nson.specs.Nson.{nson};
@@ -42,7 +40,7 @@ ghost use Rattle.sha256.specs.Pieces.{started};
 ghost use Rattle.sha256bytes.specs.StateBytes.{bytesOfState, addIn, finishIn};
 ghost use Rattle.identity.specs.Identity.{belongs};
 ghost use Rattle.identity.specs.inner.Answers.{idRead};
-ghost use Rattle.kezubimoryu.specs.Entries.{isBare, ok, yesNo, lent, keptNumber, keptAnswer, outcomeNumber, outcomeTold, nothingOffered};
+ghost use Rattle.kezubimoryu.specs.Entries.{isBare, ok, yesNo, lent, keptNumber, keptAnswer, outcomeNumber, outcomeTold};
 
 // `kez_answer` of the header: refusal 0 and a value, or the number of refusal and its place.
 #[repr(C)]
@@ -81,16 +79,6 @@ fn is_bare(bare: u64) -> bool
     ensures { λ r. ⌜ r ≡ isBare bare ⌝ }
 {
     bare != 0
-}
-
-// What is told of the bare bytes of an input, told of the bytes given.
-fn moved(bare: u64, a: KezAnswer) -> KezAnswer
-    ensures { λ r. ⌜ (r .refusal, r .value) ≡ movedNumbers (isBare bare) (a .refusal, a .value) ⌝ }
-{
-    KezAnswer {
-        refusal: a.refusal,
-        value: versioned::moved_place(is_bare(bare), a.refusal, a.value),
-    }
 }
 
 // A yes or no as 1 or 0.
@@ -146,14 +134,7 @@ fn strict_told(found: StrictRead) -> KezAnswer
 pub extern "C" fn kez_notepack_is_strict(packed: &[u8], bare: u64) -> KezAnswer
     ensures { λ a. ⌜ (a .refusal, a .value) ≡ twoNumbers (yesNo (given (isBare bare) strict (now (packed .entry)))) ⌝ }
 {
-    let first = versioned::start(packed, is_bare(bare));
-    match first {
-        StartRead::Refused(r) => refused(r),
-        StartRead::At(k) => moved(
-            bare,
-            strict_told(strict::is_strict(versioned::from(packed, k))),
-        ),
-    }
+    strict_told(eitherform::is_strict(packed, is_bare(bare)))
 }
 
 #[no_mangle]
@@ -161,14 +142,7 @@ pub extern "C" fn kez_notepack_write(packed: &[u8], bare: u64, out: &mut [u8]) -
     ensures { λ a. ⌜ (a .refusal, a .value) ≡ twoNumbers (writes pack (given (isBare bare) unpack (now (packed .entry))) (now (out .entry))) ⌝ }
     ensures { λ _. ⌜ now (out .exit) ≡ leaves pack (given (isBare bare) unpack (now (packed .entry))) (now (out .entry)) ⌝ }
 {
-    let first = versioned::start(packed, is_bare(bare));
-    match first {
-        StartRead::Refused(r) => refused(r),
-        StartRead::At(k) => moved(
-            bare,
-            written(strict::write_strict(versioned::from(packed, k), out)),
-        ),
-    }
+    written(eitherform::write_strict(packed, is_bare(bare), out))
 }
 
 #[no_mangle]
@@ -255,14 +229,7 @@ pub extern "C" fn kez_canonical_write(packed: &[u8], bare: u64, out: &mut [u8]) 
     ensures { λ a. ⌜ (a .refusal, a .value) ≡ twoNumbers (writes canonical (given (isBare bare) unpack (now (packed .entry))) (now (out .entry))) ⌝ }
     ensures { λ _. ⌜ now (out .exit) ≡ leaves canonical (given (isBare bare) unpack (now (packed .entry))) (now (out .entry)) ⌝ }
 {
-    let first = versioned::start(packed, is_bare(bare));
-    match first {
-        StartRead::Refused(r) => refused(r),
-        StartRead::At(k) => moved(
-            bare,
-            written(canonical::write_canonical(versioned::from(packed, k), out)),
-        ),
-    }
+    written(eitherform::write_canonical(packed, is_bare(bare), out))
 }
 
 #[no_mangle]
@@ -270,14 +237,7 @@ pub extern "C" fn kez_nson_write(packed: &[u8], bare: u64, out: &mut [u8]) -> Ke
     ensures { λ a. ⌜ (a .refusal, a .value) ≡ twoNumbers (writes nson (carried (given (isBare bare) unpack (now (packed .entry)))) (now (out .entry))) ⌝ }
     ensures { λ _. ⌜ now (out .exit) ≡ leaves nson (carried (given (isBare bare) unpack (now (packed .entry)))) (now (out .entry)) ⌝ }
 {
-    let first = versioned::start(packed, is_bare(bare));
-    match first {
-        StartRead::Refused(r) => refused(r),
-        StartRead::At(k) => moved(
-            bare,
-            written(nsonwrite::write_nson(versioned::from(packed, k), out)),
-        ),
-    }
+    written(eitherform::write_nson(packed, is_bare(bare), out))
 }
 
 #[no_mangle]
@@ -403,14 +363,7 @@ fn id_told(found: IdRead) -> KezAnswer
 pub extern "C" fn kez_id_belongs(packed: &[u8], bare: u64) -> KezAnswer
     ensures { λ a. ⌜ (a .refusal, a .value) ≡ twoNumbers (yesNo (given (isBare bare) belongs (now (packed .entry)))) ⌝ }
 {
-    let first = versioned::start(packed, is_bare(bare));
-    match first {
-        StartRead::Refused(r) => refused(r),
-        StartRead::At(k) => moved(
-            bare,
-            id_told(identity::id_belongs(versioned::from(packed, k))),
-        ),
-    }
+    id_told(eitherform::id_belongs(packed, is_bare(bare)))
 }
 
 // The version as one number: 10,000 for a major one, 100 for a minor one, 1 for a patch.
@@ -452,16 +405,6 @@ pub extern "C" fn kez_table_empty(slots: &mut [u8], cells: &mut [u8]) -> KezAnsw
     written(bytetable::empty(slots, cells))
 }
 
-// An offer of no bytes changes nothing; its 34 comes before the refusal of the start.
-fn nothing_offered(a: KezAnswer, r: Refusal) -> KezAnswer
-    ensures { λ t. ⌜ (t .refusal, t .value) ≡ nothingOffered (a .refusal, a .value) (r .number) (r .place) ⌝ }
-{
-    if a.refusal == event::BAD_TABLE as u64 {
-        return a;
-    }
-    refused(r)
-}
-
 #[no_mangle]
 pub extern "C" fn kez_table_offer(
     slots: &mut [u8],
@@ -473,17 +416,7 @@ pub extern "C" fn kez_table_offer(
     ensures { λ _. ⌜ now (slots .exit) ≡ bytesAfter (tableOfferOf (now (slots .entry)) (now (cells .entry)) (given (isBare bare) unpack (now (packed .entry)))) (now (slots .entry)) ⌝ }
     ensures { λ _. ⌜ now (cells .exit) ≡ cellsAfter (tableOfferOf (now (slots .entry)) (now (cells .entry)) (given (isBare bare) unpack (now (packed .entry)))) (now (cells .entry)) ⌝ }
 {
-    let first = versioned::start(packed, is_bare(bare));
-    match first {
-        StartRead::Refused(r) => nothing_offered(
-            offered(bytetable::offer(slots, cells, &packed[..0])),
-            r,
-        ),
-        StartRead::At(k) => moved(
-            bare,
-            offered(bytetable::offer(slots, cells, versioned::from(packed, k))),
-        ),
-    }
+    offered(eitherform::offer(slots, cells, packed, is_bare(bare)))
 }
 
 #[no_mangle]

@@ -1,5 +1,6 @@
--- The rules' own examples (17.4 to 17.6), and this: a wrong word whether bytes are bare can't be seen: 01 and an event of kind 1 without content and tags, all else zero,
--- said to be bare, reads well as an event of kind 0 with one byte of content.
+-- The rules' own examples (17.4 to 17.6), and this: a wrong word whether bytes are bare can't be seen. 01 and an event
+-- of kind 1 without content and tags, all else zero, said to be bare, read well as an event of kind 0 with one byte of
+-- content.
 -- By running the definitions on both readings.
 use Prim.Native.Nat.{ℕ}
 use mathlib.Core.Path.{_≡_, refl, ap}
@@ -8,6 +9,7 @@ use mathlib.Core.List.{List, [], _∷_, _++_}
 use native.Mathlib.Omega.{arith}
 use lib.ListN.{replicate}
 use Rattle.scan.specs.Choice.{shown, refused, many}
+use Rattle.scan.specs.Place.{within}
 use Rattle.utf8.specs.inner.Width.{widthOf, sequences, isUtf8}
 use Rattle.varint.specs.Varint.{spelled, varintAt}
 use Rattle.event.specs.Event.{Event}
@@ -26,7 +28,7 @@ abbrev other : Event
 other = record { id = 1 ∷ replicate 31 0; pubkey = replicate 32 0; sig = replicate 64 0; createdAt = 0; kind = 0; tags = []; content = 0 ∷ [] }
 
 pub wrong-word : WrongWord
-unfolding given startOf versionAt unpack eventOf packedAt headAt numbersAt contentAt numberAt textAt payloadAt textOf varintAt spelled many isUtf8 sequences widthOf
+unfolding given startOf versionAt unpack eventOf packedAt headAt numbersAt contentAt numberAt textAt payloadAt textOf varintAt spelled many isUtf8 sequences widthOf within
 wrong-word =
     record {
       bytes = 1 ∷ bare;

@@ -13,12 +13,11 @@ use lib.Dec.{leb, eqb}
 use borrow.Author.Tests.{eqb-true, lt-ltb}
 use Rattle.scan.specs.Choice.{pick, Answer, shown, refused, andThen}
 use Rattle.scan.proofs.Step.{pick-true, pick-by, false-true}
-use Rattle.buffer.specs.Entry.{written, writes, leaves}
-use Rattle.event.specs.Answers.{twoNumbers}
+use Rattle.buffer.specs.Entry.{written, writes}
 use Rattle.event.specs.inner.Tells.{among, Tells, value, refusal}
 use Rattle.notepack.specs.inner.Numbers.{packedNumbers}
 use Rattle.versioned.specs.Versioned.{startOf, behind, given}
-use Rattle.versioned.specs.inner.Moved.{isReaders, movedPlace, moved, movedNumbers}
+use Rattle.versioned.specs.inner.Moved.{isReaders, movedPlace, moved}
 use Rattle.versioned.proofs.Starting.{Starts, versioned-starts, clash}
 
 -- ---- the reader's numbers
@@ -39,11 +38,6 @@ all-pass f (x ∷ l) n h k = let p = pick-true (f x) (allPass f l) h in go (p .0
 pub readers-own : (n : ℕ) → among packedNumbers n ≡ true → isReaders n ≡ true
 unfolding isReaders
 readers-own n h = all-pass isReaders packedNumbers n refl h
-
--- 0 is a value and no refusal
-none-readers : isReaders 0 ≡ false
-unfolding isReaders
-none-readers = refl
 
 -- another number keeps its place
 pub other-stays : (bare : Bool) (n p : ℕ) → isReaders n ≡ false → movedPlace bare n p ≡ p
@@ -98,21 +92,6 @@ module _ {A : Type 0} (bare : Bool) (entry : Answer A → Answer ℕ) (c : Passe
   entry-moved (shown a) = other-moved (c .answers a)
   entry-moved (refused n p) = c .refuses n (movedPlace bare n p) ∙ sym (ap (moved bare) (c .refuses n p))
 
-  -- the two numbers of C
-  two-moved : (y : Answer ℕ) → twoNumbers (moved bare y) ≡ movedNumbers bare (twoNumbers y)
-  two-moved (shown v) = ap (λ (q : ℕ). (0, q)) (sym (other-stays bare 0 v none-readers))
-  two-moved (refused n p) = refl
-
-  -- what C gets of an input of either form
-  pub entry-told : {P : A → Type 0} (f : List ℕ → Answer A) (s : List ℕ) {k : ℕ} → startOf bare s ≡ shown k
-      → Tells packedNumbers (length (drop k s)) P (f (drop k s))
-      → movedNumbers bare (twoNumbers (entry (f (drop k s)))) ≡ twoNumbers (entry (given bare f s))
-  entry-told f s {k} e h = sym (ap (λ (x : Answer A). twoNumbers (entry x)) (given-start s bare f e h) ∙ ap twoNumbers (entry-moved (f (drop k s))) ∙ two-moved (entry (f (drop k s))))
-
--- an entry that tells a number of the value
-pub shows-passes : {A : Type 0} (g : A → ℕ) → Passes (λ (x : Answer A). andThen x (λ (a : A). shown (g a)))
-shows-passes g = record { refuses = λ n p. refl; answers = λ a. answer }
-
 -- an entry that writes a text: 11 is none of the reader's numbers
 pub written-other : (text d : List ℕ) → Other (written text d)
 unfolding written isReaders
@@ -120,8 +99,3 @@ written-other text d = pick-by Other (leb (length text) (length d)) (λ t. answe
 
 pub writes-passes : {A : Type 0} (text : A → List ℕ) (d : List ℕ) → Passes (λ (x : Answer A). writes text x d)
 writes-passes text d = record { refuses = λ n p. refl; answers = λ a. written-other (text a) d }
-
--- and what it leaves
-pub leaves-moved : {A : Type 0} (bare : Bool) (text : A → List ℕ) (x : Answer A) (d : List ℕ) → leaves text (moved bare x) d ≡ leaves text x d
-leaves-moved bare text (shown a) d = refl
-leaves-moved bare text (refused n p) d = refl

@@ -74,7 +74,7 @@ fn is_readers(n: u64) -> bool
 }
 
 // The place of a refusal, or the length that it names.
-pub fn moved_place(bare: bool, number: u64, place: u64) -> u64
+fn moved_place(bare: bool, number: u64, place: u64) -> u64
     ensures { λ r. ⌜ r ≡ movedPlace bare number place ⌝ }
 {
     if bare {

@@ -17,7 +17,3 @@ movedPlace bare n p = pick bare p (pick (isReaders n) (pick (ltb p 65_536) (p + 
 abbrev pub moved : {A : Type 0} → Bool → Answer A → Answer A
 moved bare (shown a) = shown a
 moved bare (refused n p) = refused n (movedPlace bare n p)
-
--- the same of the two numbers that C gets
-abbrev pub movedNumbers : Bool → ℕ × ℕ → ℕ × ℕ
-movedNumbers bare a = (a .0, movedPlace bare (a .0) (a .1))

@@ -1,4 +1,4 @@
--- What an entry answers and leaves of an input of either form, by what it answers and leaves of the bare bytes.
+-- What a function answers and leaves of an input of either form, by what it answers and leaves of the bare bytes.
 -- One law where the start is refused, one where the bare bytes were asked: the refusal is moved, and nothing else.
 use Prim.Native.Nat.{ℕ}
 use mathlib.Core.Path.{_≡_, refl, sym, ap, _∙_}
@@ -8,7 +8,6 @@ use lib.ListN.{length, drop}
 use Rattle.scan.specs.Choice.{pick, Answer, shown, refused}
 use Rattle.scan.proofs.Step.{pick-by}
 use Rattle.buffer.specs.Entry.{writes}
-use Rattle.event.specs.Answers.{twoNumbers}
 use Rattle.event.specs.Event.{Event}
 use Rattle.event.specs.inner.Tells.{Tells}
 use Rattle.notepack.specs.inner.Numbers.{packedNumbers}
@@ -16,12 +15,8 @@ use Rattle.nson.specs.Nson.{nson}
 use Rattle.nson.specs.inner.Decision.{carries}
 use Rattle.nson.specs.Entries.{carried}
 use Rattle.versioned.specs.Versioned.{startOf, given}
-use Rattle.versioned.specs.inner.Moved.{isReaders, movedPlace, moved, movedNumbers}
-use Rattle.versioned.proofs.Moving.{Other, another, Passes, given-start, given-none, entry-told, written-other}
-
--- the start was asked with the caller's word
-pub started : {x b : Bool} {y z : Answer ℕ} (s : List ℕ) → x ≡ b → y ≡ startOf x s → y ≡ z → startOf b s ≡ z
-started s p q r = ap (λ (b : Bool). startOf b s) (sym p) ∙ sym q ∙ r
+use Rattle.versioned.specs.inner.Moved.{isReaders, movedPlace, moved}
+use Rattle.versioned.proofs.Moving.{Other, another, Passes, given-start, given-none, entry-moved, written-other}
 
 -- a buffer that a refusal leaves as it was
 abbrev pub Keeps : {A : Type 0} → (Answer A → List ℕ) → List ℕ → Type 0
@@ -29,16 +24,23 @@ Keeps left d = (n p : ℕ) → left (refused n p) ≡ d
 
 module _ {A : Type 0} (f : List ℕ → Answer A) (b : Bool) (s : List ℕ) where
   -- the start is refused
-  pub none-told : (entry : Answer A → Answer ℕ) → Passes entry → {n p : ℕ} → startOf b s ≡ refused n p → (n, p) ≡ twoNumbers (entry (given b f s))
-  none-told entry c {n} {p} e = sym (ap (λ (x : Answer A). twoNumbers (entry x)) (given-none b f s e) ∙ ap twoNumbers (c .refuses n p))
+  pub none-told : {n p : ℕ} → startOf b s ≡ refused n p → refused n p ≡ given b f s
+  none-told e = sym (given-none b f s e)
+
+  pub none-written : (entry : Answer A → Answer ℕ) → Passes entry → {n p : ℕ} → startOf b s ≡ refused n p → refused n p ≡ entry (given b f s)
+  none-written entry c {n} {p} e = sym (ap entry (given-none b f s e) ∙ c .refuses n p)
 
   pub none-left : (left : Answer A → List ℕ) (d : List ℕ) → Keeps left d → {n p : ℕ} → startOf b s ≡ refused n p → d ≡ left (given b f s)
   none-left left d h {n} {p} e = sym (ap left (given-none b f s e) ∙ h n p)
 
   -- the bare bytes t were asked
   module _ {P : A → Type 0} (tells : (u : List ℕ) → Tells packedNumbers (length u) P (f u)) {k : ℕ} (e : startOf b s ≡ shown k) {t : List ℕ} (r : t ≡ drop k s) where
-    pub some-told : (entry : Answer A → Answer ℕ) → Passes entry → {x : Answer ℕ} → x ≡ entry (f t) → movedNumbers b (twoNumbers x) ≡ twoNumbers (entry (given b f s))
-    some-told entry c q = ap (λ (y : Answer ℕ). movedNumbers b (twoNumbers y)) (q ∙ ap (λ (u : List ℕ). entry (f u)) r) ∙ entry-told b entry c f s e (tells (drop k s))
+    pub some-told : {x : Answer A} → x ≡ f t → moved b x ≡ given b f s
+    some-told q = ap (moved b) (q ∙ ap f r) ∙ sym (given-start s b f e (tells (drop k s)))
+
+    pub some-written : (entry : Answer A → Answer ℕ) → Passes entry → {x : Answer ℕ} → x ≡ entry (f t) → moved b x ≡ entry (given b f s)
+    some-written entry c q =
+        ap (moved b) (q ∙ ap (λ (u : List ℕ). entry (f u)) r) ∙ sym (ap entry (given-start s b f e (tells (drop k s))) ∙ entry-moved b entry c (f (drop k s)))
 
     pub some-left : (left : Answer A → List ℕ) (d : List ℕ) → Keeps left d → {d′ : List ℕ} → d′ ≡ left (f t) → d′ ≡ left (given b f s)
     some-left left d h q =

@@ -1,7 +1,0 @@
--- `moved` keeps the number of a refusal and moves its place as the caller's word asks.
-use borrow.Author.Needs.{needs}
-use Rattle.kezubimoryu.proofs.moved.Statement.{statement}
-use Rattle.kezubimoryu.proofs.moved.Tie as tie
-
-pub moved-spec : {M : Type 1} → statement M
-moved-spec = tie.close (tie.spec (λ c κs. search needs) (λ c κs. search needs) (λ c. rw (c .moved-place .ensures, c .before .is-bare .ensures)))
