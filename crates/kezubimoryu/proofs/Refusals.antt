@@ -23,7 +23,8 @@ use Rattle.strict.proofs.Telling.{strict-tells}
 use Rattle.versioned.specs.Versioned.{given}
 use Rattle.versioned.specs.Views.{packedGiven}
 use Rattle.versioned.specs.Moves.{withVersion, withoutVersion, accepted, movable}
-use Rattle.versioned.specs.inner.Numbers.{givenNumbers}
+use Rattle.versioned.specs.inner.Numbers.{givenNumbers, givenViewNumbers}
+use Rattle.stringform.specs.inner.Numbers.{stringNumbers}
 use Rattle.versioned.proofs.Telling.{given-tells, packed-given-tells, numbers-given-tells, texts-given-tells, element-given-tells, accepted-tells, movable-tells}
 use Rattle.stringform.specs.StringForm.{eventString, readString, itself}
 use Rattle.stringform.proofs.Telling.{string-tells}
@@ -220,9 +221,9 @@ finish-fills b d = go (finishIn b) (finish-tells b)
     go (refused n q) too-long = FillsBoth.refusal {p = 0} refl (omega arith)
 
 -- of either form no number is 0
-either-form : {f : Bool → List ℕ} → among (f true) 0 ≡ false → among (f false) 0 ≡ false → (b : Bool) → among (f b) 0 ≡ false
-either-form e h true = e
-either-form e h false = h
+either-form : (f : Bool → List ℕ) → among (f true) 0 ≡ false → among (f false) 0 ≡ false → (b : Bool) → among (f b) 0 ≡ false
+either-form f e h true = e
+either-form f e h false = h
 
 -- THE refusals of the C entries
 pub entries-refuse : Refusals
@@ -264,9 +265,9 @@ entries-refuse =
       add-keeps = λ b p. write-keeps bytesOfState (addIn b p) b;
       finish-keeps = λ b d. write-keeps itself (finishIn b) d;
       hash-not-0 = refl;
-      packed-not-0 = either-form refl refl;
-      string-not-0 = either-form refl refl;
-      view-not-0 = either-form refl refl;
+      packed-not-0 = either-form writerNumbers refl refl;
+      string-not-0 = either-form stringNumbers refl refl;
+      view-not-0 = either-form givenViewNumbers refl refl;
       nson-not-0 = refl;
       json-not-0 = refl;
     }

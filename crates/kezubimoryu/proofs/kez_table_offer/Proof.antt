@@ -19,5 +19,5 @@ kez-table-offer-spec =
     (λ c. search needs)
     (λ c. search needs)
     (λ c.
-    let done = rw (c .before .before .before .before .before .before .before .is-bare .ensures) at (c .before .before .before .before .before .offer .ensures) in
+    let done = rw (c .before .before .before .before .before .before .is-bare .ensures) at (c .before .before .before .before .before .offer .ensures) in
     (c .offered .ensures ∙ ap (λ (x : Answer Outcome). twoNumbers (outcomeTold x)) (done .0), done .1)))
