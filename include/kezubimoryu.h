@@ -72,7 +72,7 @@ uint64_t kez_version(void);
  * - Refusals come in this order: 1 if it has more than 65,536 bytes, the 01 counted; 2 at 0 if it has none; 25 at 0 if
  *   the first is not 01; then those that the bare bytes would have. Nothing behind the 01 is 2 at 1.
  * - Places count in the bytes that are given, the 01 included: those of refusals, of the content and of the elements.
- *   The value of refusal 11 is the length needed, as ever. 17, 19, 22 and 23 still have 0.
+ *   The value of refusal 11 is the length needed, as ever. 17, 19, 22 and 23 still have 0, and 34 a slot.
  * - What is written in strict form, and what a table keeps, is bare, whichever form was given. A string form alone
  *   keeps the form.
  * Rules 12.8.4, 17. */
@@ -222,8 +222,8 @@ kez_answer kez_notepack_string_write(const uint8_t *packed, size_t packed_len, u
                                      uint8_t *out, size_t out_len);
 
 /* Reads the string form of a bare event and writes the packed event that it holds to out, byte for byte as it was
- * encoded. These bytes are ones that kez_notepack_read accepts as bare; they need not be strict. No other text that is
- * read holds the same bytes: a line end or other white space, padding with =, and the characters - and _ are refused,
+ * encoded. These bytes are ones that kez_notepack_read accepts as bare; they need not be strict. No other text that it
+ * reads holds the same bytes: a line end or other white space, padding with =, and the characters - and _ are refused,
  * like all that is not A-Z, a-z, 0-9, + or /. But base64 has no check sum: where a character was changed into another
  * of the alphabet, lost, doubled or exchanged, the bytes may be another event, and only its id (kez_id_belongs) and its
  * signature show that. The text may have any length. An out_len of text_len is always enough, and so is KEZ_MOST.

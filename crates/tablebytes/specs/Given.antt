@@ -33,6 +33,12 @@ pub data RanGiven : Lent → List Said → List Event → Lent → Type 0 where
   next : {t u : Lent} {p : Said} {ps : List Said} {es : List Event} {o : Offer} → IsBytes (p .bytes)
       → tableOfferOf (t .slots) (t .cells) (given (p .bare) unpack (p .bytes)) ≡ shown o → RanGiven (afterGiven t p) ps es u → RanGiven t (p ∷ ps) (o .event ∷ es) u
 
+-- The event that an offer is about is the one that the input shows, in the form that it is said to have.
+abbrev pub ShowsOfferedGiven : Type 0
+ShowsOfferedGiven =
+    (t : Lent) (p : Said) (o : Offer) → tableOfferOf (t .slots) (t .cells) (given (p .bare) unpack (p .bytes)) ≡ shown o
+    → given (p .bare) unpack (p .bytes) ≡ shown (o .event)
+
 -- It is a run of bare offers of the same events.
 abbrev pub RunsAsBare : Type 0
 RunsAsBare = (t u : Lent) (ps : List Said) (es : List Event) → RanGiven t ps es u → (qs : List (List ℕ)) × Ran t qs es u

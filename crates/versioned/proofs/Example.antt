@@ -13,8 +13,9 @@ use Rattle.scan.specs.Place.{within}
 use Rattle.utf8.specs.inner.Width.{widthOf, sequences, isUtf8}
 use Rattle.varint.specs.Varint.{spelled, varintAt}
 use Rattle.event.specs.Event.{Event}
-use Rattle.notepack.specs.Unpack.{textOf, payloadAt, textAt, numberAt, contentAt, numbersAt, headAt, packedAt, eventOf, unpack}
+use Rattle.notepack.specs.Unpack.{partOf, textOf, payloadAt, textAt, numberAt, contentAt, elementAt, tagCountAt, tagAt, numbersAt, headAt, packedAt, eventOf, unpack}
 use Rattle.versioned.specs.Versioned.{versionAt, startOf, given}
+use Rattle.versioned.specs.Views.{packedGiven, elementGiven}
 use Rattle.versioned.specs.ThereAndBack.{WrongWord}
 
 -- id, pubkey and sig, then created_at 0, kind 1, no content, no tags
@@ -49,7 +50,7 @@ pub other-first : given false unpack (2 ∷ []) ≡ refused 25 0
 unfolding given startOf versionAt
 other-first = refl
 
-pub bare-given : given false unpack bare ≡ refused 25 0
+pub bare-given : given false unpack (replicate 128 0 ++ (0 ∷ 0 ∷ 0 ∷ 0 ∷ [])) ≡ refused 25 0
 unfolding given startOf versionAt
 bare-given = refl
 
@@ -60,3 +61,7 @@ nothing-behind = refl
 pub cut-behind : given false unpack (1 ∷ (replicate 128 0 ++ (0x80 ∷ []))) ≡ refused 4 129
 unfolding given startOf versionAt unpack packedAt headAt numbersAt numberAt payloadAt varintAt spelled
 cut-behind = refl
+
+pub element-behind : elementGiven false 0 1 (1 ∷ (replicate 128 0 ++ (0 ∷ 0 ∷ 0 ∷ 1 ∷ 2 ∷ 2 ∷ 0x64 ∷ 3 ∷ 0xab ∷ []))) ≡ shown (partOf 137 1 true)
+unfolding elementGiven packedGiven startOf versionAt packedAt headAt numbersAt contentAt numberAt textAt payloadAt elementAt tagAt tagCountAt varintAt spelled many isUtf8 sequences widthOf within
+element-behind = refl
