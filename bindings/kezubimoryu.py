@@ -5,13 +5,17 @@ that nobody changes it during the call. Anything else, a str or a number too, is
 and slots go from 0 to 2^64 - 1; others are an OverflowError, and a bool or a float is a TypeError. A table of current
 records is a Table, and a hash in progress a Sha256; each owns its bytes.
 
+A packed event is bare, or versioned: then it is the byte 01 and behind it the bare bytes. With each one the caller says
+which it is, by bare=True or bare=False. There is no default, because nothing can see a wrong word: 01 and a bare event,
+said to be bare, may read well as another event. So keep with each record in which form it is. Places count the 01.
+
 A refusal is raised as Refused, with its number and place; the exception's text is a sentence:
 
 >>> import kezubimoryu as kez
 >>> event = bytes(128) + bytes.fromhex("8094ebdc03 01 02 6869 01 02 0264 03ab")
->>> kez.kez_canonical_write(event)[-33:]
+>>> kez.kez_canonical_write(event, bare=True)[-33:]
 b'",1000000000,1,[["d","ab"]],"hi"]'
->>> kez.kez_canonical_write(event[:-1])
+>>> kez.kez_canonical_write(event[:-1], bare=True)
 Traceback (most recent call last):
     ...
 kezubimoryu.Refused: refused 2 at 141: The packed event is cut short, or a length in it goes beyond its end.
@@ -20,8 +24,9 @@ Each description ends with the rules of docs/RULES.md that bind the entry, and k
 and 12.1 of the rules bind all entries; rule 10.N is refusal N.
 
 The shared library is the file that the environment variable KEZUBIMORYU_LIBRARY names (KEZ_LIBRARY, its older name,
-does the same). If neither is set, it is libkezubimoryu.so.0 or libkezubimoryu.so where the system's loader finds it,
-or beside this file. Without one the import fails, with an ImportError that says what to do.
+does the same). If neither is set, it is libkezubimoryu.so.1 or libkezubimoryu.so where the system's loader finds it,
+or beside this file. It has to be of this file's major and minor version, since entries change from one to the next.
+Without one the import fails, with an ImportError that says what to do.
 """
 import ctypes
 import ctypes.util
@@ -31,27 +36,29 @@ import os
 import struct
 from typing import Any, Dict, Iterator, List, NamedTuple, Optional, Tuple, Union
 
-__version__ = "0.10.1"
+__version__ = "0.11.0"
 
 __all__ = [
     "KEZ_MOST", "KEZ_CANONICAL_MOST", "KEZ_NOTEPACK_STRING_MOST", "KEZ_ELEMENT_BYTES", "KEZ_ELEMENTS_MOST",
     "KEZ_SLOTS", "KEZ_SLOT_BYTES", "KEZ_CELL_BYTES", "KEZ_SLOTS_BYTES", "KEZ_CELLS_BYTES", "KEZ_SHA256_STATE",
     "KEZ_SHA256_DIGEST", "SENTENCES", "Bytes", "Numbers", "Payload", "Element", "Both", "Outcome", "Kept", "Table",
     "Sha256", "Refused", "kez_refusal_text",
-    "kez_notepack_read", "kez_notepack_is_strict", "kez_notepack_write", "kez_notepack_tag_len",
-    "kez_notepack_element", "kez_notepack_elements", "kez_notepack_string_write",
-    "kez_notepack_string_read", "kez_canonical_write", "kez_nson_write", "kez_nson_read", "kez_json_read",
+    "kez_notepack_read", "kez_notepack_is_strict", "kez_notepack_write", "kez_versioned_from_bare",
+    "kez_bare_from_versioned", "kez_notepack_tag_len", "kez_notepack_element", "kez_notepack_elements",
+    "kez_notepack_string_write", "kez_notepack_string_read", "kez_notepack_string_read_versioned",
+    "kez_canonical_write", "kez_nson_write", "kez_nson_read", "kez_json_read",
     "kez_read_both", "kez_rivals", "kez_table_empty", "kez_table_offer", "kez_table_slot", "kez_sha256_start",
     "kez_sha256_add", "kez_sha256_finish", "kez_id_belongs", "kez_version",
 ]
 
 #: No accepted input is longer, but for a string form, of which the bytes that it holds are counted, and a piece of a
-#: message that is hashed; nor is an event in strict form, nor NSON. Rules 1.9, 14.3 and 16.8.
+#: message that is hashed; nor is an event in strict form, nor NSON. The 01 counts. Rules 1.9, 14.3, 16.8 and 17.3.
 KEZ_MOST: int = 65536
 #: No canonical text is longer. Rule 5.8.
 KEZ_CANONICAL_MOST: int = 3 * KEZ_MOST
-#: No string form is longer that is written or accepted. Rules 14.1 to 14.3.
-KEZ_NOTEPACK_STRING_MOST: int = 9 + (4 * KEZ_MOST + 2) // 3
+#: No string form is longer that is written or accepted: that of a versioned event; of a bare one it is one less.
+#: Rules 14.1 to 14.3 and 17.13 to 17.15.
+KEZ_NOTEPACK_STRING_MOST: int = 10 + (4 * KEZ_MOST + 2) // 3
 #: So many bytes are needed for each element that kez_notepack_elements of the header lists.
 KEZ_ELEMENT_BYTES: int = 16
 #: So many have room for the elements of any record.
@@ -75,7 +82,7 @@ Bytes = Union[bytes, bytearray, memoryview]
 class Numbers(NamedTuple):
     """Five numbers of a packed event. The content is packed[content_at:content_at + content_len].
 
-    >>> kez_notepack_read(bytes(132)).content_at
+    >>> kez_notepack_read(bytes(132), bare=True).content_at
     131
     """
 
@@ -90,7 +97,7 @@ class Payload(NamedTuple):
     """Where the text of an element stands: payload = packed[at:at + len]. The text is payload.decode(), or
     payload.hex() where is_bytes.
 
-    >>> kez_notepack_element(bytes(131) + bytes.fromhex("01 02 0264 03ab"), 0, 0)
+    >>> kez_notepack_element(bytes(131) + bytes.fromhex("01 02 0264 03ab"), 0, 0, bare=True)
     Payload(at=134, len=1, is_bytes=False)
     """
 
@@ -102,7 +109,7 @@ class Payload(NamedTuple):
 class Element(NamedTuple):
     """The number of an element's tag, and its payload as in Payload.
 
-    >>> list(kez_notepack_elements(bytes(131) + bytes.fromhex("01 01 0264")))
+    >>> list(kez_notepack_elements(bytes(131) + bytes.fromhex("01 01 0264"), bare=True))
     [Element(tag=0, at=134, len=1, is_bytes=False)]
     """
 
@@ -116,7 +123,7 @@ class Both(NamedTuple):
     """The answer of kez_read_both: its value, and the strict form by each of the two readers.
 
     >>> event = bytes(128) + bytes.fromhex("8094ebdc03 01 02 6869 00")
-    >>> kez_read_both(kez_nson_write(event)).value
+    >>> kez_read_both(kez_nson_write(event, bare=True)).value
     2
     """
 
@@ -128,7 +135,7 @@ class Both(NamedTuple):
 class Outcome(enum.IntEnum):
     """What came of an event that was offered to a table.
 
-    >>> Table().offer(bytes(132)) is Outcome.NEW
+    >>> Table().offer(bytes(132), bare=True) is Outcome.NEW
     True
     """
 
@@ -145,10 +152,10 @@ class Outcome(enum.IntEnum):
 
 
 class Kept(NamedTuple):
-    """A slot of a table, and the event that is kept in it, in strict form.
+    """A slot of a table, and the event that is kept in it, in strict form and bare.
 
     >>> table = Table()
-    >>> outcome = table.offer(bytes(132))
+    >>> outcome = table.offer(bytes(132), bare=True)
     >>> [(kept.slot, len(kept.packed)) for kept in table]
     [(0, 132)]
     """
@@ -160,7 +167,7 @@ class Kept(NamedTuple):
 #: A sentence for each refusal, by its number.
 SENTENCES: Tuple[str, ...] = (
     "Nothing is refused.",
-    "The input is longer than 65,536 bytes, or a string form holds more.",
+    "The input is longer than 65,536 bytes, a string form holds more, or the versioned form would be longer.",
     "The packed event is cut short, or a length in it goes beyond its end.",
     "A varint's tenth byte is neither 00 nor 01.",
     "The packed event ends inside a varint.",
@@ -179,13 +186,14 @@ SENTENCES: Tuple[str, ...] = (
     "NSON can't carry this event.",
     "Arrays and objects are nested more than 16 deep.",
     "There is no such tag or element, or nothing is kept in this slot.",
-    "The text does not start with notepack_.",
-    "What follows notepack_ is not base64: a character outside its alphabet, a lone last one, "
+    "The text does not start with notepack_ (bare) or notepack1_ (versioned), whichever is asked for.",
+    "What follows notepack_ or notepack1_ is not base64: a character outside its alphabet, a lone last one, "
     "or leftover bits that are not zero.",
     "The event's strict form is longer than 1,024 bytes, which is a cell of a table.",
     "The table has no free slot for another event.",
     "A varint is longer than its number needs.",
-    *9 * ("There is no refusal with this number.",),
+    "The packed event is said to be versioned, and does not start with 01.",
+    *8 * ("There is no refusal with this number.",),
     "The table is not as it must be: not of 64 slots and cells, "
     "or a used slot without a strict event to be kept, or with the name of another.",
     "The message has 2^61 bytes or more, or would have with this piece.",
@@ -194,13 +202,13 @@ SENTENCES: Tuple[str, ...] = (
 
 class Refused(Exception):
     """A refusal: its number, the place in the input where the fault was found, and as text a sentence. Where
-    kez_notepack_string_read tells one from 2 to 10, or 24, the place is in the bytes that its text holds. With 34 it is
+    a reader of string forms tells one from 2 to 10, or 24, the place is in the bytes that its text holds. With 34 it is
     the number of a slot.
 
     It may be pickled, so it comes whole out of a process pool.
 
     >>> try:
-    ...     kez_notepack_read(b"")
+    ...     kez_notepack_read(b"", bare=True)
     ... except Refused as refused:
     ...     print(refused.number, refused.place)
     2 0
@@ -229,34 +237,38 @@ _bytes = (ctypes.c_char_p, ctypes.c_size_t)
 _room = (ctypes.POINTER(ctypes.c_char), ctypes.c_size_t)
 _index = (ctypes.c_uint64,)
 _number = (ctypes.POINTER(ctypes.c_uint64),)
+_packed = _bytes + (ctypes.c_uint64,)
 
 #: What each entry takes.
 _types: Dict[str, Tuple[Any, ...]] = {
-    "kez_notepack_read": _bytes + _number * 5,
-    "kez_notepack_is_strict": _bytes,
-    "kez_notepack_write": _bytes + _room,
-    "kez_notepack_tag_len": _bytes + _index,
-    "kez_notepack_element": _bytes + _index * 2 + _number * 3,
-    "kez_notepack_elements": _bytes + _index + _room,
-    "kez_notepack_string_write": _bytes + _room,
+    "kez_notepack_read": _packed + _number * 5,
+    "kez_notepack_is_strict": _packed,
+    "kez_notepack_write": _packed + _room,
+    "kez_versioned_from_bare": _bytes + _room,
+    "kez_bare_from_versioned": _bytes + _room,
+    "kez_notepack_tag_len": _packed + _index,
+    "kez_notepack_element": _packed + _index * 2 + _number * 3,
+    "kez_notepack_elements": _packed + _index + _room,
+    "kez_notepack_string_write": _packed + _room,
     "kez_notepack_string_read": _bytes + _room,
-    "kez_rivals": _bytes + _bytes,
+    "kez_notepack_string_read_versioned": _bytes + _room,
+    "kez_rivals": _packed + _packed,
     "kez_table_empty": _room + _room,
-    "kez_table_offer": _room + _room + _bytes,
+    "kez_table_offer": _room + _room + _packed,
     "kez_table_slot": _room + _room + _index + _number * 2,
     "kez_sha256_start": _room,
     "kez_sha256_add": _room + _bytes,
     "kez_sha256_finish": _room + _room,
-    "kez_id_belongs": _bytes,
-    "kez_canonical_write": _bytes + _room,
-    "kez_nson_write": _bytes + _room,
+    "kez_id_belongs": _packed,
+    "kez_canonical_write": _packed + _room,
+    "kez_nson_write": _packed + _room,
     "kez_nson_read": _bytes + _room,
     "kez_json_read": _bytes + _room,
     "kez_read_both": _bytes + _room + _room + _number,
 }
 
 _variables = ("KEZUBIMORYU_LIBRARY", "KEZ_LIBRARY")
-_names = ("libkezubimoryu.so.0", "libkezubimoryu.so")
+_names = ("libkezubimoryu.so.1", "libkezubimoryu.so")
 
 
 def _places() -> Iterator[str]:
@@ -271,24 +283,46 @@ def _places() -> Iterator[str]:
         yield found
 
 
+def _version_of(library: ctypes.CDLL) -> int:
+    """As kez_version tells it; 0 if the library is older than that entry."""
+    entry = getattr(library, "kez_version", None)
+    if entry is None:
+        return 0
+    entry.restype, entry.argtypes = ctypes.c_uint64, ()
+    return entry()
+
+
+def _load(name: str) -> ctypes.CDLL:
+    """The library of this name; an OSError if there is none, or one of another version, whose entries take other
+    arguments."""
+    library = ctypes.CDLL(name)
+    major, minor = map(int, __version__.split(".")[:2])
+    found = _version_of(library)
+    if found // 100 != 100 * major + minor:
+        said = "%d.%d.%d" % (found // 10000, found // 100 % 100, found % 100) if found else "older than 0.5"
+        raise OSError("%s: this library is %s, and kezubimoryu.py is for %d.%d" % (name, said, major, minor))
+    return library
+
+
 def _open() -> ctypes.CDLL:
     for variable in _variables:
         name = os.environ.get(variable)
         if name:
             try:
-                return ctypes.CDLL(name)
+                return _load(name)
             except OSError as error:
                 raise ImportError("%s is %r, which can't be loaded: %s" % (variable, name, error)) from None
     tried: List[str] = []
     for name in _places():
         try:
-            return ctypes.CDLL(name)
+            return _load(name)
         except OSError as error:
             tried.append(str(error))
     raise ImportError(
-        "The Kezubimoryu library was not found. Set the environment variable KEZUBIMORYU_LIBRARY to the path of "
-        "libkezubimoryu.so; or install the library and let the loader know (ldconfig, or LD_LIBRARY_PATH); or put "
-        "libkezubimoryu.so into %s. Tried: %s" % (os.path.dirname(os.path.abspath(__file__)), "; ".join(tried)))
+        "The Kezubimoryu library, version %s, was not found. Set the environment variable KEZUBIMORYU_LIBRARY to the "
+        "path of libkezubimoryu.so; or install the library and let the loader know (ldconfig, or LD_LIBRARY_PATH); or "
+        "put libkezubimoryu.so into %s. Tried: %s"
+        % (__version__, os.path.dirname(os.path.abspath(__file__)), "; ".join(tried)))
 
 
 def _declared(library: ctypes.CDLL) -> Dict[str, Any]:
@@ -331,6 +365,14 @@ def _lend(data: Bytes) -> Tuple[bytes, int]:
     return data, len(data)
 
 
+def _said(data: Bytes, bare: bool) -> Tuple[bytes, int, int]:
+    """The same of a packed event, and what is said of it. A number or a text is no yes or no here: most of them would
+    be taken as yes."""
+    if type(bare) is not bool:
+        raise TypeError("bare is True or False, not %r" % (bare,))
+    return (*_lend(data), int(bare))
+
+
 def _checked(number: int) -> int:
     """An index as the library takes it."""
     if isinstance(number, bool):
@@ -349,8 +391,7 @@ def _needed(name: str, *words: Any) -> int:
     return answer.value
 
 
-def _write(name: str, data: Bytes) -> bytes:
-    lent = _lend(data)
+def _write(name: str, *lent: Any) -> bytes:
     room = _needed(name, *lent, None, 0)
     out = ctypes.create_string_buffer(room)
     length = _call(name, *lent, out, room)
@@ -373,82 +414,113 @@ def kez_refusal_text(number: int) -> str:
     return SENTENCES[number] if 0 <= number < len(SENTENCES) else "There is no refusal with this number."
 
 
-def kez_notepack_read(packed: Bytes) -> Numbers:
+def kez_notepack_read(packed: Bytes, *, bare: bool) -> Numbers:
     """Five numbers of a packed event: created_at, kind, the content's place and length, the number of tags.
 
     >>> event = bytes(128) + bytes.fromhex("8094ebdc03 01 02 6869 00")
-    >>> numbers = kez_notepack_read(event)
+    >>> numbers = kez_notepack_read(event, bare=True)
     >>> numbers
     Numbers(created_at=1000000000, kind=1, content_at=135, content_len=2, tag_count=0)
     >>> event[numbers.content_at:numbers.content_at + numbers.content_len].decode()
     'hi'
 
-    Rules 2.1 to 2.18, 4.1, 4.8, 4.9, 12.2.1 to 12.2.3."""
+    Rules 2.1 to 2.18, 4.1, 4.8, 4.9, 12.2.1 to 12.2.3, 17.1 to 17.6."""
     numbers = _numbers(5)
-    _call("kez_notepack_read", *_lend(packed), *numbers)
+    _call("kez_notepack_read", *_said(packed, bare), *numbers)
     return Numbers(*(n.value for n in numbers))
 
 
-def kez_notepack_is_strict(packed: Bytes) -> bool:
+def kez_notepack_is_strict(packed: Bytes, *, bare: bool) -> bool:
     """Are these bytes in strict form?
 
-    >>> kez_notepack_is_strict(bytes(132))
+    >>> kez_notepack_is_strict(bytes(132), bare=True)
     True
-    >>> kez_notepack_is_strict(bytes(131) + bytes.fromhex("01 01 01"))
+    >>> kez_notepack_is_strict(bytes(131) + bytes.fromhex("01 01 01"), bare=True)
     False
     >>> try:
-    ...     kez_notepack_is_strict(bytes(128) + bytes.fromhex("8000 00 00 00"))
+    ...     kez_notepack_is_strict(bytes(128) + bytes.fromhex("8000 00 00 00"), bare=True)
     ... except Refused as refused:
     ...     print(refused.number, refused.place)
     24 128
 
     Rules 3.1 to 3.5, 12.2.7."""
-    return bool(_call("kez_notepack_is_strict", *_lend(packed)))
+    return bool(_call("kez_notepack_is_strict", *_said(packed, bare)))
 
 
-def kez_notepack_write(packed: Bytes) -> bytes:
-    """The strict form of a packed event.
+def kez_notepack_write(packed: Bytes, *, bare: bool) -> bytes:
+    """The strict form of a packed event. It is bare, also of a versioned one.
 
-    >>> kez_notepack_write(bytes(131) + bytes.fromhex("01 01 04 6162")) == bytes(131) + bytes.fromhex("01 01 03 ab")
+    >>> loose, strict = (bytes(131) + bytes.fromhex(tags) for tags in ("01 01 04 6162", "01 01 03 ab"))
+    >>> kez_notepack_write(loose, bare=True) == strict
+    True
+    >>> kez_notepack_write(bytes([1]) + loose, bare=False) == strict
     True
 
-    Rules 3.1 to 3.3, 3.6, 3.7, 12.2.4 to 12.2.6."""
-    return _write("kez_notepack_write", packed)
+    Rules 3.1 to 3.3, 3.6, 3.7, 12.2.4 to 12.2.6, 17.7."""
+    return _write("kez_notepack_write", *_said(packed, bare))
 
 
-def kez_notepack_tag_len(packed: Bytes, tag: int) -> int:
+def kez_versioned_from_bare(packed: Bytes) -> bytes:
+    """A bare packed event in the versioned form: 01, and behind it the same bytes, strict or not. One of 65,536 bytes
+    can't be moved: it is refused with 1.
+
+    >>> kez_versioned_from_bare(bytes(132)) == bytes([1]) + bytes(132)
+    True
+
+    Rules 17.1, 17.9, 17.10, 12.8.1 to 12.8.3."""
+    return _write("kez_versioned_from_bare", *_lend(packed))
+
+
+def kez_bare_from_versioned(packed: Bytes) -> bytes:
+    """A versioned packed event in the bare form: the bytes behind its 01, strict or not.
+
+    >>> kez_bare_from_versioned(bytes([1]) + bytes(132)) == bytes(132)
+    True
+    >>> try:
+    ...     kez_bare_from_versioned(bytes(132))
+    ... except Refused as refused:
+    ...     print(refused.number, refused.place)
+    25 0
+
+    Rules 17.1, 17.9, 17.11, 12.8.1 to 12.8.3."""
+    return _write("kez_bare_from_versioned", *_lend(packed))
+
+
+def kez_notepack_tag_len(packed: Bytes, tag: int, *, bare: bool) -> int:
     """The number of texts in this tag.
 
     >>> event = bytes(131) + bytes.fromhex("01 02 0264 03ab")
-    >>> kez_notepack_tag_len(event, 0)
+    >>> kez_notepack_tag_len(event, 0, bare=True)
     2
 
     Rules 4.4 to 4.6, 4.9, 12.2.3."""
-    return _call("kez_notepack_tag_len", *_lend(packed), _checked(tag))
+    return _call("kez_notepack_tag_len", *_said(packed, bare), _checked(tag))
 
 
-def kez_notepack_element(packed: Bytes, tag: int, element: int) -> Payload:
+def kez_notepack_element(packed: Bytes, tag: int, element: int, *, bare: bool) -> Payload:
     """The place and length of this element's payload, and is_bytes: False, the payload is the text; True, the text is
     the payload in lowercase hex.
 
     >>> event = bytes(131) + bytes.fromhex("01 02 0264 03ab")
-    >>> kez_notepack_element(event, 0, 1)
+    >>> kez_notepack_element(event, 0, 1, bare=True)
     Payload(at=136, len=1, is_bytes=True)
     >>> event[136:137].hex()
     'ab'
+    >>> kez_notepack_element(bytes([1]) + event, 0, 1, bare=False)
+    Payload(at=137, len=1, is_bytes=True)
 
     Rules 2.10 to 2.12, 4.2, 4.3, 4.5, 4.6, 4.8, 4.9, 12.2.3."""
     numbers = _numbers(3)
-    _call("kez_notepack_element", *_lend(packed), _checked(tag), _checked(element), *numbers)
+    _call("kez_notepack_element", *_said(packed, bare), _checked(tag), _checked(element), *numbers)
     at, length, is_bytes = (n.value for n in numbers)
     return Payload(at, length, bool(is_bytes))
 
 
-def kez_notepack_elements(packed: Bytes) -> Iterator[Element]:
+def kez_notepack_elements(packed: Bytes, *, bare: bool) -> Iterator[Element]:
     """All elements of all tags in their order. A refusal is raised by the call itself, not later by the iterator.
 
     >>> event = bytes(131) + bytes.fromhex("02 02 0264 03ab 01 0470 71")
-    >>> for tag, at, length, is_bytes in kez_notepack_elements(event):
+    >>> for tag, at, length, is_bytes in kez_notepack_elements(event, bare=True):
     ...     payload = event[at:at + length]
     ...     print(tag, payload.hex() if is_bytes else payload.decode())
     0 d
@@ -456,18 +528,18 @@ def kez_notepack_elements(packed: Bytes) -> Iterator[Element]:
     1 pq
 
     Rules 4.12 to 4.15."""
-    data, length = _lend(packed)
+    lent = _said(packed, bare)
     # an element takes a byte of the record or more, so a short record needs one block
-    block = ctypes.create_string_buffer(KEZ_ELEMENT_BYTES * max(1, min(length, 1024)))
-    return _blocks(data, block, _listed(data, 0, block))
+    block = ctypes.create_string_buffer(KEZ_ELEMENT_BYTES * max(1, min(lent[1], 1024)))
+    return _blocks(lent, block, _listed(lent, 0, block))
 
 
-def _listed(data: bytes, first: int, block: Any) -> int:
+def _listed(lent: Tuple[bytes, int, int], first: int, block: Any) -> int:
     """How many elements from number first on are now in the block."""
-    return _call("kez_notepack_elements", data, len(data), first, block, len(block))
+    return _call("kez_notepack_elements", *lent, first, block, len(block))
 
 
-def _blocks(data: bytes, block: Any, listed: int) -> Iterator[Element]:
+def _blocks(lent: Tuple[bytes, int, int], block: Any, listed: int) -> Iterator[Element]:
     """The elements of this block, and of those after it."""
     first = 0
     while True:
@@ -476,24 +548,28 @@ def _blocks(data: bytes, block: Any, listed: int) -> Iterator[Element]:
         if KEZ_ELEMENT_BYTES * listed < len(block):
             return
         first += listed
-        listed = _listed(data, first, block)
+        listed = _listed(lent, first, block)
 
 
-def kez_notepack_string_write(packed: Bytes) -> bytes:
-    """The string form of a packed event: notepack_ and its strict form in base64 without padding, as ASCII.
+def kez_notepack_string_write(packed: Bytes, *, bare: bool) -> bytes:
+    """The string form of a packed event: notepack_ and its strict form in base64 without padding, as ASCII. Of a
+    versioned one it is notepack1_, and 01 and the strict form in base64.
 
-    >>> kez_notepack_string_write(bytes(132))[:20]
+    >>> kez_notepack_string_write(bytes(132), bare=True)[:20]
     b'notepack_AAAAAAAAAAA'
-    >>> len(kez_notepack_string_write(bytes(132)))
+    >>> len(kez_notepack_string_write(bytes(132), bare=True))
     185
+    >>> kez_notepack_string_write(bytes([1]) + bytes(132), bare=False)[:20]
+    b'notepack1_AQAAAAAAAA'
 
-    Rules 3.1 to 3.3, 14.1, 14.2, 14.8, 14.9."""
-    return _write("kez_notepack_string_write", packed)
+    Rules 3.1 to 3.3, 14.1, 14.2, 14.8, 14.9, 17.12, 17.13."""
+    return _write("kez_notepack_string_write", *_said(packed, bare))
 
 
 def kez_notepack_string_read(text: Bytes) -> bytes:
-    """The packed event that a string form holds, byte for byte; it need not be strict. White space, padding and a line
-    end that was pasted along are refused: strip() takes a line end off.
+    """The packed event that a string form holds, byte for byte; it need not be strict. It is bare. White space, padding
+    and a line end that was pasted along are refused: strip() takes a line end off. A text that starts with notepack1_
+    is refused with 20: kez_notepack_string_read_versioned reads these.
 
     >>> text = b"notepack_" + b"A" * 176
     >>> kez_notepack_string_read(text) == bytes(132)
@@ -505,40 +581,52 @@ def kez_notepack_string_read(text: Bytes) -> bytes:
     21 185
 
     Rules 14.1, 14.3 to 14.7."""
-    return _write("kez_notepack_string_read", text)
+    return _write("kez_notepack_string_read", *_lend(text))
 
 
-def kez_canonical_write(packed: Bytes) -> bytes:
+def kez_notepack_string_read_versioned(text: Bytes) -> bytes:
+    """The versioned packed event that a string form holds which starts with notepack1_, with its 01. One that starts
+    with notepack_ is refused with 20.
+
+    >>> text = kez_notepack_string_write(bytes([1]) + bytes(132), bare=False)
+    >>> kez_notepack_string_read_versioned(text) == bytes([1]) + bytes(132)
+    True
+
+    Rules 14.1, 14.4, 14.7, 17.12, 17.14 to 17.16."""
+    return _write("kez_notepack_string_read_versioned", *_lend(text))
+
+
+def kez_canonical_write(packed: Bytes, *, bare: bool) -> bytes:
     """The canonical text of NIP-01, at most three times as long as packed. Its SHA-256 is the event's id, if that
     belongs to it: kez_id_belongs.
 
-    >>> kez_canonical_write(bytes(132))[-16:]
+    >>> kez_canonical_write(bytes(132), bare=True)[-16:]
     b'0000",0,0,[],""]'
 
     Rules 5.1 to 5.9, 12.2.8."""
-    return _write("kez_canonical_write", packed)
+    return _write("kez_canonical_write", *_said(packed, bare))
 
 
-def kez_nson_write(packed: Bytes) -> bytes:
+def kez_nson_write(packed: Bytes, *, bare: bool) -> bytes:
     """A packed event as NSON, at most KEZ_MOST bytes.
 
     >>> event = bytes(128) + bytes.fromhex("8094ebdc03 01 02 6869 00")
-    >>> kez_nson_write(event)[-54:]
+    >>> kez_nson_write(event, bare=True)[-54:]
     b'"nson":"0801000200","kind":1,"content":"hi","tags":[]}'
 
     Rules 6.1 to 6.16, 12.3.10 to 12.3.12."""
-    return _write("kez_nson_write", packed)
+    return _write("kez_nson_write", *_said(packed, bare))
 
 
 def kez_nson_read(text: Bytes) -> bytes:
     """NSON as a packed event in strict form.
 
     >>> event = bytes(128) + bytes.fromhex("8094ebdc03 01 02 6869 00")
-    >>> kez_nson_read(kez_nson_write(event)) == event
+    >>> kez_nson_read(kez_nson_write(event, bare=True)) == event
     True
 
     Rules 6.1 to 6.12, 6.17 to 6.30, 12.3.1 to 12.3.3, 12.3.5 to 12.3.9."""
-    return _write("kez_nson_read", text)
+    return _write("kez_nson_read", *_lend(text))
 
 
 def kez_json_read(text: Bytes) -> bytes:
@@ -549,7 +637,7 @@ def kez_json_read(text: Bytes) -> bytes:
     True
 
     Rules 7.1 to 7.27, 12.1.9, 12.2.9, 12.2.10, 12.3.1 to 12.3.6."""
-    return _write("kez_json_read", text)
+    return _write("kez_json_read", *_lend(text))
 
 
 def kez_read_both(text: Bytes) -> Both:
@@ -557,9 +645,9 @@ def kez_read_both(text: Bytes) -> Both:
     kez_json_read alone, and nson is None. What kez_json_read refuses is raised as its refusal.
 
     >>> event = bytes(128) + bytes.fromhex("8094ebdc03 01 02 6869 00")
-    >>> kez_read_both(kez_nson_write(event)) == Both(2, event, event)
+    >>> kez_read_both(kez_nson_write(event, bare=True)) == Both(2, event, event)
     True
-    >>> kez_read_both(kez_nson_write(event) + b" ") == Both(1, None, event)
+    >>> kez_read_both(kez_nson_write(event, bare=True) + b" ") == Both(1, None, event)
     True
 
     Rules 9.1 to 9.7, 12.3.1 to 12.3.3, 12.3.6."""
@@ -570,15 +658,18 @@ def kez_read_both(text: Bytes) -> Both:
     return Both(value, nson.raw[:written.value] if value == 2 else None, json.raw[:written.value])
 
 
-def kez_rivals(first: Bytes, second: Bytes) -> int:
-    """Which of two packed events is kept: 0 not rivals, 1 the first, 2 the second.
+def kez_rivals(first: Bytes, second: Bytes, *, first_bare: bool, second_bare: bool) -> int:
+    """Which of two packed events is kept: 0 not rivals, 1 the first, 2 the second. One may be bare and the other
+    versioned.
 
     >>> early, late = bytes(132), bytes(128) + bytes([1, 0, 0, 0])
-    >>> kez_rivals(early, late)
+    >>> kez_rivals(early, late, first_bare=True, second_bare=True)
+    2
+    >>> kez_rivals(early, bytes([1]) + late, first_bare=True, second_bare=False)
     2
 
-    Rules 8.1 to 8.11."""
-    return _call("kez_rivals", *_lend(first), *_lend(second))
+    Rules 8.1 to 8.11, 17.8."""
+    return _call("kez_rivals", *_said(first, first_bare), *_said(second, second_bare))
 
 
 class Table:
@@ -587,8 +678,8 @@ class Table:
 
     >>> early, late = bytes(132), bytes(128) + bytes([1, 0, 0, 0])
     >>> table = Table()
-    >>> table.offer(early).name, table.offer(late).name, table.offer(early).name
-    ('NEW', 'REPLACED', 'LOSES')
+    >>> [table.offer(packed, bare=True).name for packed in (early, late, early)]
+    ['NEW', 'REPLACED', 'LOSES']
     >>> table.slot(0) == late
     True
     >>> [kept.slot for kept in table]
@@ -600,7 +691,7 @@ class Table:
     >>> again = Table(bytes(table))
     >>> again.slot(0) == late
     True
-    >>> Table(b"\x01" + bytes(KEZ_SLOTS_BYTES + KEZ_CELLS_BYTES - 1)).offer(late)
+    >>> Table(b"\x01" + bytes(KEZ_SLOTS_BYTES + KEZ_CELLS_BYTES - 1)).offer(late, bare=True)
     Traceback (most recent call last):
         ...
     kezubimoryu.Refused: refused 34 at 0: The table is not as it must be: not of 64 slots and cells, \
@@ -631,9 +722,9 @@ or a used slot without a strict event to be kept, or with the name of another.
         """Frees and zeroes every slot and cell, whatever they hold."""
         kez_table_empty(self)
 
-    def offer(self, packed: Bytes) -> Outcome:
-        """Offers a packed event; it is kept in strict form if it is to be kept."""
-        return kez_table_offer(self, packed)
+    def offer(self, packed: Bytes, *, bare: bool) -> Outcome:
+        """Offers a packed event; it is kept in bare strict form if it is to be kept."""
+        return kez_table_offer(self, packed, bare=bare)
 
     def slot(self, n: int) -> bytes:
         """The event that is kept in slot n. A free slot, or a number above 63, is refused with 19."""
@@ -671,24 +762,24 @@ def kez_table_empty(table: Table) -> None:
     _call("kez_table_empty", *_owned(table)._lent())
 
 
-def kez_table_offer(table: Table, packed: Bytes) -> Outcome:
-    """Offers a packed event to a table, and says what came of it. A refusal changes nothing.
+def kez_table_offer(table: Table, packed: Bytes, *, bare: bool) -> Outcome:
+    """Offers a packed event to a table, which keeps bare ones, and says what came of it. A refusal changes nothing.
 
     >>> table, event = Table(), bytes(129) + bytes([1, 0, 0])
-    >>> kez_table_offer(table, event) is Outcome.NEW
+    >>> kez_table_offer(table, event, bare=True) is Outcome.NEW
     True
-    >>> kez_table_offer(table, event) is Outcome.HELD
+    >>> kez_table_offer(table, bytes([1]) + event, bare=False) is Outcome.HELD
     True
 
-    Rules 15.1 to 15.19."""
-    return Outcome(_call("kez_table_offer", *_owned(table)._lent(), *_lend(packed)))
+    Rules 15.1 to 15.19, 17.7."""
+    return Outcome(_call("kez_table_offer", *_owned(table)._lent(), *_said(packed, bare)))
 
 
 def kez_table_slot(table: Table, n: int) -> bytes:
-    """The event that is kept in slot n of a table, in strict form.
+    """The event that is kept in slot n of a table, in strict form and bare.
 
     >>> table = Table()
-    >>> outcome = kez_table_offer(table, bytes(132))
+    >>> outcome = kez_table_offer(table, bytes(132), bare=True)
     >>> kez_table_slot(table, 0) == bytes(132)
     True
     >>> try:
@@ -803,20 +894,20 @@ def kez_sha256_finish(hash: Sha256) -> bytes:
     return out.raw
 
 
-def kez_id_belongs(packed: Bytes) -> bool:
+def kez_id_belongs(packed: Bytes, *, bare: bool) -> bool:
     """Does the id belong to the packed event: is it the SHA-256 of its canonical text? The signature plays no part. A
     thread that calls this needs some 200 KB of stack.
 
     >>> event = bytes(128) + bytes.fromhex("8094ebdc03 01 02 6869 00")
-    >>> kez_id_belongs(event)
+    >>> kez_id_belongs(event, bare=True)
     False
     >>> hash = Sha256()
-    >>> hash.add(kez_canonical_write(event))
-    >>> kez_id_belongs(hash.finish() + event[32:])
+    >>> hash.add(kez_canonical_write(event, bare=True))
+    >>> kez_id_belongs(hash.finish() + event[32:], bare=True)
     True
 
     Rules 16.12 to 16.14, 12.7.4."""
-    return bool(_call("kez_id_belongs", *_lend(packed)))
+    return bool(_call("kez_id_belongs", *_said(packed, bare)))
 
 
 def kez_version() -> int:
@@ -827,8 +918,4 @@ def kez_version() -> int:
     True
 
     Rule 12.1.12."""
-    entry = getattr(_library, "kez_version", None)
-    if entry is None:
-        raise NotImplementedError("this library has no kez_version: it is older than 0.5")
-    entry.restype, entry.argtypes = ctypes.c_uint64, ()
-    return entry()
+    return _version_of(_library)

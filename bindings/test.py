@@ -7,6 +7,7 @@ import copy
 import ctypes
 import doctest
 import enum
+import functools
 import hashlib
 import inspect
 import json
@@ -19,11 +20,20 @@ import struct
 import subprocess
 import sys
 import tempfile
+import types
 import typing
 
 import kezubimoryu as kez
 
 passed = failed = 0
+
+# Which entries ask of a packed event whether it is bare; here they are told that it is
+PACKED = ("kez_notepack_read", "kez_notepack_is_strict", "kez_notepack_write", "kez_notepack_tag_len",
+          "kez_notepack_element", "kez_notepack_elements", "kez_notepack_string_write", "kez_canonical_write",
+          "kez_nson_write", "kez_table_offer", "kez_id_belongs")
+bare = types.SimpleNamespace(**{name: functools.partial(getattr(kez, name), bare=True) for name in PACKED})
+bare.kez_rivals = functools.partial(kez.kez_rivals, first_bare=True, second_bare=True)
+offer = bare.kez_table_offer
 
 
 def check(name, got, wanted):
@@ -75,40 +85,40 @@ with open("samples/document-003.nson", "rb") as file:
     text = file.read()
 event = json.loads(text)
 form = packed(event)
-numbers = kez.kez_notepack_read(form)
+numbers = bare.kez_notepack_read(form)
 check("created_at", numbers.created_at, event["created_at"])
 check("kind", numbers.kind, event["kind"])
 check("content", form[numbers.content_at:numbers.content_at + numbers.content_len].decode(), event["content"])
 check("tags", numbers.tag_count, len(event["tags"]))
 for i, tag in enumerate(event["tags"]):
-    check("length of tag %d" % i, kez.kez_notepack_tag_len(form, i), len(tag))
+    check("length of tag %d" % i, bare.kez_notepack_tag_len(form, i), len(tag))
     for j, wanted in enumerate(tag):
-        e = kez.kez_notepack_element(form, i, j)
+        e = bare.kez_notepack_element(form, i, j)
         payload = form[e.at:e.at + e.len]
         check("text %d of tag %d" % (j, i), payload.hex() if e.is_bytes else payload.decode(), wanted)
-check("strict", kez.kez_notepack_is_strict(form), True)
-check("written", kez.kez_notepack_write(form), form)
-check("no such tag", refusal(kez.kez_notepack_tag_len, form, 2), (19, 0))
-check("cut", refusal(kez.kez_notepack_read, form[:-1]), (2, form.index(b"wss:") - 1))
-check("empty", refusal(kez.kez_notepack_write, b""), (2, 0))
-check("too long", refusal(kez.kez_notepack_is_strict, bytes(65537)), (1, 0))
-check("not strict", kez.kez_notepack_is_strict(bytes(131) + b"\1\1\1"), False)
+check("strict", bare.kez_notepack_is_strict(form), True)
+check("written", bare.kez_notepack_write(form), form)
+check("no such tag", refusal(bare.kez_notepack_tag_len, form, 2), (19, 0))
+check("cut", refusal(bare.kez_notepack_read, form[:-1]), (2, form.index(b"wss:") - 1))
+check("empty", refusal(bare.kez_notepack_write, b""), (2, 0))
+check("too long", refusal(bare.kez_notepack_is_strict, bytes(65537)), (1, 0))
+check("not strict", bare.kez_notepack_is_strict(bytes(131) + b"\1\1\1"), False)
 padded = bytes(128) + bytes.fromhex("8000 00 00 00")
-for call in (kez.kez_notepack_read, kez.kez_notepack_is_strict, kez.kez_notepack_write, kez.kez_canonical_write):
+for call in (bare.kez_notepack_read, bare.kez_notepack_is_strict, bare.kez_notepack_write, bare.kez_canonical_write):
     check("a padded number", refusal(call, padded), (24, 128))
-check("too long to be written", refusal(kez.kez_notepack_write, bytes(65537)), (1, 0))
-canonical = kez.kez_canonical_write(form)
+check("too long to be written", refusal(bare.kez_notepack_write, bytes(65537)), (1, 0))
+canonical = bare.kez_canonical_write(form)
 wanted = [0, event["pubkey"], event["created_at"], event["kind"], event["tags"], event["content"]]
 check("canonical", canonical.decode(), json.dumps(wanted, separators=(",", ":"), ensure_ascii=False))
 check("its SHA-256 is the id", hashlib.sha256(canonical).hexdigest(), event["id"])
-check("the id belongs", kez.kez_id_belongs(form), True)
+check("the id belongs", bare.kez_id_belongs(form), True)
 # the most that a text can grow: a content of nothing but line ends
 lines = b"\n" * 65000
 longest = bytes(128) + varint(0) + varint(0) + varint(len(lines)) + lines + varint(0)
-check("two for one", len(kez.kez_canonical_write(longest)), 2 * len(lines) + len('[0,"') + 64 + len('",0,0,[],""]'))
-check("empty canonical", refusal(kez.kez_canonical_write, b""), (2, 0))
-check("not rivals", kez.kez_rivals(form, form), 0)
-check("NSON", kez.kez_nson_write(form), text)
+check("two for one", len(bare.kez_canonical_write(longest)), 2 * len(lines) + len('[0,"') + 64 + len('",0,0,[],""]'))
+check("empty canonical", refusal(bare.kez_canonical_write, b""), (2, 0))
+check("not rivals", bare.kez_rivals(form, form), 0)
+check("NSON", bare.kez_nson_write(form), text)
 check("read as NSON", kez.kez_nson_read(text), form)
 check("a line end behind it", refusal(kez.kez_nson_read, text + b"\n"), (10, len(text)))
 check("empty NSON", refusal(kez.kez_nson_read, b""), (12, 0))
@@ -137,23 +147,23 @@ def string_form(data):
 
 
 string = string_form(form)
-check("string form", kez.kez_notepack_string_write(form), string)
+check("string form", bare.kez_notepack_string_write(form), string)
 check("read as a string form", kez.kez_notepack_string_read(string), form)
 with open("samples/record.string", "rb") as file:
     sample = file.read()
 with open("samples/record.notepack", "rb") as file:
     check("the draft's string form", kez.kez_notepack_string_read(sample), file.read())
-check("the draft's string form, written", kez.kez_notepack_string_write(kez.kez_notepack_string_read(sample)), sample)
+check("the draft's string form, written", bare.kez_notepack_string_write(kez.kez_notepack_string_read(sample)), sample)
 loose = bytes(131) + bytes.fromhex("01 01 01")
-check("written strict", kez.kez_notepack_string_write(loose), string_form(bytes(131) + b"\1\1\0"))
+check("written strict", bare.kez_notepack_string_write(loose), string_form(bytes(131) + b"\1\1\0"))
 check("read as it is", kez.kez_notepack_string_read(string_form(loose)), loose)
 for n in range(6):
     some = bytes(130) + varint(n) + b"\xc3\xbf" * (n // 2) + b"?" * (n % 2) + varint(0)
-    check("string form of %d bytes" % len(some), kez.kez_notepack_string_write(some), string_form(some))
+    check("string form of %d bytes" % len(some), bare.kez_notepack_string_write(some), string_form(some))
     check("string form of %d bytes, read" % len(some), kez.kez_notepack_string_read(string_form(some)), some)
 most = bytes(130) + varint(65402) + bytes(65403)
-check("the longest string form", (len(most), len(string_form(most))), (kez.KEZ_MOST, kez.KEZ_NOTEPACK_STRING_MOST))
-check("the longest string form, written", kez.kez_notepack_string_write(most), string_form(most))
+check("the longest string form", (len(most), len(string_form(most))), (kez.KEZ_MOST, kez.KEZ_NOTEPACK_STRING_MOST - 1))
+check("the longest string form, written", bare.kez_notepack_string_write(most), string_form(most))
 check("the longest string form, read", kez.kez_notepack_string_read(string_form(most)), most)
 for what, data, wanted in (
         ("nothing", b"", (20, 0)), ("another prefix", b"Notepack_" + string[9:], (20, 0)),
@@ -167,8 +177,74 @@ for what, data, wanted in (
         ("a padded number", string_form(padded), (24, 128)),
         ("more than a record", string_form(form + b"\0"), (10, len(form)))):
     check("a string form: %s" % what, refusal(kez.kez_notepack_string_read, data), wanted)
-check("no event, as a string form", refusal(kez.kez_notepack_string_write, form[:-1]), (2, form.index(b"wss:") - 1))
-check("too long for a string form", refusal(kez.kez_notepack_string_write, bytes(65537)), (1, 0))
+check("no event, as a string form", refusal(bare.kez_notepack_string_write, form[:-1]), (2, form.index(b"wss:") - 1))
+check("too long for a string form", refusal(bare.kez_notepack_string_write, bytes(65537)), (1, 0))
+
+# The versioned form: 01, then the bare bytes. There and back; every entry; places; what is said and is not so
+def string_form1(data):
+    return b"notepack1_" + base64.b64encode(data).rstrip(b"=")
+
+
+def said(name, data, *words):
+    """The entry, told that its packed event is versioned."""
+    got = getattr(kez, name)(data, *words, bare=False)
+    return list(got) if name == "kez_notepack_elements" else got
+
+
+versioned, string1 = b"\1" + form, string_form1(b"\1" + form)
+for data in (form, loose, most[:130] + varint(65401) + bytes(65402)):
+    check("moved", kez.kez_versioned_from_bare(data), b"\1" + data)
+    check("moved back", kez.kez_bare_from_versioned(b"\1" + data), data)
+check("65,536 bytes moved", refusal(kez.kez_versioned_from_bare, most), (1, 0))
+check("65,536 bad bytes moved", refusal(kez.kez_versioned_from_bare, bytes(65536)), (1, 0))
+check("a cut one moved", refusal(kez.kez_versioned_from_bare, form[:-1]), (2, form.index(b"wss:") - 1))
+check("a cut one moved back", refusal(kez.kez_bare_from_versioned, versioned[:-1]), (2, form.index(b"wss:")))
+for name in ("kez_notepack_is_strict", "kez_notepack_write", "kez_canonical_write", "kez_nson_write", "kez_id_belongs"):
+    check("%s, versioned" % name, said(name, versioned), getattr(bare, name)(form))
+check("numbers, versioned", said("kez_notepack_read", versioned), numbers._replace(content_at=numbers.content_at + 1))
+check("a tag's length, versioned", said("kez_notepack_tag_len", versioned, 1), 4)
+check("no such tag, versioned", refusal(said, "kez_notepack_tag_len", versioned, 2), (19, 0))
+e = bare.kez_notepack_element(form, 0, 1)
+check("an element, versioned", said("kez_notepack_element", versioned, 0, 1), e._replace(at=e.at + 1))
+check("elements, versioned", said("kez_notepack_elements", versioned),
+      [e._replace(at=e.at + 1) for e in bare.kez_notepack_elements(form)])
+check("string form, versioned", said("kez_notepack_string_write", versioned), string1)
+check("string form, versioned, read", kez.kez_notepack_string_read_versioned(string1), versioned)
+check("made strict", said("kez_notepack_string_write", b"\1" + loose), string_form1(b"\1" + bytes(131) + b"\1\1\0"))
+check("read as it is", kez.kez_notepack_string_read_versioned(string_form1(b"\1" + loose)), b"\1" + loose)
+check("the other reader", refusal(kez.kez_notepack_string_read, string1), (20, 0))
+check("the other text", refusal(kez.kez_notepack_string_read_versioned, string), (20, 0))
+for what, data, wanted in (("nothing", b"", (2, 0)), ("01", b"\1", (2, 1)), ("02", b"\2", (25, 0)),
+                           ("a bare one", form, (25, 0)), ("too long", b"\2" + bytes(65536), (1, 0)),
+                           ("padded", b"\1" + padded, (24, 129)), ("more", versioned + b"\0", (10, len(versioned)))):
+    for name in (n for n in PACKED if n not in ("kez_table_offer", "kez_notepack_tag_len", "kez_notepack_element")):
+        check("%s of %s" % (name, what), refusal(said, name, data), wanted)
+    check("to bare, of %s" % what, refusal(kez.kez_bare_from_versioned, data), wanted)
+    check("a string form of %s" % what, refusal(kez.kez_notepack_string_read_versioned, string_form1(data)), wanted)
+    check("an offer of %s" % what, refusal(functools.partial(kez.Table().offer, bare=False), data), wanted)
+for first, second in ((True, False), (False, True), (False, False)):
+    words = dict(first_bare=first, second_bare=second)
+    check("rivals %r" % words, kez.kez_rivals(bytes(132) if first else b"\1" + bytes(132),
+                                              bytes(132) if second else b"\1" + bytes(132), **words), 1)
+    check("rivals %r, refused" % words, refusal(functools.partial(kez.kez_rivals, **words), bytes(132), bytes(132)),
+          (25, 0))
+one_table, other_table = kez.Table(), kez.Table()
+check("offered, versioned", one_table.offer(versioned, bare=False), kez.Outcome.NEW)
+offer(other_table, form)
+check("the bare one is kept", bytes(one_table), bytes(other_table))
+twofold = b"\1" + bytes(129) + b"\1\0\0"
+check("01 and an event of kind 1", said("kez_notepack_read", twofold).kind, 1)
+check("the same, said to be bare", bare.kez_notepack_read(twofold).kind, 0)
+# it has to be said, and by a yes or no
+for name in PACKED:
+    first = (kez.Table(),) if name == "kez_table_offer" else ()
+    words = {"kez_notepack_tag_len": (0,), "kez_notepack_element": (0, 0)}.get(name, ())
+    check("%s, nothing said" % name, raised(getattr(kez, name), *first, form, *words), "TypeError")
+    for wrong in (1, 0, None, "no", b"", 1.0):
+        call = functools.partial(getattr(kez, name), bare=wrong)
+        check("%s, said %r" % (name, wrong), raised(call, *first, form, *words), "TypeError")
+check("kez_rivals, nothing said", raised(kez.kez_rivals, form, form), "TypeError")
+check("offer, nothing said", raised(kez.Table().offer, form), "TypeError")
 
 # A table of current records: the five outcomes, what is kept and where, refusals that change nothing
 def offered(number, time, kind, rest=b"\0\0"):
@@ -184,7 +260,7 @@ for data, outcome in ((form, "NEW"), (offered(1, 5, 0), "NEW"), (offered(2, 6, 0
                       (offered(8, 5, 30000), "NEW"), (offered(7, 4, 30000), "LOSES"),
                       (offered(9, 6, 30000, b"\0\1\1\2d"), "REPLACED"),
                       (offered(9, 7, 30000, b"\0\1\2\2d\0"), "REPLACED"), (offered(8, 8, 30000), "REPLACED")):
-    check("offered, to be %s" % outcome, table.offer(data), kez.Outcome[outcome])
+    check("offered, to be %s" % outcome, offer(table, data), kez.Outcome[outcome])
 kept = [(0, form), (1, offered(1, 6, 0)), (2, offered(7, 6, 1)), (3, offered(8, 8, 30000))]
 check("what is kept", list(table), kept)
 check("slot by slot", [kez.kez_table_slot(table, n) for n in range(4)], [data for _, data in kept])
@@ -193,23 +269,23 @@ check("a slot's 16 bytes", before[16:32], b"\1" + bytes(7) + struct.pack("<Q", 1
 big = offered(9, 5, 0, varint(1024) + bytes(1025))
 for what, data, wanted in (("over a cell", big, (22, 0)), ("nothing", b"", (2, 0)), ("too long", bytes(65537), (1, 0)),
                            ("over a cell, of a kind that is not kept", offered(9, 5, 20000, big[130:]), (22, 0))):
-    check("offered %s" % what, refusal(table.offer, data), wanted)
+    check("offered %s" % what, refusal(offer, table, data), wanted)
     check("offered %s: the table" % what, bytes(table), before)
 for n in (4, 63, 64, 1 << 32, (1 << 64) - 1):
     check("slot %d" % n, refusal(table.slot, n), (19, 0))
 for wrong, wanted in ((-1, "OverflowError"), (1 << 64, "OverflowError"), (True, "TypeError"), (0.0, "TypeError")):
     check("slot %r" % (wrong,), raised(table.slot, wrong), wanted)
 for number in range(10, 70):
-    table.offer(offered(number, 5, 1))
-check("a full table", (len(list(table)), refusal(table.offer, offered(70, 5, 1))), (64, (23, 0)))
-check("a full table replaces", table.offer(offered(1, 7, 0)), kez.Outcome.REPLACED)
+    offer(table, offered(number, 5, 1))
+check("a full table", (len(list(table)), refusal(offer, table, offered(70, 5, 1))), (64, (23, 0)))
+check("a full table replaces", offer(table, offered(1, 7, 0)), kez.Outcome.REPLACED)
 again = kez.Table(bytes(table))
 check("a table of its bytes", (bytes(again), list(again)), (bytes(table), list(table)))
 check("one changes, the other does not", (again.empty(), bytes(again), len(list(table))), (None, bytes(66560), 64))
 bad = bytearray(bytes(table))
 bad[5 * 16 + 9] = 5
 bad = kez.Table(bad)
-for call, words in ((bad.offer, (form,)), (bad.offer, (b"",)), (bad.slot, (0,)), (bad.slot, (64,)), (list, (bad,))):
+for call, words in ((offer, (bad, form)), (offer, (bad, b"")), (bad.slot, (0,)), (bad.slot, (64,)), (list, (bad,))):
     check("a bad table", refusal(call, *words), (34, 5))
 kez.kez_table_empty(bad)
 check("a bad table, emptied", bytes(bad), bytes(66560))
@@ -218,7 +294,7 @@ for wrong in (b"", bytes(66559), bytes(66561), bytes(1024)):
 for wrong in (5, "text", [0] * 66560):
     check("a table of %.9r" % (wrong,), raised(kez.Table, wrong), "TypeError")
 for wrong in (None, bytes(66560), bytearray(66560)):
-    check("an offer to %.9r" % (wrong,), raised(kez.kez_table_offer, wrong, form), "TypeError")
+    check("an offer to %.9r" % (wrong,), raised(bare.kez_table_offer, wrong, form), "TypeError")
 check("there are five outcomes", [o.value for o in kez.Outcome], [0, 1, 2, 3, 4])
 
 # Hashes, beside Python's own: every length up to 300, cut anywhere; states there and back; the limit; ids
@@ -267,21 +343,21 @@ for wrong in (None, bytes(104), bytearray(104), kez.Table()):
 for place, wanted in ((0, False), (31, False), (32, False), (63, False), (64, True), (127, True), (129, False)):
     other = bytearray(form)
     other[place] ^= 1
-    check("the id, byte %d changed" % place, kez.kez_id_belongs(other), wanted)
+    check("the id, byte %d changed" % place, bare.kez_id_belongs(other), wanted)
 lower = bytes(131) + bytes.fromhex("01 02 0264 04 6162")
-lower = hashlib.sha256(kez.kez_canonical_write(lower)).digest() + lower[32:]
-check("the id, spelled otherwise", (kez.kez_id_belongs(lower), kez.kez_id_belongs(kez.kez_notepack_write(lower))),
+lower = hashlib.sha256(bare.kez_canonical_write(lower)).digest() + lower[32:]
+check("the id, spelled otherwise", (bare.kez_id_belongs(lower), bare.kez_id_belongs(bare.kez_notepack_write(lower))),
       (True, True))
-identified = hashlib.sha256(kez.kez_canonical_write(longest)).digest() + longest[32:]
-check("the id of much", (kez.kez_id_belongs(longest), kez.kez_id_belongs(identified)), (False, True))
+identified = hashlib.sha256(bare.kez_canonical_write(longest)).digest() + longest[32:]
+check("the id of much", (bare.kez_id_belongs(longest), bare.kez_id_belongs(identified)), (False, True))
 for what, data, wanted in (("nothing", b"", (2, 0)), ("too much", bytes(65537), (1, 0)), ("padded", padded, (24, 128))):
-    check("the id of %s" % what, refusal(kez.kez_id_belongs, data), wanted)
+    check("the id of %s" % what, refusal(bare.kez_id_belongs, data), wanted)
 
 # Input: bytes, and what shows itself as bytes. All entries take it by the same way; a table, or a hash, is put first.
 apart = ("kez_refusal_text", "kez_version", "kez_table_empty", "kez_table_slot", "kez_sha256_start",
          "kez_sha256_finish")
 inputs = [name for name in dir(kez) if name.startswith("kez_") and name not in apart]
-check("there are seventeen entries", len(inputs), 17)
+check("there are twenty entries", len(inputs), 20)
 indices = {"kez_notepack_tag_len": (0,), "kez_notepack_element": (0, 0)}
 
 
@@ -296,13 +372,13 @@ def ask(name, data):
     """The entry's answer; an iterator's is all that it has, and two inputs are the same one. A table is a new one, and
     so is a hash, of which the digest is told."""
     if name == "kez_table_offer":
-        return kez.kez_table_offer(kez.Table(), data)
+        return offer(kez.Table(), data)
     if name == "kez_sha256_add":
         hash = kez.Sha256()
         hash.add(data)
         return hash.finish()
     words = (data,) if name == "kez_rivals" else indices.get(name, ())
-    got = getattr(kez, name)(data, *words)
+    got = getattr(bare, name, getattr(kez, name))(data, *words)
     return list(got) if name == "kez_notepack_elements" else got
 
 
@@ -315,7 +391,8 @@ def mapped(data):
 
 wide = bytes(b for byte in form for b in (byte, 0))
 for name in inputs:
-    texts = {"kez_nson_read": text, "kez_json_read": text, "kez_read_both": text, "kez_notepack_string_read": string}
+    texts = {"kez_nson_read": text, "kez_json_read": text, "kez_read_both": text, "kez_notepack_string_read": string,
+             "kez_notepack_string_read_versioned": string1, "kez_bare_from_versioned": b"\1" + form}
     data = texts.get(name, form)
     wanted = ask(name, data)
     for same in (bytearray(data), memoryview(data), mapped(data), array.array("B", data), Lying(data),
@@ -325,21 +402,21 @@ for name in inputs:
                   array.array("I", [0] * 33), memoryview(wide)[::2], memoryview(bytes(132)).cast("B", (12, 11)),
                   memoryview(bytes(132)).cast("?")):
         check("%s of %.20r" % (name, wrong), raised(ask, name, wrong), "TypeError")
-check("kez_rivals of a number as second", raised(kez.kez_rivals, form, 132), "TypeError")
+check("kez_rivals of a number as second", raised(bare.kez_rivals, form, 132), "TypeError")
 
 # Indices: 0 to 2^64 - 1, and nothing wraps
 for number, wanted in ((0, 3), (1, 4), (2, (19, 0)), (1 << 32, (19, 0)), ((1 << 64) - 1, (19, 0))):
-    check("tag %d" % number, refusal(kez.kez_notepack_tag_len, form, number), wanted)
-    check("element of tag %d" % number, type(refusal(kez.kez_notepack_element, form, number, 0)),
+    check("tag %d" % number, refusal(bare.kez_notepack_tag_len, form, number), wanted)
+    check("element of tag %d" % number, type(refusal(bare.kez_notepack_element, form, number, 0)),
           tuple if number > 1 else kez.Payload)
-    check("element %d" % number, type(refusal(kez.kez_notepack_element, form, 1, number)),
+    check("element %d" % number, type(refusal(bare.kez_notepack_element, form, 1, number)),
           tuple if number > 3 else kez.Payload)
 for wrong, wanted in ((-1, "OverflowError"), (-(1 << 64), "OverflowError"), (1 << 64, "OverflowError"),
                       ((1 << 64) + 1, "OverflowError"), (True, "TypeError"), (False, "TypeError"), (0.0, "TypeError"),
                       ("0", "TypeError"), (None, "TypeError"), (b"0", "TypeError")):
-    check("tag %r" % (wrong,), raised(kez.kez_notepack_tag_len, form, wrong), wanted)
-    check("element of tag %r" % (wrong,), raised(kez.kez_notepack_element, form, wrong, 0), wanted)
-    check("element %r" % (wrong,), raised(kez.kez_notepack_element, form, 0, wrong), wanted)
+    check("tag %r" % (wrong,), raised(bare.kez_notepack_tag_len, form, wrong), wanted)
+    check("element of tag %r" % (wrong,), raised(bare.kez_notepack_element, form, wrong, 0), wanted)
+    check("element %r" % (wrong,), raised(bare.kez_notepack_element, form, 0, wrong), wanted)
 
 
 # Refusals, out of a pickle and out of another process
@@ -351,7 +428,7 @@ def told(call, *words):
         return type(r), r.number, r.place, str(r), r.args
 
 
-here = told(kez.kez_notepack_read, form[:-1])
+here = told(bare.kez_notepack_read, form[:-1])
 check("a refusal's text", here[3], "refused 2 at %d: %s" % (form.index(b"wss:") - 1, kez.kez_refusal_text(2)))
 one = kez.Refused(2, 7)
 for protocol in range(pickle.HIGHEST_PROTOCOL + 1):
@@ -360,7 +437,7 @@ for protocol in range(pickle.HIGHEST_PROTOCOL + 1):
           (kez.Refused, {"number": 2, "place": 7}, str(one)))
 check("copied", raised(lambda: str(copy.copy(one))), str(one))
 with concurrent.futures.ProcessPoolExecutor(1, multiprocessing.get_context("fork")) as pool:
-    check("out of a process pool", raised(told, pool.submit(kez.kez_notepack_read, form[:-1]).result), here)
+    check("out of a process pool", raised(told, pool.submit(bare.kez_notepack_read, form[:-1]).result), here)
 
 # Output buffers are as long as what is written, and no longer
 made = []
@@ -371,29 +448,32 @@ for name, data, rooms in (("kez_notepack_write", form, [len(form)]), ("kez_canon
                           ("kez_json_read", text, [len(form)]), ("kez_read_both", text, [len(form)] * 2),
                           ("kez_notepack_string_write", form, [len(string)]),
                           ("kez_notepack_string_read", string, [len(form)]), ("kez_notepack_string_read", form, []),
+                          ("kez_versioned_from_bare", form, [len(form) + 1]),
+                          ("kez_bare_from_versioned", b"\1" + form, [len(form)]),
+                          ("kez_notepack_string_read_versioned", string1, [len(form) + 1]),
                           ("kez_nson_write", bytes(132), []), ("kez_canonical_write", b"", [])):
     made.clear()
-    raised(getattr(kez, name), data)
+    raised(getattr(bare, name, getattr(kez, name)), data)
     check("room of %s" % name, made, rooms)
 ctypes.create_string_buffer = make
 
 # All elements, as kez_notepack_element has them
-elements = [kez.Element(i, *kez.kez_notepack_element(form, i, j)) for i, tag in enumerate(event["tags"])
+elements = [kez.Element(i, *bare.kez_notepack_element(form, i, j)) for i, tag in enumerate(event["tags"])
             for j in range(len(tag))]
-check("elements", list(kez.kez_notepack_elements(form)), elements)
-check("no elements", list(kez.kez_notepack_elements(bytes(132))), [])
-check("a refusal by the call", refusal(kez.kez_notepack_elements, form[:-1]), (2, form.index(b"wss:") - 1))
+check("elements", list(bare.kez_notepack_elements(form)), elements)
+check("no elements", list(bare.kez_notepack_elements(bytes(132))), [])
+check("a refusal by the call", refusal(bare.kez_notepack_elements, form[:-1]), (2, form.index(b"wss:") - 1))
 for tags, texts in ((1, 255), (4, 255), (1000, 1), (253, 255)):
     # so many empty texts: blocks that end just with the record, and many of them
     record = bytes(131) + varint(tags) + tags * (varint(texts) + bytes(texts))
     before = len(varint(tags)) + 131
     wanted = [(i, before + i * (len(varint(texts)) + texts) + len(varint(texts)) + j + 1, 0, False)
               for i in range(tags) for j in range(texts)]
-    check("elements of %d tags" % tags, list(kez.kez_notepack_elements(record)), wanted)
+    check("elements of %d tags" % tags, list(bare.kez_notepack_elements(record)), wanted)
 exact = bytes(131) + varint(16) + 16 * (varint(64) + bytes(64))
-check("elements of a full block", len(list(kez.kez_notepack_elements(exact))), 1024)
+check("elements of a full block", len(list(bare.kez_notepack_elements(exact))), 1024)
 changing = bytearray(exact)
-iterator = kez.kez_notepack_elements(changing)
+iterator = bare.kez_notepack_elements(changing)
 changing[:] = b""
 check("elements of bytes that change meanwhile", len(list(iterator)), 1024)
 
@@ -428,7 +508,7 @@ def only(name, *words):
 ctypes.CDLL = only
 ctypes.util.find_library = lambda name: None
 """
-SAYS = "import kezubimoryu as k; print(k.kez_notepack_read(bytes(132)).tag_count)"
+SAYS = "import kezubimoryu as k; print(k.kez_notepack_read(bytes(132), bare=True).tag_count)"
 
 
 def imported(folder, names=(), **environment):
@@ -450,12 +530,27 @@ with tempfile.TemporaryDirectory() as alone, tempfile.TemporaryDirectory() as be
     check("by its older name", imported(alone, KEZ_LIBRARY=library), "0")
     said = imported(beside, KEZUBIMORYU_LIBRARY="/no/such.so")
     check("by a variable that is wrong", said.startswith("ImportError: KEZUBIMORYU_LIBRARY is '/no/such.so'"), True)
-    check("by libkezubimoryu.so.0", imported(alone, ["libkezubimoryu.so.0"]), "0")
+    check("by libkezubimoryu.so.1", imported(alone, ["libkezubimoryu.so.1"]), "0")
+    check("not by libkezubimoryu.so.0", imported(alone, ["libkezubimoryu.so.0"]).startswith("ImportError: "), True)
     check("by libkezubimoryu.so", imported(alone, ["libkezubimoryu.so"]), "0")
     check("beside the file", imported(beside), "0")
     os.mkdir(os.path.join(alone, "lib"))
-    shutil.copy(library, os.path.join(alone, "lib", "libkezubimoryu.so.0"))
+    shutil.copy(library, os.path.join(alone, "lib", "libkezubimoryu.so.1"))
     check("by LD_LIBRARY_PATH", imported(alone, LD_LIBRARY_PATH=os.path.join(alone, "lib")), "0")
+    # a library of another version is not taken: its entries have other arguments
+    for number, told in ((1000, "0.10.0"), (1200, "0.12.0"), (10000, "1.0.0"), (None, "older than 0.5"), (1107, "")):
+        other = os.path.join(alone, "other-%s.so" % number)
+        source = "unsigned long kez_version(void) { return %s; }" % number if number else "int nothing;"
+        subprocess.run(["gcc", "-shared", "-x", "c", "-o", other, "-"], input=source.encode(), check=True)
+        said = imported(alone, KEZUBIMORYU_LIBRARY=other)
+        wanted = "this library is %s, and kezubimoryu.py is for 0.11" % told if told else "NotImplementedError"
+        check("version %s" % number, wanted in said, True)
+    os.mkdir(os.path.join(alone, "old"))
+    shutil.copy(os.path.join(alone, "other-1000.so"), os.path.join(alone, "old", "libkezubimoryu.so"))
+    said = imported(alone, LD_LIBRARY_PATH=os.path.join(alone, "old"))
+    check("an older one where the loader looks", "this library is 0.10.0" in said, True)
+    said = imported(beside, LD_LIBRARY_PATH=os.path.join(alone, "old"))
+    check("the right one beside the file then", said, "0")
     said = imported(alone)
     for word in ("ImportError: ", "KEZUBIMORYU_LIBRARY", "ldconfig", "LD_LIBRARY_PATH", os.path.realpath(alone)):
         check("nowhere: %s" % word, word in said, True)

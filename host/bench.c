@@ -22,7 +22,7 @@ enum { PASSES = 12, ROUNDS = 3, ROUND_NS = 1500000, ROOM = KEZ_ELEMENTS_MOST };
 /* Records */
 
 /* The forms that an entry can take. */
-typedef enum { PACKED, NSON, STRING, CONTENT, FORMS } form;
+typedef enum { PACKED, VERSIONED, NSON, STRING, CONTENT, FORMS } form;
 
 /* A table of records. */
 typedef struct {
@@ -35,7 +35,7 @@ typedef struct {
     uint64_t refusal; /* what they refuse it with */
     table *table;     /* that it is offered to, if it is one for those */
     uint64_t value;   /* what that offer is answered */
-    uint8_t packed[69632], text[69632], string[94208];
+    uint8_t packed[69632], versioned[69632], text[69632], string[94208];
     size_t packed_len, text_len, string_len, content_at, content_len;
 } __attribute__((aligned(4096))) record;
 
@@ -198,18 +198,21 @@ static void make_tables(void)
 /* Entries */
 
 typedef enum {
-    READS, ASKS, WRITES, COUNTS, SHOWS, LISTS, BOTH, RIVALS, OFFERS, VIEWS, EMPTIES, HASHES, PLAIN, PARSES, COPIES
+    READS, ASKS, PACKS, WRITES, COUNTS, SHOWS, LISTS, BOTH, RIVALS, OFFERS, VIEWS, EMPTIES, HASHES, PLAIN, PARSES,
+    COPIES
 } shape;
 
-typedef kez_answer reads(const uint8_t *, size_t, uint64_t *, uint64_t *, uint64_t *, uint64_t *, uint64_t *);
-typedef kez_answer asks(const uint8_t *, size_t);
+typedef kez_answer reads(const uint8_t *, size_t, uint64_t, uint64_t *, uint64_t *, uint64_t *, uint64_t *,
+                         uint64_t *);
+typedef kez_answer asks(const uint8_t *, size_t, uint64_t);
+typedef kez_answer packs(const uint8_t *, size_t, uint64_t, uint8_t *, size_t);
 typedef kez_answer writes(const uint8_t *, size_t, uint8_t *, size_t);
-typedef kez_answer counts(const uint8_t *, size_t, uint64_t);
-typedef kez_answer shows(const uint8_t *, size_t, uint64_t, uint64_t, uint64_t *, uint64_t *, uint64_t *);
-typedef kez_answer lists(const uint8_t *, size_t, uint64_t, uint8_t *, size_t);
+typedef kez_answer counts(const uint8_t *, size_t, uint64_t, uint64_t);
+typedef kez_answer shows(const uint8_t *, size_t, uint64_t, uint64_t, uint64_t, uint64_t *, uint64_t *, uint64_t *);
+typedef kez_answer lists(const uint8_t *, size_t, uint64_t, uint64_t, uint8_t *, size_t);
 typedef kez_answer both(const uint8_t *, size_t, uint8_t *, size_t, uint8_t *, size_t, uint64_t *);
-typedef kez_answer rivals(const uint8_t *, size_t, const uint8_t *, size_t);
-typedef kez_answer offers(uint8_t *, size_t, uint8_t *, size_t, const uint8_t *, size_t);
+typedef kez_answer rivals(const uint8_t *, size_t, uint64_t, const uint8_t *, size_t, uint64_t);
+typedef kez_answer offers(uint8_t *, size_t, uint8_t *, size_t, const uint8_t *, size_t, uint64_t);
 typedef kez_answer views(const uint8_t *, size_t, const uint8_t *, size_t, uint64_t, uint64_t *, uint64_t *);
 typedef kez_answer empties(uint8_t *, size_t, uint8_t *, size_t);
 typedef void plain(const uint8_t *, size_t, uint8_t *);
@@ -234,23 +237,25 @@ typedef struct {
 static const entry entries[] = {
     {"read", "kez_notepack_read", READS, kez_notepack_read, PACKED},
     {"strict", "kez_notepack_is_strict", ASKS, kez_notepack_is_strict, PACKED},
-    {"pack", "kez_notepack_write", WRITES, kez_notepack_write, PACKED},
+    {"pack", "kez_notepack_write", PACKS, kez_notepack_write, PACKED},
     {"tag_len", "kez_notepack_tag_len", COUNTS, kez_notepack_tag_len, PACKED},
     {"element", "kez_notepack_element", SHOWS, kez_notepack_element, PACKED},
     {"elements", "kez_notepack_elements", LISTS, kez_notepack_elements, PACKED},
-    {"canonical", "kez_canonical_write", WRITES, kez_canonical_write, PACKED},
-    {"nson_write", "kez_nson_write", WRITES, kez_nson_write, PACKED},
+    {"canonical", "kez_canonical_write", PACKS, kez_canonical_write, PACKED},
+    {"nson_write", "kez_nson_write", PACKS, kez_nson_write, PACKED},
     {"nson_read", "kez_nson_read", WRITES, kez_nson_read, NSON},
     {"json_read", "kez_json_read", WRITES, kez_json_read, NSON},
     {"read_both", "kez_read_both", BOTH, kez_read_both, NSON},
     {"rivals", "kez_rivals", RIVALS, kez_rivals, PACKED},
-    {"string_write", "kez_notepack_string_write", WRITES, kez_notepack_string_write, PACKED},
+    {"string_write", "kez_notepack_string_write", PACKS, kez_notepack_string_write, PACKED},
     {"string_read", "kez_notepack_string_read", WRITES, kez_notepack_string_read, STRING},
     {"table_offer", "kez_table_offer", OFFERS, kez_table_offer, PACKED},
     {"table_slot", "kez_table_slot", VIEWS, kez_table_slot, PACKED},
     {"table_empty", "kez_table_empty", EMPTIES, kez_table_empty, PACKED},
     {"sha256", "kez_sha256_add", HASHES, &library_hash, PACKED},
     {"id_belongs", "kez_id_belongs", ASKS, kez_id_belongs, PACKED},
+    {"to_versioned", "kez_versioned_from_bare", WRITES, kez_versioned_from_bare, PACKED},
+    {"to_bare", "kez_bare_from_versioned", WRITES, kez_bare_from_versioned, VERSIONED},
     {"utf8", "kez_notepack_read", READS, kez_notepack_read, PACKED},
     {"utf8_json", "kez_json_read", WRITES, kez_json_read, NSON},
 };
@@ -317,7 +322,7 @@ static const record *offered;
 /* One offer. What it stored is undone, which takes a moment beside the call. */
 static uint64_t offer(offers *f, const uint8_t *in, size_t len)
 {
-    kez_answer a = f(lent.slots, sizeof lent.slots, lent.cells, sizeof lent.cells, in, len);
+    kez_answer a = f(lent.slots, sizeof lent.slots, lent.cells, sizeof lent.cells, in, len, KEZ_BARE);
     if (a.refusal || a.value != offered->value)
         return a.refusal ? a.refusal : 1000 + a.value;
     if (a.value == KEZ_TABLE_NEW || a.value == KEZ_TABLE_REPLACED) {
@@ -348,15 +353,16 @@ static uint64_t call(const entry *e, const uint8_t *in, size_t len)
 {
     uint64_t *n = numbers;
     switch (e->shape) {
-    case READS: return ((reads *)e->function)(in, len, n, n + 1, n + 2, n + 3, n + 4).refusal;
-    case ASKS: return ((asks *)e->function)(in, len).refusal;
+    case READS: return ((reads *)e->function)(in, len, KEZ_BARE, n, n + 1, n + 2, n + 3, n + 4).refusal;
+    case ASKS: return ((asks *)e->function)(in, len, KEZ_BARE).refusal;
+    case PACKS: return ((packs *)e->function)(in, len, KEZ_BARE, out, (size_t)ROOM).refusal;
     case WRITES: return ((writes *)e->function)(in, len, out, (size_t)ROOM).refusal;
-    case COUNTS: return ((counts *)e->function)(in, len, 1).refusal;
-    case SHOWS: return ((shows *)e->function)(in, len, 1, 1, n, n + 1, n + 2).refusal;
-    case LISTS: return ((lists *)e->function)(in, len, 0, out, (size_t)ROOM).refusal;
+    case COUNTS: return ((counts *)e->function)(in, len, KEZ_BARE, 1).refusal;
+    case SHOWS: return ((shows *)e->function)(in, len, KEZ_BARE, 1, 1, n, n + 1, n + 2).refusal;
+    case LISTS: return ((lists *)e->function)(in, len, KEZ_BARE, 0, out, (size_t)ROOM).refusal;
     case BOTH:
         return ((both *)e->function)(in, len, out, (size_t)ROOM / 2, out + ROOM / 2, (size_t)ROOM / 2, n).refusal;
-    case RIVALS: return ((rivals *)e->function)(in, len, in, len).refusal;
+    case RIVALS: return ((rivals *)e->function)(in, len, KEZ_BARE, in, len, KEZ_BARE).refusal;
     case OFFERS: return offer((offers *)e->function, in, len);
     case VIEWS:
         return ((views *)e->function)(lent.slots, sizeof lent.slots, lent.cells, sizeof lent.cells, 63, n, n + 1)
@@ -470,9 +476,9 @@ static void keep_figure(double *best, double ns)
 
 static void measure(row *best, const entry *e, const record *r, void *reference, void *peers, const char *program)
 {
-    const uint8_t *const forms[FORMS] = {r->packed, r->text, r->string, r->packed + r->content_at};
+    const uint8_t *const forms[FORMS] = {r->packed, r->versioned, r->text, r->string, r->packed + r->content_at};
     const uint8_t *const in = forms[e->takes];
-    const size_t lengths[FORMS] = {r->packed_len, r->text_len, r->string_len, r->content_len};
+    const size_t lengths[FORMS] = {r->packed_len, r->packed_len + 1, r->text_len, r->string_len, r->content_len};
     uint64_t calls = 16;
     best->len = lengths[e->takes];
     offered = r;
@@ -643,11 +649,13 @@ static void spoil(uint8_t *text, size_t len)
 }
 
 /* The other forms of each record. */
-static void make_forms(writes *nson_write)
+static void make_forms(packs *nson_write)
 {
     for (int j = 0; j < RECORDS; j++) {
         record *r = &records[j];
-        r->text_len = nson_write(r->packed, r->packed_len, r->text, sizeof r->text).value;
+        r->text_len = nson_write(r->packed, r->packed_len, KEZ_BARE, r->text, sizeof r->text).value;
+        r->versioned[0] = 1;
+        memcpy(r->versioned + 1, r->packed, r->packed_len);
         spell(r);
         if (r->refusal == 5) {
             spoil(r->packed, r->packed_len);
@@ -667,7 +675,7 @@ int main(int count, char **words)
     const char *program = count > 3 ? words[3] : NULL;
     self = words[0];
     peers_file = count > 2 ? words[2] : NULL;
-    writes *nson_write = reference ? (writes *)dlsym(reference, "kez_nson_write") : NULL;
+    packs *nson_write = reference ? (packs *)dlsym(reference, "kez_nson_write") : NULL;
     if (!nson_write) {
         fprintf(stderr, "usage: bench libreference.so [libpeers.so | -] [PROGRAM]\n");
         return 2;

@@ -5,6 +5,9 @@
 built=target/host
 # the library's version, which stands in the header and nowhere else
 version=$(sed -n 's/^#define KEZ_VERSION "\(.*\)"$/\1/p' include/kezubimoryu.h)
+# the shared library's name at run time. Its number rises where an entry takes other arguments than before, so that no
+# program runs with a library that it was not compiled for
+soname=libkezubimoryu.so.1
 mkdir -p "$built"
 
 # stale TARGET SOURCE..: is the target missing, or older than a source?
@@ -91,9 +94,10 @@ build_library() {
     esac
 }
 
-# the same library to be loaded at run time. Its name there is libkezubimoryu.so.0
+# the same library to be loaded at run time
 build_shared() {
-    quietly gcc -shared -Wl,-soname,libkezubimoryu.so.0 -o "$built/libkezubimoryu.so" -Wl,--whole-archive "$archive" -Wl,--no-whole-archive -lpthread -ldl -lm
+    quietly gcc -shared -Wl,-soname,"$soname" -o "$built/libkezubimoryu.so" -Wl,--whole-archive "$archive" \
+        -Wl,--no-whole-archive -lpthread -ldl -lm
 }
 
 # build_c NAME SOURCE [WORDS..]: a C program over the archive

@@ -1,4 +1,5 @@
-/* The line protocol over the C entries: one request a line on standard input, one answer a line.
+/* The line protocol over the C entries: one request a line on standard input, one answer a line. A packed event is
+ * b:BYTES if it is said to be bare, v:BYTES if it is said to be versioned; without a mark it is bare.
  * It also watches what it lends: inputs keep their bytes, a refusal leaves every buffer and number as it was, success
  * leaves the bytes behind the written length as they were, and nothing around a buffer is touched. An input ends where
  * its page ends, so that a read past it is seen. So do the two buffers of a table of records and the state of a hash,
@@ -34,11 +35,12 @@ static void fault(int signal)
     siglongjmp(out_of_the_call, 1);
 }
 
-/* Lent bytes that end at a page which can't be touched, and a copy of them. */
+/* Lent bytes that end at a page which can't be touched, and a copy of them; of packed ones, what is said of them. */
 typedef struct {
     uint8_t *end, *copy;
     const uint8_t *at;
     size_t len;
+    uint64_t bare;
 } input;
 
 static input first, second;
@@ -88,6 +90,16 @@ static int lend(input *in, const char *word)
     memcpy(in->copy, to, in->len);
     in->at = in->len || line_number % 2 ? to : NULL;
     return 1;
+}
+
+/* The same of a packed event: `v:BYTES` is said to be versioned, `b:BYTES` or BYTES alone to be bare. Any number but 0
+ * says so, and by turns the entries get different ones. */
+static int lend_packed(input *in, const char *word)
+{
+    static const uint64_t yes[] = {KEZ_BARE, 2, 256, UINT64_C(1) << 32, UINT64_C(1) << 63, UINT64_MAX};
+    int marked = !strncmp(word, "v:", 2) || !strncmp(word, "b:", 2);
+    in->bare = *word == 'v' ? KEZ_VERSIONED : yes[line_number % (sizeof yes / sizeof *yes)];
+    return lend(in, word + 2 * marked);
 }
 
 static void check_input(const input *in)
@@ -154,7 +166,7 @@ static void check_numbers(int lent, kez_answer a)
 
 static void check_answer(kez_answer a)
 {
-    if (a.refusal > 24 && a.refusal != 34 && a.refusal != 35)
+    if (a.refusal > 25 && a.refusal != 34 && a.refusal != 35)
         wrong("has a refusal that does not exist");
 }
 
@@ -183,7 +195,7 @@ static int same(kez_answer a, kez_answer b)
 static kez_answer read_packed(const input *in)
 {
     lend_numbers();
-    kez_answer a = kez_notepack_read(in->at, in->len, number(0), number(1), number(2), number(3), number(4));
+    kez_answer a = kez_notepack_read(in->at, in->len, in->bare, number(0), number(1), number(2), number(3), number(4));
     check_numbers(5, a);
     check_input(in);
     if (!a.refusal && a.value)
@@ -200,11 +212,12 @@ typedef struct kind {
     int words;
     int (*answer)(const struct kind *, char **words);
     kez_answer (*write)(const uint8_t *, size_t, uint8_t *, size_t);
+    kez_answer (*write_packed)(const uint8_t *, size_t, uint64_t, uint8_t *, size_t);
 } kind;
 
 static int do_read(const kind *k, char **words)
 {
-    if (!lend(&first, words[0]))
+    if (!lend_packed(&first, words[0]))
         return 0;
     kez_answer a = read_packed(&first);
     uint64_t created_at = *number(0), event_kind = *number(1), at = *number(2), len = *number(3), tags = *number(4);
@@ -227,10 +240,11 @@ static int do_read(const kind *k, char **words)
 /* Two questions, with the refusals of the reader and no other. */
 static int do_ask(const kind *k, char **words)
 {
-    if (!lend(&first, words[0]))
+    if (!lend_packed(&first, words[0]))
         return 0;
     int strict = !strcmp(k->name, "strict");
-    kez_answer a = (strict ? kez_notepack_is_strict : kez_id_belongs)(first.at, first.len), read = read_packed(&first);
+    kez_answer a = (strict ? kez_notepack_is_strict : kez_id_belongs)(first.at, first.len, first.bare);
+    kez_answer read = read_packed(&first);
     if (!a.refusal && a.value > 1)
         wrong("has a value that is neither 0 nor 1");
     if (a.refusal ? !same(a, read) : read.refusal != 0)
@@ -244,12 +258,12 @@ static int do_element(const kind *k, char **words)
 {
     (void)k;
     uint64_t tag, element;
-    if (!lend(&first, words[0]) || !parsed(words[1], &tag) || !parsed(words[2], &element))
+    if (!lend_packed(&first, words[0]) || !parsed(words[1], &tag) || !parsed(words[2], &element))
         return 0;
     lend_numbers();
-    kez_answer a = kez_notepack_element(first.at, first.len, tag, element, number(0), number(1), number(2));
+    kez_answer a = kez_notepack_element(first.at, first.len, first.bare, tag, element, number(0), number(1), number(2));
     check_numbers(3, a);
-    kez_answer n = kez_notepack_tag_len(first.at, first.len, tag);
+    kez_answer n = kez_notepack_tag_len(first.at, first.len, first.bare, tag);
     check_input(&first);
     if (!a.refusal && a.value)
         wrong("has a value that is not 0");
@@ -275,10 +289,11 @@ static void print_bytes(const uint8_t *at, size_t len)
 static int do_write(const kind *k, char **words)
 {
     uint64_t room;
-    if (!lend(&first, words[0]) || !parsed(words[1], &room) || room > MOST)
+    if (!(k->write ? lend : lend_packed)(&first, words[0]) || !parsed(words[1], &room) || room > MOST)
         return 0;
     uint8_t *out = lend_room(room);
-    kez_answer a = k->write(first.at, first.len, out, room);
+    kez_answer a = k->write ? k->write(first.at, first.len, out, room)
+                            : k->write_packed(first.at, first.len, first.bare, out, room);
     check_input(&first);
     if (!a.refusal && a.value > room)
         wrong("has written more than there is room for");
@@ -293,15 +308,15 @@ static int do_write(const kind *k, char **words)
     return 1;
 }
 
-/* `elements BYTES FIRST ROOM`: how many were listed, and their bytes. */
+/* `elements PACKED FIRST ROOM`: how many were listed, and their bytes. */
 static int do_elements(const kind *k, char **words)
 {
     (void)k;
     uint64_t from, room;
-    if (!lend(&first, words[0]) || !parsed(words[1], &from) || !parsed(words[2], &room) || room > MOST)
+    if (!lend_packed(&first, words[0]) || !parsed(words[1], &from) || !parsed(words[2], &room) || room > MOST)
         return 0;
     uint8_t *out = lend_room(room);
-    kez_answer a = kez_notepack_elements(first.at, first.len, from, out, room), read = read_packed(&first);
+    kez_answer a = kez_notepack_elements(first.at, first.len, first.bare, from, out, room), read = read_packed(&first);
     size_t written = a.refusal ? 0 : KEZ_ELEMENT_BYTES * a.value;
     if (!a.refusal && a.value > room / KEZ_ELEMENT_BYTES)
         wrong("has written more than there is room for");
@@ -357,9 +372,9 @@ static int do_both(const kind *k, char **words)
 static int do_rivals(const kind *k, char **words)
 {
     (void)k;
-    if (!lend(&first, words[0]) || !lend(&second, words[1]))
+    if (!lend_packed(&first, words[0]) || !lend_packed(&second, words[1]))
         return 0;
-    kez_answer a = kez_rivals(first.at, first.len, second.at, second.len);
+    kez_answer a = kez_rivals(first.at, first.len, first.bare, second.at, second.len, second.bare);
     check_input(&first);
     check_input(&second);
     check_answer(a);
@@ -508,12 +523,13 @@ static uint64_t changed_slot(void)
     return 0;
 }
 
-/* What was offered was stored: all 16 bytes of one slot, the strict form in its cell, and nothing else. */
+/* What was offered was stored: all 16 bytes of one slot, the bare strict form in its cell, and nothing else. */
 static void check_stored(void)
 {
     uint64_t n = changed_slot();
     uint8_t *now = slots.copy + KEZ_SLOT_BYTES * n;
-    kez_answer strict = kez_notepack_write(first.at, first.len, cells.copy + KEZ_CELL_BYTES * n, KEZ_CELL_BYTES);
+    uint8_t *of_cell = cells.copy + KEZ_CELL_BYTES * n;
+    kez_answer strict = kez_notepack_write(first.at, first.len, first.bare, of_cell, KEZ_CELL_BYTES);
     if (strict.refusal)
         wrong("stores what has no strict form for a cell");
     memset(now, 0, KEZ_SLOT_BYTES);
@@ -526,10 +542,10 @@ static int do_offer(const kind *k, char **words)
 {
     static const char *const said[] = {"new", "replaced", "loses", "held", "not_kept"};
     (void)k;
-    if (!lend(&first, words[0]))
+    if (!lend_packed(&first, words[0]))
         return 0;
     keep_table();
-    kez_answer a = kez_table_offer(lent(&slots), slots.len, lent(&cells), cells.len, first.at, first.len);
+    kez_answer a = kez_table_offer(lent(&slots), slots.len, lent(&cells), cells.len, first.at, first.len, first.bare);
     check_input(&first);
     if (!a.refusal && a.value > KEZ_TABLE_NOT_KEPT)
         wrong("has a value above 4");
@@ -746,37 +762,40 @@ static int do_set(const kind *k, char **words)
 }
 
 static const kind kinds[] = {
-    {"read", 1, do_read, NULL},
-    {"content", 1, do_read, NULL},
-    {"lister", 1, do_read, NULL},
-    {"strict", 1, do_ask, NULL},
-    {"id_belongs", 1, do_ask, NULL},
-    {"element", 3, do_element, NULL},
-    {"elements", 3, do_elements, NULL},
-    {"pack", 2, do_write, kez_notepack_write},
-    {"canonical", 2, do_write, kez_canonical_write},
-    {"nson_write", 2, do_write, kez_nson_write},
-    {"nson_read", 2, do_write, kez_nson_read},
-    {"json_read", 2, do_write, kez_json_read},
-    {"string_write", 2, do_write, kez_notepack_string_write},
-    {"string_read", 2, do_write, kez_notepack_string_read},
-    {"read_both", 2, do_both, NULL},
-    {"rivals", 2, do_rivals, NULL},
-    {"table_new", 0, do_new, NULL},
-    {"table_empty", 0, do_empty, NULL},
-    {"table_offer", 1, do_offer, NULL},
-    {"table_look", 1, do_look, NULL},
-    {"table_load", MORE, do_load, NULL},
-    {"table_slot", 1, do_view, NULL},
-    {"sha256", MORE, do_sha256, NULL},
-    {"sha_new", 0, do_start, NULL},
-    {"sha_start", 0, do_start, NULL},
-    {"sha_add", 1, do_add, NULL},
-    {"sha_finish", 0, do_finish, NULL},
-    {"sha_finish_in", 1, do_finish, NULL},
-    {"sha_look", 0, do_look_at_state, NULL},
-    {"sha_load", 1, do_load_state, NULL},
-    {"sha_set", 1, do_set, NULL},
+    {"read", 1, do_read, NULL, NULL},
+    {"content", 1, do_read, NULL, NULL},
+    {"lister", 1, do_read, NULL, NULL},
+    {"strict", 1, do_ask, NULL, NULL},
+    {"id_belongs", 1, do_ask, NULL, NULL},
+    {"element", 3, do_element, NULL, NULL},
+    {"elements", 3, do_elements, NULL, NULL},
+    {"pack", 2, do_write, NULL, kez_notepack_write},
+    {"canonical", 2, do_write, NULL, kez_canonical_write},
+    {"nson_write", 2, do_write, NULL, kez_nson_write},
+    {"string_write", 2, do_write, NULL, kez_notepack_string_write},
+    {"nson_read", 2, do_write, kez_nson_read, NULL},
+    {"json_read", 2, do_write, kez_json_read, NULL},
+    {"string_read", 2, do_write, kez_notepack_string_read, NULL},
+    {"string1_read", 2, do_write, kez_notepack_string_read_versioned, NULL},
+    {"to_versioned", 2, do_write, kez_versioned_from_bare, NULL},
+    {"to_bare", 2, do_write, kez_bare_from_versioned, NULL},
+    {"read_both", 2, do_both, NULL, NULL},
+    {"rivals", 2, do_rivals, NULL, NULL},
+    {"table_new", 0, do_new, NULL, NULL},
+    {"table_empty", 0, do_empty, NULL, NULL},
+    {"table_offer", 1, do_offer, NULL, NULL},
+    {"table_look", 1, do_look, NULL, NULL},
+    {"table_load", MORE, do_load, NULL, NULL},
+    {"table_slot", 1, do_view, NULL, NULL},
+    {"sha256", MORE, do_sha256, NULL, NULL},
+    {"sha_new", 0, do_start, NULL, NULL},
+    {"sha_start", 0, do_start, NULL, NULL},
+    {"sha_add", 1, do_add, NULL, NULL},
+    {"sha_finish", 0, do_finish, NULL, NULL},
+    {"sha_finish_in", 1, do_finish, NULL, NULL},
+    {"sha_look", 0, do_look_at_state, NULL, NULL},
+    {"sha_load", 1, do_load_state, NULL, NULL},
+    {"sha_set", 1, do_set, NULL, NULL},
 };
 
 static const kind *kind_of(const char *name)

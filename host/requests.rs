@@ -1,8 +1,8 @@
 //! Requests of the line protocol, always the same for the same words: requests SEED COUNT [KIND..]; without a kind all
-//! of them. `requests changes` is every change of one character of the vector's string form. A kind is the first word of
-//! its requests; but `table` is all that is asked about a table of records, and with `table_slot` its slots are viewed
-//! by the library too; and `sha` is all that is asked about a hash, and with `sha_state` its state is any bytes, is
-//! looked at, and the digest may lack room.
+//! of them. `requests changes` is every change of one character of the vector's two string forms. A kind is the first
+//! word of its requests; but `table` is all that is asked about a table of records, and with `table_slot` its slots are
+//! viewed by the library too; and `sha` is all that is asked about a hash, and with `sha_state` its state is any bytes,
+//! is looked at, and the digest may lack room. A packed event is marked: `b:` is said to be bare, `v:` to be versioned.
 //!
 //! Three parts: each limit of docs/RULES.md, met and passed; samples cut and changed at every place; then random
 //! inputs. Where COUNT is small the first two are thinned, evenly. The encoders here can also write what no encoder
@@ -31,11 +31,14 @@ mod string_form;
 mod table;
 #[path = "requests/texts.rs"]
 mod texts;
+#[path = "requests/versioned.rs"]
+mod versioned;
 
 use dice::Dice;
 use event::Event;
 use std::collections::VecDeque;
 use std::io::{self, Write};
+use versioned::{forms_of, word, Form};
 
 fn main() -> io::Result<()> {
     let words: Vec<String> = std::env::args().skip(1).collect();
@@ -105,16 +108,16 @@ fn thinned(groups: Vec<String>, most: usize) -> Vec<String> {
 }
 
 /// Every kind of request.
-const ALL: [&str; 20] = [
+const ALL: [&str; 23] = [
     "read", "strict", "pack", "content", "element", "elements", "lister", "canonical", "nson_write", "nson_read",
-    "json_read", "string_write", "string_read", "rivals", "read_both", "table", "table_slot", "sha", "sha_state",
-    "id_belongs",
+    "json_read", "string_write", "string_read", "string1_read", "to_versioned", "to_bare", "rivals", "read_both",
+    "table", "table_slot", "sha", "sha_state", "id_belongs",
 ];
 
 /// Kinds whose input is a packed event.
-const PACKED: [&str; 11] = [
+const PACKED: [&str; 13] = [
     "read", "strict", "pack", "content", "element", "elements", "lister", "canonical", "nson_write", "string_write",
-    "id_belongs",
+    "to_versioned", "to_bare", "id_belongs",
 ];
 
 struct Requests {
@@ -131,14 +134,47 @@ impl Requests {
         self.kinds.iter().any(|k| k == kind)
     }
 
-    /// The request `kind input`, with what the kind wants behind it.
-    fn line(&mut self, kind: &str, input: &[u8], rest: &str) {
-        self.lines.push(format!("{kind} {}{rest}", hex(input)));
+    /// One of the forms that the kind takes.
+    fn form(&mut self, kind: &str) -> Form {
+        self.dice.pick(forms_of(kind))
     }
 
-    /// One request: some room, some element or both, where the kind wants one.
+    /// The request `kind input`, with what the kind wants behind it. The input is bare bytes in either form.
+    fn line(&mut self, kind: &str, bare: &[u8], rest: &str) {
+        let form = self.form(kind);
+        self.lines.push(format!("{kind} {}{rest}", word(kind, form, &form.of(bare))));
+    }
+
+    /// One request about a text, or about bare bytes in either form, of which now and then the other is said.
     fn one(&mut self, kind: &str, input: &[u8], e: &Event) {
-        let rest = if kind == "element" {
+        if !PACKED.contains(&kind) {
+            let rest = self.rest(kind, Form::Bare, input, e);
+            self.lines.push(format!("{kind} {}{rest}", hex(input)));
+            return;
+        }
+        let form = self.form(kind);
+        let said = if self.dice.percent(4) { form.other() } else { form };
+        self.asked_as(kind, said, &form.of(input), e);
+    }
+
+    /// One request about these packed bytes, said to be of this form where the kind asks.
+    fn asked_as(&mut self, kind: &str, said: Form, bytes: &[u8], e: &Event) {
+        let rest = self.rest(kind, said, bytes, e);
+        self.lines.push(format!("{kind} {}{rest}", word(kind, said, bytes)));
+    }
+
+    /// The same to one of the kinds, whichever.
+    fn any_as(&mut self, said: Form, bytes: &[u8], e: &Event) {
+        let kinds = self.wanted(&PACKED);
+        if !kinds.is_empty() {
+            let kind = self.dice.pick(&kinds);
+            self.asked_as(kind, said, bytes, e);
+        }
+    }
+
+    /// Some room, some element or both, where the kind wants one.
+    fn rest(&mut self, kind: &str, form: Form, input: &[u8], e: &Event) -> String {
+        if kind == "element" {
             let (tag, element) = self.element_of(e);
             format!(" {tag} {element}")
         } else if kind == "elements" {
@@ -146,7 +182,7 @@ impl Requests {
             let first = if self.dice.percent(50) { within } else { self.dice.pick(&firsts(e)) };
             format!(" {first} {}", self.dice.pick(&rooms(e)))
         } else if writes(kind) {
-            let need = needed(kind, input, e);
+            let need = needed(kind, form, input.len(), e);
             let room = match self.dice.below(16) {
                 0 => 0,
                 1..=3 => need.saturating_sub(1),
@@ -158,8 +194,7 @@ impl Requests {
             format!(" {room}")
         } else {
             String::new()
-        };
-        self.line(kind, input, &rest);
+        }
     }
 
     fn element_of(&mut self, e: &Event) -> (u64, u64) {
@@ -179,29 +214,37 @@ impl Requests {
         kinds.iter().filter(|kind| self.has(kind)).copied().collect()
     }
 
-    /// The input to every one of the kinds; those that write get just enough room, one byte less, none, and more.
+    /// The input to every one of the kinds, packed bytes in every form; those that write get just enough room, one byte
+    /// less, none, and more.
     fn all(&mut self, kinds: &[&str], input: &[u8], e: &Event) {
         for kind in self.wanted(kinds) {
-            if kind == "element" {
-                let last = e.tags.len().saturating_sub(1) as u64;
-                let end = e.tags.last().map_or(0, |t| t.len()) as u64;
-                for (tag, element) in [(0, 0), (last, end.saturating_sub(1)), (last, end), (last + 1, 0), (u64::MAX, u64::MAX)] {
-                    self.line(kind, input, &format!(" {tag} {element}"));
+            let packed = PACKED.contains(&kind);
+            for &form in if packed { forms_of(kind) } else { &[Form::Bare] } {
+                let bytes = form.of(input);
+                let word = if packed { word(kind, form, &bytes) } else { hex(input) };
+                for rest in self.rests(kind, form, &bytes, e) {
+                    self.lines.push(format!("{kind} {word}{rest}"));
                 }
-            } else if kind == "elements" {
-                // every first and every room once; elements_boundaries has each with each
-                let (turn, firsts, rooms) = (self.dice.below(7), firsts(e), rooms(e));
-                for i in 0..7 {
-                    self.line(kind, input, &format!(" {} {}", firsts[i], rooms[(i + turn) % 7]));
-                }
-            } else if writes(kind) {
-                let need = needed(kind, input, e);
-                for room in [need, need.saturating_sub(1), 0, need + 9] {
-                    self.line(kind, input, &format!(" {room}"));
-                }
-            } else {
-                self.line(kind, input, "");
             }
+        }
+    }
+
+    /// All that a kind may want behind its input.
+    fn rests(&mut self, kind: &str, form: Form, input: &[u8], e: &Event) -> Vec<String> {
+        if kind == "element" {
+            let last = e.tags.len().saturating_sub(1) as u64;
+            let end = e.tags.last().map_or(0, |t| t.len()) as u64;
+            let asked = [(0, 0), (last, end.saturating_sub(1)), (last, end), (last + 1, 0), (u64::MAX, u64::MAX)];
+            asked.map(|(tag, element)| format!(" {tag} {element}")).into()
+        } else if kind == "elements" {
+            // every first and every room once; elements_boundaries has each with each
+            let (turn, firsts, rooms) = (self.dice.below(7), firsts(e), rooms(e));
+            (0..7).map(|i| format!(" {} {}", firsts[i], rooms[(i + turn) % 7])).collect()
+        } else if writes(kind) {
+            let need = needed(kind, form, input.len(), e);
+            [need, need.saturating_sub(1), 0, need + 9].map(|room| format!(" {room}")).into()
+        } else {
+            vec![String::new()]
         }
     }
 
@@ -228,16 +271,19 @@ impl Requests {
         self.lines.extend(self.of_hash.pop_front());
     }
 
+    /// Two bare inputs, each in either form.
     fn rivals(&mut self, first: &[u8], second: &[u8]) {
         if self.has("rivals") {
-            self.lines.push(format!("rivals {} {}", hex(first), hex(second)));
+            let forms = [self.form("rivals"), self.form("rivals")];
+            self.lines.push(format!("rivals {} {}", forms[0].given(first), forms[1].given(second)));
         }
     }
 }
 
 /// Does the kind write into a lent buffer?
 fn writes(kind: &str) -> bool {
-    ["pack", "canonical", "nson_write", "nson_read", "json_read", "string_write", "string_read"].contains(&kind)
+    let of_packed = ["pack", "canonical", "nson_write", "string_write", "to_versioned", "to_bare"];
+    of_packed.contains(&kind) || ["nson_read", "json_read", "string_read", "string1_read"].contains(&kind)
 }
 
 /// How many texts the tags of this event have together.
@@ -259,11 +305,15 @@ fn rooms(e: &Event) -> [usize; 7] {
     [0, 15, 16, 17, 16 * (all / 2) + 7, 16 * all, 16 * all + 47]
 }
 
-/// The length that the kind writes for this event. What is decoded need not be strict: its length is the text's affair.
-fn needed(kind: &str, input: &[u8], e: &Event) -> usize {
+/// The length that the kind writes for this event, given in so many bytes of this form. What is moved or decoded need
+/// not be strict: its length is the input's affair.
+fn needed(kind: &str, form: Form, input: usize, e: &Event) -> usize {
     match kind {
-        "string_write" => string_form::string_len(notepack::strict(e).len()),
-        "string_read" => string_form::decoded_len(input.len()),
+        "string_write" => form.string_len(notepack::strict(e).len()),
+        "string_read" => Form::Bare.decoded_len(input),
+        "string1_read" => Form::Versioned.decoded_len(input),
+        "to_versioned" => input + 1,
+        "to_bare" => input.saturating_sub(1),
         "canonical" => texts::canonical(e).len(),
         "nson_write" => texts::Nson::of(e).spelled().len(),
         _ => notepack::strict(e).len(),

@@ -202,24 +202,33 @@ static void texts(void)
 
 static kez_answer pack_read(void)
 {
-    return kez_notepack_read(record.at, record.len, numbers, numbers + 1, numbers + 2, numbers + 3, numbers + 4);
+    return kez_notepack_read(record.at, record.len, KEZ_BARE, numbers, numbers + 1, numbers + 2, numbers + 3,
+                             numbers + 4);
 }
-static kez_answer is_strict(void) { return kez_notepack_is_strict(record.at, record.len); }
-static kez_answer pack(void) { return kez_notepack_write(record.at, record.len, out, MOST); }
-static kez_answer canonical(void) { return kez_canonical_write(record.at, record.len, out, sizeof out); }
-static kez_answer nson_write(void) { return kez_nson_write(record.at, record.len, out, MOST); }
-static kez_answer tag_len(void) { return kez_notepack_tag_len(record.at, record.len, tag); }
+static kez_answer is_strict(void) { return kez_notepack_is_strict(record.at, record.len, KEZ_BARE); }
+static kez_answer pack(void) { return kez_notepack_write(record.at, record.len, KEZ_BARE, out, MOST); }
+static kez_answer canonical(void) { return kez_canonical_write(record.at, record.len, KEZ_BARE, out, sizeof out); }
+static kez_answer nson_write(void) { return kez_nson_write(record.at, record.len, KEZ_BARE, out, MOST); }
+static kez_answer tag_len(void) { return kez_notepack_tag_len(record.at, record.len, KEZ_BARE, tag); }
 static kez_answer show_element(void)
 {
-    return kez_notepack_element(record.at, record.len, tag, element, numbers, numbers + 1, numbers + 2);
+    return kez_notepack_element(record.at, record.len, KEZ_BARE, tag, element, numbers, numbers + 1, numbers + 2);
 }
 static kez_answer show_elements(void)
 {
-    return kez_notepack_elements(record.at, record.len, 0, out, sizeof out);
+    return kez_notepack_elements(record.at, record.len, KEZ_BARE, 0, out, sizeof out);
 }
-static kez_answer rivals(void) { return kez_rivals(record.at, record.len, record.at, record.len); }
-static kez_answer id_belongs(void) { return kez_id_belongs(record.at, record.len); }
-static kez_answer string_write(void) { return kez_notepack_string_write(record.at, record.len, out, sizeof out); }
+static kez_answer rivals(void)
+{
+    return kez_rivals(record.at, record.len, KEZ_BARE, record.at, record.len, KEZ_BARE);
+}
+static kez_answer id_belongs(void) { return kez_id_belongs(record.at, record.len, KEZ_BARE); }
+static kez_answer string_write(void)
+{
+    return kez_notepack_string_write(record.at, record.len, KEZ_BARE, out, sizeof out);
+}
+static kez_answer to_versioned(void) { return kez_versioned_from_bare(record.at, record.len, out, MOST); }
+static kez_answer to_bare(void) { return kez_bare_from_versioned(record.at, record.len, out, MOST); }
 static kez_answer string_read(void) { return kez_notepack_string_read(record.at, record.len, out, MOST); }
 
 /* The record becomes the string form of its bytes. */
@@ -237,6 +246,17 @@ static void spell(void)
     }
 }
 
+/* The record is moved to the versioned form for one measurement, and is the bare one again. */
+static void a_versioned_one_is_slow(const char *what)
+{
+    memmove(record.at + 1, record.at, record.len);
+    record.at[0] = 1;
+    record.len++;
+    measure("kez_bare_from_versioned", to_bare, what);
+    record.len--;
+    memmove(record.at, record.at + 1, record.len);
+}
+
 /* The packed event, its string form, and its NSON where there is one. */
 static void packed_is_slow(const char *what)
 {
@@ -251,8 +271,10 @@ static void packed_is_slow(const char *what)
     measure("kez_notepack_string_write", string_write, what);
     measure("kez_rivals", rivals, what);
     measure("kez_id_belongs", id_belongs, what);
+    measure("kez_versioned_from_bare", to_versioned, what);
     kez_answer a = nson_write();
     memcpy(beside, out, a.refusal ? 0 : a.value);
+    a_versioned_one_is_slow(what);
     spell();
     measure("kez_notepack_string_read", string_read, what);
     if (a.refusal)
@@ -348,7 +370,7 @@ static uint8_t slots[KEZ_SLOTS_BYTES], cells[KEZ_CELLS_BYTES];
 
 static kez_answer table_offer(void)
 {
-    return kez_table_offer(slots, sizeof slots, cells, sizeof cells, record.at, record.len);
+    return kez_table_offer(slots, sizeof slots, cells, sizeof cells, record.at, record.len, KEZ_BARE);
 }
 static kez_answer table_slot(void)
 {

@@ -56,16 +56,35 @@ static void put_hex(bytes *b, const char *hex)
         fill(b, (uint8_t)((strchr(digits, hex[0]) - digits) << 4 | (strchr(digits, hex[1]) - digits)), 1);
 }
 
-/* These bytes as a string form: notepack_ and base64 (rule 14.1), six bits after six bits. */
-static void string_of(bytes *text, const uint8_t *s, size_t len)
+/* These bytes as a string form: a prefix and base64 (rule 14.1), six bits after six bits. */
+static void spelled_behind(bytes *text, const char *prefix, const uint8_t *s, size_t len)
 {
     static const char alphabet[] = "ABCDEFGHIJKLMNOPQRSTUVWXYZabcdefghijklmnopqrstuvwxyz0123456789+/";
     text->len = 0;
-    PUT(text, "notepack_");
+    put(text, prefix, strlen(prefix));
     for (size_t bit = 0; bit < 8 * len; bit += 6) {
         unsigned two = (unsigned)s[bit / 8] << 8 | (bit / 8 + 1 < len ? s[bit / 8 + 1] : 0);
         fill(text, (uint8_t)alphabet[two >> (10 - bit % 8) & 63], 1);
     }
+}
+
+static const char *prefix_of(uint64_t bare)
+{
+    return bare ? "notepack_" : "notepack1_";
+}
+
+static void string_of(bytes *text, const uint8_t *s, size_t len)
+{
+    spelled_behind(text, prefix_of(KEZ_BARE), s, len);
+}
+
+/* The versioned form of these bytes (rule 17.1). */
+static void versioned_of(bytes *b, const uint8_t *s, size_t len)
+{
+    b->len = 0;
+    fill(b, 1, 1);
+    if (len)
+        put(b, s, len);
 }
 
 /* zero id, pubkey and sig */
@@ -147,14 +166,19 @@ static int untouched(void)
     return untouched_from(0);
 }
 
-static kez_answer read_it(const uint8_t *s, size_t len)
+static kez_answer read_as(const uint8_t *s, size_t len, uint64_t bare)
 {
-    return kez_notepack_read(s, len, numbers, numbers + 1, numbers + 2, numbers + 3, numbers + 4);
+    return kez_notepack_read(s, len, bare, numbers, numbers + 1, numbers + 2, numbers + 3, numbers + 4);
 }
 
-static kez_answer element_of(const uint8_t *s, size_t len, uint64_t tag, uint64_t element)
+static kez_answer read_it(const uint8_t *s, size_t len)
 {
-    return kez_notepack_element(s, len, tag, element, numbers, numbers + 1, numbers + 2);
+    return read_as(s, len, KEZ_BARE);
+}
+
+static kez_answer element_of(const uint8_t *s, size_t len, uint64_t bare, uint64_t tag, uint64_t element)
+{
+    return kez_notepack_element(s, len, bare, tag, element, numbers, numbers + 1, numbers + 2);
 }
 
 static int is(kez_answer a, uint64_t refusal, uint64_t value)
@@ -170,9 +194,14 @@ typedef struct {
 
 static table lent, wanted;
 
+static kez_answer offer_as(const uint8_t *s, size_t len, uint64_t bare)
+{
+    return kez_table_offer(lent.slots, sizeof lent.slots, lent.cells, sizeof lent.cells, s, len, bare);
+}
+
 static kez_answer offer(const uint8_t *s, size_t len)
 {
-    return kez_table_offer(lent.slots, sizeof lent.slots, lent.cells, sizeof lent.cells, s, len);
+    return offer_as(s, len, KEZ_BARE);
 }
 
 static kez_answer view(uint64_t n)
@@ -187,47 +216,82 @@ static int as_wanted(void)
 
 /* What is asked of many inputs */
 
-/* Every entry refuses the input so, and leaves alone what it was lent. Of its string form the place is the same. */
-static void refused(const uint8_t *s, size_t len, uint64_t refusal, uint64_t place)
+/* Every entry refuses the input, said to be of this form, so, and leaves alone what it was lent. Of its string form the
+ * place is the same. The moves tell it too; but 65,536 bare bytes can't be moved, whatever they hold. */
+static void refused_as(const uint8_t *s, size_t len, uint64_t bare, uint64_t refusal, uint64_t place)
 {
     static bytes text;
-    string_of(&text, s, len);
+    spelled_behind(&text, prefix_of(bare), s, len);
     memset(&lent, 0, sizeof lent);
     lend();
+    kez_answer (*text_reader)(const uint8_t *, size_t, uint8_t *, size_t) =
+        bare ? kez_notepack_string_read : kez_notepack_string_read_versioned;
+    kez_answer (*move)(const uint8_t *, size_t, uint8_t *, size_t) =
+        bare ? kez_versioned_from_bare : kez_bare_from_versioned;
     kez_answer all[] = {
-        read_it(s, len),
-        kez_notepack_is_strict(s, len),
-        kez_notepack_write(s, len, room, sizeof room),
-        kez_notepack_write(s, len, NULL, 0),
-        kez_notepack_tag_len(s, len, 0),
-        element_of(s, len, 0, 0),
-        element_of(s, len, UINT64_MAX, UINT64_MAX),
-        kez_notepack_elements(s, len, 0, room, sizeof room),
-        kez_notepack_elements(s, len, UINT64_MAX, NULL, 0),
-        kez_notepack_string_write(s, len, room, sizeof room),
-        kez_notepack_string_write(s, len, NULL, 0),
-        kez_notepack_string_read(text.at, text.len, room, sizeof room),
-        kez_notepack_string_read(text.at, text.len, NULL, 0),
-        kez_id_belongs(s, len),
-        offer(s, len),
+        read_as(s, len, bare),
+        kez_notepack_is_strict(s, len, bare),
+        kez_notepack_write(s, len, bare, room, sizeof room),
+        kez_notepack_write(s, len, bare, NULL, 0),
+        kez_notepack_tag_len(s, len, bare, 0),
+        element_of(s, len, bare, 0, 0),
+        element_of(s, len, bare, UINT64_MAX, UINT64_MAX),
+        kez_notepack_elements(s, len, bare, 0, room, sizeof room),
+        kez_notepack_elements(s, len, bare, UINT64_MAX, NULL, 0),
+        kez_canonical_write(s, len, bare, room, sizeof room),
+        kez_canonical_write(s, len, bare, NULL, 0),
+        kez_nson_write(s, len, bare, room, sizeof room),
+        kez_nson_write(s, len, bare, NULL, 0),
+        kez_notepack_string_write(s, len, bare, room, sizeof room),
+        kez_notepack_string_write(s, len, bare, NULL, 0),
+        text_reader(text.at, text.len, room, sizeof room),
+        text_reader(text.at, text.len, NULL, 0),
+        kez_id_belongs(s, len, bare),
+        offer_as(s, len, bare),
+        kez_rivals(s, len, bare, vector.at, vector.len, KEZ_BARE),
+        kez_rivals(vector.at, vector.len, KEZ_BARE, s, len, bare),
+        move(s, len, room, sizeof room),
+        move(s, len, NULL, 0),
     };
-    for (size_t i = 0; i < sizeof all / sizeof *all; i++)
-        CHECK(is(all[i], refusal, place), "entry %zu on %zu bytes: %d at %d, not %d at %d", i, len, (int)all[i].refusal,
-              (int)all[i].value, (int)refusal, (int)place);
+    size_t count = sizeof all / sizeof *all, moves = bare && len == KEZ_MOST ? 2 : 0;
+    for (size_t i = 0; i < count - moves; i++)
+        CHECK(is(all[i], refusal, place), "entry %zu on %zu %s bytes: %d at %d, not %d at %d", i, len,
+              bare ? "bare" : "versioned", (int)all[i].refusal, (int)all[i].value, (int)refusal, (int)place);
+    for (size_t i = count - moves; i < count; i++)
+        CHECK(is(all[i], 1, 0), "65,536 bytes moved: %d at %d", (int)all[i].refusal, (int)all[i].value);
     memset(&wanted, 0, sizeof wanted);
     CHECK(untouched() && as_wanted(), "a refusal of %zu bytes changed what was lent", len);
 }
 
-/* The input is read with these numbers. */
+/* These bytes are refused so as a bare event, and behind 01, with places one further on, as a versioned one. With 01
+ * they may be too many. */
+static void refused(const uint8_t *s, size_t len, uint64_t refusal, uint64_t place)
+{
+    static bytes b;
+    versioned_of(&b, s, len);
+    refused_as(s, len, KEZ_BARE, refusal, place);
+    if (b.len > KEZ_MOST)
+        refused_as(b.at, b.len, KEZ_VERSIONED, 1, 0);
+    else
+        refused_as(b.at, b.len, KEZ_VERSIONED, refusal, place + 1);
+}
+
+/* The input is read with these numbers; behind 01, with the content's place one further on, as a versioned event. */
 static void reads(const bytes *b, uint64_t created_at, uint64_t kind, uint64_t at, uint64_t len, uint64_t tags)
 {
-    const uint64_t wanted[] = {created_at, kind, at, len, tags};
-    lend();
-    CHECK(is(read_it(b->at, b->len), 0, 0), "%zu bytes are not read", b->len);
-    CHECK(!memcmp(numbers, wanted, sizeof wanted), "%zu bytes have other numbers", b->len);
+    static bytes v;
+    versioned_of(&v, b->at, b->len);
+    for (uint64_t front = 0; front < 2 && front + b->len <= KEZ_MOST; front++) {
+        const uint64_t wanted[] = {created_at, kind, front + at, len, tags};
+        const bytes *in = front ? &v : b;
+        lend();
+        CHECK(is(read_as(in->at, in->len, !front), 0, 0), "%zu bytes are not read", in->len);
+        CHECK(!memcmp(numbers, wanted, sizeof wanted), "%zu bytes have other numbers", in->len);
+    }
 }
 
 typedef kez_answer writer(const uint8_t *, size_t, uint8_t *, size_t);
+typedef kez_answer packed_writer(const uint8_t *, size_t, uint64_t, uint8_t *, size_t);
 
 /* What an entry writes: room just enough, more, one byte short, none. */
 static void writes(writer *entry, const bytes *b, const bytes *form)
@@ -246,35 +310,114 @@ static void writes(writer *entry, const bytes *b, const bytes *form)
     CHECK(untouched(), "without room something was written");
 }
 
-/* The strict form, and whether the input is that. The string form is the strict form's; that of the input itself is
- * read as the input. */
-static void strict_form(const bytes *b, const bytes *form)
+/* An entry that takes a packed event, as one that takes bytes alone: what is said of them, and which one it is. */
+static packed_writer *of_packed;
+static uint64_t said;
+
+static kez_answer as_said(const uint8_t *s, size_t len, uint8_t *out, size_t out_len)
 {
-    static bytes text;
-    uint64_t yes = b->len == form->len && !memcmp(b->at, form->at, b->len);
-    CHECK(is(kez_notepack_is_strict(b->at, b->len), 0, yes), "%zu bytes", b->len);
-    writes(kez_notepack_write, b, form);
+    return of_packed(s, len, said, out, out_len);
+}
+
+static void writes_as(packed_writer *entry, uint64_t bare, const bytes *b, const bytes *form)
+{
+    of_packed = entry;
+    said = bare;
+    writes(as_said, b, form);
+}
+
+/* What an entry writes of a bare event, and of the same one in versioned form. */
+static void writes_of(packed_writer *entry, const bytes *b, const bytes *form)
+{
+    static bytes v;
+    versioned_of(&v, b->at, b->len);
+    writes_as(entry, KEZ_BARE, b, form);
+    if (v.len <= KEZ_MOST)
+        writes_as(entry, KEZ_VERSIONED, &v, form);
+}
+
+/* The string form is the strict form's, with 01 in front for a versioned input; that of the input itself is read as the
+ * input, by the reader for its form, and refused with 20 by the other. */
+static void string_forms_of(const bytes *b, const bytes *form)
+{
+    static bytes v, strict, text;
     string_of(&text, form->at, form->len);
-    writes(kez_notepack_string_write, b, &text);
+    writes_as(kez_notepack_string_write, KEZ_BARE, b, &text);
     string_of(&text, b->at, b->len);
     writes(kez_notepack_string_read, &text, b);
+    CHECK(is(kez_notepack_string_read_versioned(text.at, text.len, room, sizeof room), 20, 0), "%zu bytes", b->len);
+    versioned_of(&v, b->at, b->len);
+    if (v.len > KEZ_MOST)
+        return;
+    versioned_of(&strict, form->at, form->len);
+    spelled_behind(&text, "notepack1_", strict.at, strict.len);
+    writes_as(kez_notepack_string_write, KEZ_VERSIONED, &v, &text);
+    spelled_behind(&text, "notepack1_", v.at, v.len);
+    writes(kez_notepack_string_read_versioned, &text, &v);
+    CHECK(is(kez_notepack_string_read(text.at, text.len, room, sizeof room), 20, 0), "%zu bytes", b->len);
 }
 
-/* Element `element` of tag `tag` stands there, with this b. */
+/* There and back: the same bytes, strict or not. */
+static void moved(const bytes *b)
+{
+    static bytes v;
+    versioned_of(&v, b->at, b->len);
+    if (v.len > KEZ_MOST) {
+        CHECK(is(kez_versioned_from_bare(b->at, b->len, room, sizeof room), 1, 0), "%zu bytes", b->len);
+        return;
+    }
+    writes(kez_versioned_from_bare, b, &v);
+    writes(kez_bare_from_versioned, &v, b);
+}
+
+/* The strict form, and whether the input is that: of the bare bytes, and of the versioned ones. */
+static void strict_form(const bytes *b, const bytes *form)
+{
+    static bytes v;
+    uint64_t yes = b->len == form->len && !memcmp(b->at, form->at, b->len);
+    CHECK(is(kez_notepack_is_strict(b->at, b->len, KEZ_BARE), 0, yes), "%zu bytes", b->len);
+    versioned_of(&v, b->at, b->len);
+    if (v.len <= KEZ_MOST)
+        CHECK(is(kez_notepack_is_strict(v.at, v.len, KEZ_VERSIONED), 0, yes), "%zu bytes", v.len);
+    writes_of(kez_notepack_write, b, form);
+    string_forms_of(b, form);
+    moved(b);
+}
+
+/* Element `element` of tag `tag` stands there, with this b; in the versioned form one byte further on. */
 static void shows(const bytes *b, uint64_t tag, uint64_t element, uint64_t at, uint64_t len, uint64_t is_bytes)
 {
-    lend();
-    CHECK(is(element_of(b->at, b->len, tag, element), 0, 0), "tag %d element %d", (int)tag, (int)element);
-    CHECK(numbers[0] == at && numbers[1] == len && numbers[2] == is_bytes, "tag %d element %d: at %d, length %d, b %d",
-          (int)tag, (int)element, (int)numbers[0], (int)numbers[1], (int)numbers[2]);
-    CHECK(numbers[3] == UINT64_C(0xfeedfacecafe0003), "a number that was not lent changed");
+    static bytes v;
+    versioned_of(&v, b->at, b->len);
+    for (uint64_t front = 0; front < 2; front++) {
+        const bytes *in = front ? &v : b;
+        lend();
+        CHECK(is(element_of(in->at, in->len, !front, tag, element), 0, 0), "tag %d element %d", (int)tag, (int)element);
+        CHECK(numbers[0] == front + at && numbers[1] == len && numbers[2] == is_bytes,
+              "tag %d element %d: at %d, length %d, b %d", (int)tag, (int)element, (int)numbers[0], (int)numbers[1],
+              (int)numbers[2]);
+        CHECK(numbers[3] == UINT64_C(0xfeedfacecafe0003), "a number that was not lent changed");
+    }
 }
 
+/* 19 has no place of its own, in either form. */
 static void no_such(const bytes *b, uint64_t tag, uint64_t element)
 {
+    static bytes v;
+    versioned_of(&v, b->at, b->len);
     lend();
-    CHECK(is(element_of(b->at, b->len, tag, element), 19, 0), "tag %d element %d", (int)tag, (int)element);
+    CHECK(is(element_of(b->at, b->len, KEZ_BARE, tag, element), 19, 0), "tag %d element %d", (int)tag, (int)element);
+    CHECK(is(element_of(v.at, v.len, KEZ_VERSIONED, tag, element), 19, 0), "tag %d element %d", (int)tag, (int)element);
     CHECK(untouched(), "19 changed what was lent");
+}
+
+/* The tag has so many texts, or there is none. */
+static void has_texts(const bytes *b, uint64_t tag, uint64_t refusal, uint64_t texts)
+{
+    static bytes v;
+    versioned_of(&v, b->at, b->len);
+    CHECK(is(kez_notepack_tag_len(b->at, b->len, KEZ_BARE, tag), refusal, texts), "tag %d", (int)tag);
+    CHECK(is(kez_notepack_tag_len(v.at, v.len, KEZ_VERSIONED, tag), refusal, texts), "tag %d, versioned", (int)tag);
 }
 
 /* The tests */
@@ -284,10 +427,10 @@ static void the_vector(void)
     CHECK(vector.len == 237, "%zu", vector.len);
     reads(&vector, 1720000000, 0, 135, 5, 2);
     strict_form(&vector, &vector);
-    CHECK(is(kez_notepack_tag_len(vector.at, vector.len, 0), 0, 3), "first tag");
-    CHECK(is(kez_notepack_tag_len(vector.at, vector.len, 1), 0, 2), "second tag");
-    CHECK(is(kez_notepack_tag_len(vector.at, vector.len, 2), 19, 0), "third tag");
-    CHECK(is(kez_notepack_tag_len(vector.at, vector.len, UINT64_MAX), 19, 0), "last tag of all");
+    has_texts(&vector, 0, 0, 3);
+    has_texts(&vector, 1, 0, 2);
+    has_texts(&vector, 2, 19, 0);
+    has_texts(&vector, UINT64_MAX, 19, 0);
     shows(&vector, 0, 0, 143, 1, 0);
     shows(&vector, 0, 1, 145, 32, 1);
     shows(&vector, 0, 2, 178, 23, 0);
@@ -407,12 +550,26 @@ static void put_listed(uint8_t *to, uint64_t tag, uint64_t at, uint64_t len, uin
         to[i] = (uint8_t)(listed[i / 4] >> 8 * (i % 4));
 }
 
-/* From element `first` on, into `len` bytes: so many, as they stand in wanted_list, and no byte behind them changed. */
-static void lists(const bytes *b, uint64_t first, size_t len, uint64_t count)
+/* The places of so many listed elements, each one less: what a versioned event has in front is not counted. */
+static void without_front(uint64_t count)
+{
+    for (uint8_t *at = list + 4; count; count--, at += KEZ_ELEMENT_BYTES) {
+        uint64_t place = at[0] | (uint64_t)at[1] << 8 | (uint64_t)at[2] << 16;
+        place--;
+        for (int i = 0; i < 3; i++)
+            at[i] = (uint8_t)(place >> 8 * i);
+    }
+}
+
+/* From element `first` on, into `len` bytes: so many, as they stand in wanted_list, and no byte behind them changed. Of
+ * a versioned event each place is one more. */
+static void lists_as(const bytes *b, uint64_t bare, uint64_t first, size_t len, uint64_t count)
 {
     size_t written = KEZ_ELEMENT_BYTES * count;
     memset(list, 0xa5, len + BEHIND);
-    kez_answer a = kez_notepack_elements(b->at, b->len, first, len ? list : NULL, len);
+    kez_answer a = kez_notepack_elements(b->at, b->len, bare, first, len ? list : NULL, len);
+    if (!bare && !a.refusal && a.value == count)
+        without_front(count);
     CHECK(is(a, 0, count), "first %d in %zu bytes: %d, %d", (int)first, len, (int)a.refusal, (int)a.value);
     const uint8_t *wanted = count ? wanted_list + KEZ_ELEMENT_BYTES * first : list;
     CHECK(!memcmp(list, wanted, written), "first %d in %zu bytes: other elements", (int)first, len);
@@ -420,6 +577,14 @@ static void lists(const bytes *b, uint64_t first, size_t len, uint64_t count)
     while (same < len + BEHIND && list[same] == 0xa5)
         same++;
     CHECK(same == len + BEHIND, "first %d in %zu bytes: byte %zu changed", (int)first, len, same);
+}
+
+static void lists(const bytes *b, uint64_t first, size_t len, uint64_t count)
+{
+    static bytes v;
+    versioned_of(&v, b->at, b->len);
+    lists_as(b, KEZ_BARE, first, len, count);
+    lists_as(&v, KEZ_VERSIONED, first, len, count);
 }
 
 static double milliseconds(void)
@@ -480,7 +645,7 @@ static void many_elements(void)
     double best = 1e9;
     for (int i = 0; i < 10; i++) {
         double start_of_call = milliseconds();
-        kez_answer a = kez_notepack_elements(b.at, b.len, 0, list, KEZ_ELEMENTS_MOST);
+        kez_answer a = kez_notepack_elements(b.at, b.len, KEZ_BARE, 0, list, KEZ_ELEMENTS_MOST);
         double took = milliseconds() - start_of_call;
         CHECK(is(a, 0, ELEMENTS), "%d", (int)a.value);
         best = took < best ? took : best;
@@ -551,7 +716,7 @@ static void limits(void)
         fill(&b, 0, texts);
         if (texts == 255) {
             reads(&b, 0, 0, 131, 0, 1);
-            CHECK(is(kez_notepack_tag_len(b.at, b.len, 0), 0, 255), "255 texts");
+            has_texts(&b, 0, 0, 255);
             shows(&b, 0, 254, b.len, 0, 0);
             no_such(&b, 0, 255);
         } else {
@@ -597,6 +762,18 @@ static void refuses(writer *entry, const bytes *b, uint64_t refusal, uint64_t pl
     CHECK(untouched(), "a refusal changed what was lent");
 }
 
+/* A bare event is refused so, and the versioned form of it too; a place in it is one further on there. */
+static void refuses_of(packed_writer *entry, const bytes *b, uint64_t refusal, uint64_t place)
+{
+    static bytes v;
+    versioned_of(&v, b->at, b->len);
+    of_packed = entry;
+    said = KEZ_BARE;
+    refuses(as_said, b, refusal, place);
+    said = KEZ_VERSIONED;
+    refuses(as_said, &v, refusal, place + (refusal >= 2 && refusal <= 10));
+}
+
 static void canonical(void)
 {
     static bytes b, text;
@@ -609,11 +786,11 @@ static void canonical(void)
     fill(&text, 'b', 64);
     PUT(&text, "\"]],\"hello\"]");
     CHECK(text.len == 265, "%zu", text.len);
-    writes(kez_canonical_write, &vector, &text);
+    writes_of(kez_canonical_write, &vector, &text);
     for (size_t len = 0; len < vector.len; len += 59) {
         b = vector;
         b.len = len;
-        refuses(kez_canonical_write, &b, 2, read_it(b.at, b.len).value);
+        refuses_of(kez_canonical_write, &b, 2, read_it(b.at, b.len).value);
     }
     /* seven bytes have escapes, in content and texts alike; no other control byte has one */
     static const char raw[] = "\n\"\\\r\t\b\f\x01\x1f\x7f/", spelled[] = "\\n\\\"\\\\\\r\\t\\b\\f\x01\x1f\x7f/";
@@ -630,7 +807,7 @@ static void canonical(void)
     PUT(&text, "\"]],\"");
     PUT(&text, spelled);
     PUT(&text, "\"]");
-    writes(kez_canonical_write, &b, &text);
+    writes_of(kez_canonical_write, &b, &text);
 }
 
 
@@ -703,10 +880,10 @@ static void carried(uint8_t tags, uint8_t texts, int fits)
             PUT(&b, "\x02x");
     }
     if (!fits) {
-        refuses(kez_nson_write, &b, 17, 0);
+        refuses_of(kez_nson_write, &b, 17, 0);
         return;
     }
-    kez_answer a = kez_nson_write(b.at, b.len, text.at, sizeof text.at);
+    kez_answer a = kez_nson_write(b.at, b.len, KEZ_BARE, text.at, sizeof text.at);
     CHECK(!a.refusal, "%d tags of %d texts", tags, texts);
     text.len = a.value;
     writes(kez_nson_read, &text, &b);
@@ -718,15 +895,15 @@ static void nson_write(void)
     static bytes b, text;
     a_b(&b, &text, "0801000400");
     CHECK(text.len == 366, "%zu", text.len);
-    writes(kez_nson_write, &b, &text);
+    writes_of(kez_nson_write, &b, &text);
     draft_event(&b, &text);
-    writes(kez_nson_write, &b, &text);
+    writes_of(kez_nson_write, &b, &text);
     carried(41, 1, 1);
     carried(42, 1, 0);
     carried(1, 61, 1);
     carried(1, 62, 0);
     b.len = 140;
-    refuses(kez_nson_write, &b, 2, 134);
+    refuses_of(kez_nson_write, &b, 2, 134);
 }
 
 static void nson_read(void)
@@ -778,7 +955,7 @@ static void string_form(void)
 {
     static bytes text;
     CHECK(vector_string.len == 325, "%zu", vector_string.len);
-    writes(kez_notepack_string_write, &vector, &vector_string);
+    writes_as(kez_notepack_string_write, KEZ_BARE, &vector, &vector_string);
     writes(kez_notepack_string_read, &vector_string, &vector);
     text = vector_string;
     for (size_t len = 0; len < vector_string.len; len++) {
@@ -884,16 +1061,31 @@ static void string_limits(void)
     fill(&b, 'x', KEZ_MOST - 134);
     put_varint(&b, 0);
     string_of(&text, b.at, b.len);
-    CHECK(text.len == KEZ_NOTEPACK_STRING_MOST && text.len == 87391, "%zu", text.len);
-    writes(kez_notepack_string_write, &b, &text);
+    CHECK(text.len == KEZ_NOTEPACK_STRING_MOST - 1 && text.len == 87391, "%zu", text.len);
+    writes_as(kez_notepack_string_write, KEZ_BARE, &b, &text);
     writes(kez_notepack_string_read, &text, &b);
+}
+
+/* Two events, in each of the four ways: which is kept? */
+static int kept(const bytes *first, const bytes *second, uint64_t value)
+{
+    static bytes v[2];
+    versioned_of(&v[0], first->at, first->len);
+    versioned_of(&v[1], second->at, second->len);
+    for (int i = 0; i < 4; i++) {
+        uint64_t first_bare = i % 2, second_bare = i / 2;
+        const bytes *a = first_bare ? first : &v[0], *b = second_bare ? second : &v[1];
+        if (!is(kez_rivals(a->at, a->len, first_bare, b->at, b->len, second_bare), 0, value))
+            return 0;
+    }
+    return 1;
 }
 
 static void rivals(void)
 {
     static bytes a, b;
     a = b = vector; /* kind 0 */
-#define CHOICE is(kez_rivals(a.at, a.len, b.at, b.len), 0, wanted)
+#define CHOICE kept(&a, &b, wanted)
     uint64_t wanted = 1;
     CHECK(CHOICE, "a full tie");
     b.at[129]++;
@@ -915,14 +1107,14 @@ static void rivals(void)
     CHECK(CHOICE, "a kind without a key");
     a.len = 130;
     b.len = 10;
-    CHECK(is(kez_rivals(a.at, a.len, b.at, b.len), 4, 128), "both refused");
-    CHECK(is(kez_rivals(vector.at, vector.len, b.at, b.len), 2, 0), "the second refused");
-    CHECK(is(kez_rivals(NULL, 0, NULL, 0), 2, 0), "nothing at all");
+    CHECK(is(kez_rivals(a.at, a.len, KEZ_BARE, b.at, b.len, KEZ_BARE), 4, 128), "both refused");
+    CHECK(is(kez_rivals(vector.at, vector.len, KEZ_BARE, b.at, b.len, KEZ_BARE), 2, 0), "the second refused");
+    CHECK(is(kez_rivals(NULL, 0, KEZ_BARE, NULL, 0, KEZ_BARE), 2, 0), "nothing at all");
 }
 
 static int is_refusal(uint64_t number)
 {
-    return number <= 24 || number == 34 || number == 35;
+    return number <= 25 || number == 34 || number == 35;
 }
 
 static void sentences(void)
@@ -932,7 +1124,7 @@ static void sentences(void)
             int same = !strcmp(kez_refusal_text(i), kez_refusal_text(j));
             CHECK(same == (!is_refusal(i) && !is_refusal(j)), "%d and %d", (int)i, (int)j);
         }
-    CHECK(!strcmp(kez_refusal_text(UINT64_MAX), kez_refusal_text(25)), "no such number");
+    CHECK(!strcmp(kez_refusal_text(UINT64_MAX), kez_refusal_text(26)), "no such number");
 }
 
 /* With length 0 every entry takes a null pointer, one that is not aligned to anything, and one to a page that can't be
@@ -948,6 +1140,7 @@ static void nothing_lent(void)
     for (int i = 0; i < 4; i++) {
         const uint8_t *in = none[i];
         refused(in, 0, 2, 0);
+        refused_as(in, 0, KEZ_VERSIONED, 2, 0);
         CHECK(is(kez_sha256_start(none[i], 0), 11, KEZ_SHA256_STATE), "%d", i);
         CHECK(is(kez_sha256_add(started, sizeof started, in, 0), 0, KEZ_SHA256_STATE), "%d", i);
         CHECK(is(kez_sha256_finish(started, sizeof started, none[i], 0), 11, KEZ_SHA256_DIGEST), "%d", i);
@@ -957,28 +1150,32 @@ static void nothing_lent(void)
             CHECK(is(kez_sha256_add(none[i], 0, out, 0), 11, KEZ_SHA256_STATE), "%d %d", i, j);
             CHECK(is(kez_sha256_add(none[i], 0, vector.at, vector.len), 11, KEZ_SHA256_STATE), "%d", i);
             CHECK(is(kez_sha256_finish(in, 0, out, 0), 11, KEZ_SHA256_STATE), "%d %d", i, j);
-            CHECK(is(kez_notepack_write(in, 0, out, 0), 2, 0), "%d %d", i, j);
-            CHECK(is(kez_notepack_write(vector.at, vector.len, out, 0), 11, vector.len), "%d", j);
-            CHECK(is(kez_notepack_elements(in, 0, 0, out, 0), 2, 0), "%d %d", i, j);
-            CHECK(is(kez_notepack_elements(vector.at, vector.len, 0, out, 0), 0, 0), "%d", j);
-            CHECK(is(kez_notepack_string_write(in, 0, out, 0), 2, 0), "%d %d", i, j);
-            CHECK(is(kez_notepack_string_write(vector.at, vector.len, out, 0), 11, 325), "%d", j);
+            CHECK(is(kez_notepack_write(in, 0, i % 2, out, 0), 2, 0), "%d %d", i, j);
+            CHECK(is(kez_notepack_write(vector.at, vector.len, KEZ_BARE, out, 0), 11, vector.len), "%d", j);
+            CHECK(is(kez_notepack_elements(in, 0, i % 2, 0, out, 0), 2, 0), "%d %d", i, j);
+            CHECK(is(kez_notepack_elements(vector.at, vector.len, KEZ_BARE, 0, out, 0), 0, 0), "%d", j);
+            CHECK(is(kez_notepack_string_write(in, 0, i % 2, out, 0), 2, 0), "%d %d", i, j);
+            CHECK(is(kez_notepack_string_write(vector.at, vector.len, KEZ_BARE, out, 0), 11, 325), "%d", j);
             CHECK(is(kez_notepack_string_read(in, 0, out, 0), 20, 0), "%d %d", i, j);
             CHECK(is(kez_notepack_string_read(vector_string.at, vector_string.len, out, 0), 11, 237), "%d", j);
             CHECK(is(kez_notepack_string_read(vector_string.at, 9, out, 0), 2, 0), "%d", j);
-            CHECK(is(kez_canonical_write(in, 0, out, 0), 2, 0), "%d %d", i, j);
-            CHECK(is(kez_canonical_write(vector.at, vector.len, out, 0), 11, 265), "%d", j);
-            CHECK(is(kez_nson_write(in, 0, out, 0), 2, 0), "%d %d", i, j);
-            CHECK(kez_nson_write(vector.at, vector.len, out, 0).refusal == 11, "%d", j);
+            CHECK(is(kez_notepack_string_read_versioned(in, 0, out, 0), 20, 0), "%d %d", i, j);
+            CHECK(is(kez_versioned_from_bare(in, 0, out, 0), 2, 0), "%d %d", i, j);
+            CHECK(is(kez_versioned_from_bare(vector.at, vector.len, out, 0), 11, 238), "%d", j);
+            CHECK(is(kez_bare_from_versioned(in, 0, out, 0), 2, 0), "%d %d", i, j);
+            CHECK(is(kez_canonical_write(in, 0, i % 2, out, 0), 2, 0), "%d %d", i, j);
+            CHECK(is(kez_canonical_write(vector.at, vector.len, KEZ_BARE, out, 0), 11, 265), "%d", j);
+            CHECK(is(kez_nson_write(in, 0, i % 2, out, 0), 2, 0), "%d %d", i, j);
+            CHECK(kez_nson_write(vector.at, vector.len, KEZ_BARE, out, 0).refusal == 11, "%d", j);
             CHECK(is(kez_nson_read(in, 0, out, 0), 12, 0), "%d %d", i, j);
             CHECK(is(kez_json_read(in, 0, out, 0), 14, 0), "%d %d", i, j);
             CHECK(is(kez_read_both(in, 0, out, 0, out, 0, numbers), 14, 0), "%d %d", i, j);
             CHECK(untouched(), "%d %d: a refusal changed the length", i, j);
-            CHECK(is(kez_rivals(in, 0, out, 0), 2, 0), "%d %d", i, j);
-            CHECK(is(kez_rivals(vector.at, vector.len, out, 0), 2, 0), "%d", j);
+            CHECK(is(kez_rivals(in, 0, i % 2, out, 0, j % 2), 2, 0), "%d %d", i, j);
+            CHECK(is(kez_rivals(vector.at, vector.len, KEZ_BARE, out, 0, j % 2), 2, 0), "%d", j);
             CHECK(is(kez_table_empty(none[i], 0, out, 0), 34, 0), "%d %d", i, j);
-            CHECK(is(kez_table_offer(none[i], 0, out, 0, in, 0), 34, 0), "%d %d", i, j);
-            CHECK(is(kez_table_offer(none[i], 0, out, 0, vector.at, vector.len), 34, 0), "%d %d", i, j);
+            CHECK(is(kez_table_offer(none[i], 0, out, 0, in, 0, j % 2), 34, 0), "%d %d", i, j);
+            CHECK(is(kez_table_offer(none[i], 0, out, 0, vector.at, vector.len, KEZ_BARE), 34, 0), "%d %d", i, j);
             CHECK(is(kez_table_slot(in, 0, out, 0, 0, numbers, numbers + 1), 34, 0), "%d %d", i, j);
             CHECK(untouched(), "%d %d: a refusal changed a number", i, j);
         }
@@ -1033,13 +1230,28 @@ static void start_table(void)
     CHECK(as_wanted(), "something is left in an emptied table");
 }
 
-/* The offer is refused so, or with refusal 0 answered so, and no byte of the table changes. */
+/* Does a refusal tell a place in a packed event? */
+static int has_place(uint64_t refusal)
+{
+    return (refusal >= 2 && refusal <= 10) || refusal == 24;
+}
+
+/* The offer is refused so, or with refusal 0 answered so, and no byte of the table changes. In the versioned form it is
+ * the same, but for a place in the event, which is one further on; and with the 01 it may be too long. */
 static void changes_nothing(const bytes *b, uint64_t refusal, uint64_t value)
 {
+    static bytes v;
     wanted = lent;
     kez_answer a = offer(b->at, b->len);
     CHECK(is(a, refusal, value), "%d at %d, not %d at %d", (int)a.refusal, (int)a.value, (int)refusal, (int)value);
     CHECK(as_wanted(), "answer %d, %d changed the table", (int)a.refusal, (int)a.value);
+    versioned_of(&v, b->at, b->len);
+    a = offer_as(v.at, v.len, KEZ_VERSIONED);
+    kez_answer then = {refusal, value + (uint64_t)has_place(refusal)};
+    if (v.len > KEZ_MOST && refusal != 34)
+        then = (kez_answer){1, 0};
+    CHECK(is(a, then.refusal, then.value), "versioned: %d at %d", (int)a.refusal, (int)a.value);
+    CHECK(as_wanted(), "versioned: answer %d, %d changed the table", (int)a.refusal, (int)a.value);
 }
 
 /* The offer is stored in slot n, as this strict form, and nothing else changes. Then it is there, and is held. */
@@ -1362,7 +1574,7 @@ static void labels(void)
         event(&other_one, 10, kind);
         put(&other_one, shapes[b].tags, shapes[b].len);
         other_one.at[0] = 1;
-        CHECK(is(kez_rivals(one.at, one.len, other_one.at, other_one.len), 0, same ? 2 : 0), "tags %zu and %zu", a, b);
+        CHECK(kept(&one, &other_one, same ? 2 : 0), "tags %zu and %zu", a, b);
         start_table();
         stored(&one, &one, KEZ_TABLE_NEW, 0);
         stored(&other_one, &other_one, same ? KEZ_TABLE_REPLACED : KEZ_TABLE_NEW, !same);
@@ -1390,13 +1602,12 @@ static void untagged(bytes *b, uint8_t id, uint8_t author, uint64_t time, uint64
 static void no_label(void)
 {
     static bytes one, other_one, form;
-#define ARE(value) is(kez_rivals(one.at, one.len, other_one.at, other_one.len), 0, value)
     untagged(&one, 0, 0, 10, 30000);
     event(&other_one, 9, 30000);
     PUT(&other_one, "\1\2\2d\1");
-    CHECK(ARE(1), "an earlier one with a hollow label");
+    CHECK(kept(&one, &other_one, 1), "an earlier one with a hollow label");
     other_one.at[128] = 11;
-    CHECK(ARE(2), "a later one with a hollow label");
+    CHECK(kept(&one, &other_one, 2), "a later one with a hollow label");
     form = other_one;
     form.at[form.len - 1] = 0;
     start_table();
@@ -1404,18 +1615,18 @@ static void no_label(void)
     stored(&other_one, &form, KEZ_TABLE_REPLACED, 0);
     changes_nothing(&one, 0, KEZ_TABLE_LOSES);
     untagged(&other_one, 1, 1, 11, 30000);
-    CHECK(ARE(0), "another author");
+    CHECK(kept(&one, &other_one, 0), "another author");
     untagged(&other_one, 1, 0, 11, 30001);
-    CHECK(ARE(0), "another kind");
+    CHECK(kept(&one, &other_one, 0), "another kind");
     untagged(&one, 0, 0, 10, 29999);
     untagged(&other_one, 1, 0, 11, 29999);
-    CHECK(ARE(0), "kind 29999");
+    CHECK(kept(&one, &other_one, 0), "kind 29999");
     start_table();
     changes_nothing(&one, 0, KEZ_TABLE_NOT_KEPT);
     changes_nothing(&other_one, 0, KEZ_TABLE_NOT_KEPT);
     untagged(&one, 0, 0, 10, 40000);
     untagged(&other_one, 1, 0, 11, 40000);
-    CHECK(ARE(0), "kind 40000");
+    CHECK(kept(&one, &other_one, 0), "kind 40000");
     stored(&one, &one, KEZ_TABLE_NEW, 0);
     stored(&other_one, &other_one, KEZ_TABLE_NEW, 1);
 }
@@ -1454,9 +1665,9 @@ static void table_sizes(void)
             lend();
             memcpy(copy, larger, sizeof copy);
             CHECK(is(kez_table_empty(larger, slots[i], room, cells[j]), 34, 0), "%zu, %zu", slots[i], cells[j]);
-            CHECK(is(kez_table_offer(larger, slots[i], room, cells[j], vector.at, vector.len), 34, 0), "%zu, %zu",
-                  slots[i], cells[j]);
-            CHECK(is(kez_table_offer(larger, slots[i], room, cells[j], NULL, 0), 34, 0), "%zu, %zu", slots[i],
+            CHECK(is(kez_table_offer(larger, slots[i], room, cells[j], vector.at, vector.len, j % 2), 34, 0),
+                  "%zu, %zu", slots[i], cells[j]);
+            CHECK(is(kez_table_offer(larger, slots[i], room, cells[j], NULL, 0, j % 2), 34, 0), "%zu, %zu", slots[i],
                   cells[j]);
             CHECK(is(kez_table_slot(larger, slots[i], room, cells[j], 99, numbers, numbers + 1), 34, 0), "%zu, %zu",
                   slots[i], cells[j]);
@@ -1732,24 +1943,28 @@ static void short_states(void)
     CHECK(untouched() && state_same_from(0), "a refusal changed what was lent");
 }
 
-/* The id belongs, or it does not; the signature plays no part, all else does. */
+/* The id belongs, or it does not; the signature plays no part, all else does. In the versioned form it belongs too. */
 static void belongs(bytes *b)
 {
-    CHECK(is(kez_id_belongs(b->at, b->len), 0, 1), "%zu bytes have another id", b->len);
+    static bytes v;
+    CHECK(is(kez_id_belongs(b->at, b->len, KEZ_BARE), 0, 1), "%zu bytes have another id", b->len);
+    versioned_of(&v, b->at, b->len);
+    if (v.len <= KEZ_MOST)
+        CHECK(is(kez_id_belongs(v.at, v.len, KEZ_VERSIONED), 0, 1), "%zu bytes, versioned, have another id", b->len);
     for (size_t bit = 0; bit < 8 * 128; bit += b->len < 1000 ? 1 : 83) {
         b->at[bit / 8] ^= (uint8_t)(1 << bit % 8);
-        CHECK(is(kez_id_belongs(b->at, b->len), 0, bit >= 8 * 64), "%zu bytes, bit %zu changed", b->len, bit);
+        CHECK(is(kez_id_belongs(b->at, b->len, KEZ_BARE), 0, bit >= 8 * 64), "%zu bytes, bit %zu changed", b->len, bit);
         b->at[bit / 8] ^= (uint8_t)(1 << bit % 8);
     }
     for (unsigned last = 0; last < 256; last++) {
         uint8_t was = b->at[31];
         b->at[31] = (uint8_t)last;
         if (b->len < 1000)
-            CHECK(is(kez_id_belongs(b->at, b->len), 0, last == was), "its last byte %u", last);
+            CHECK(is(kez_id_belongs(b->at, b->len, KEZ_BARE), 0, last == was), "its last byte %u", last);
         b->at[31] = was;
     }
     b->at[128] ^= 1;
-    CHECK(is(kez_id_belongs(b->at, b->len), 0, 0), "%zu bytes, another time", b->len);
+    CHECK(is(kez_id_belongs(b->at, b->len, KEZ_BARE), 0, 0), "%zu bytes, another time", b->len);
     b->at[128] ^= 1;
 }
 
@@ -1814,8 +2029,8 @@ static void ids(void)
     draft_event(&b, &text);
     belongs(&b);
     for (size_t len = 0; len < b.len; len++)
-        CHECK(kez_id_belongs(b.at, len).refusal == read_it(b.at, len).refusal, "cut at %zu", len);
-    CHECK(is(kez_id_belongs(vector.at, vector.len), 0, 0), "the vector's id is zero");
+        CHECK(kez_id_belongs(b.at, len, KEZ_BARE).refusal == read_it(b.at, len).refusal, "cut at %zu", len);
+    CHECK(is(kez_id_belongs(vector.at, vector.len, KEZ_BARE), 0, 0), "the vector's id is zero");
 }
 
 /* The canonical text through the entries of the hash says what the id question says, at each length of a text in a
@@ -1830,11 +2045,11 @@ static void ids_by_hash(void)
         put_varint(&b, len);
         fill(&b, 'x', len);
         put_varint(&b, 0);
-        kez_answer a = kez_canonical_write(b.at, b.len, text, sizeof text);
+        kez_answer a = kez_canonical_write(b.at, b.len, KEZ_BARE, text, sizeof text);
         hash_by(text, a.value, 100);
-        CHECK(is(kez_id_belongs(b.at, b.len), 0, 0), "content of %zu bytes, no id", len);
+        CHECK(is(kez_id_belongs(b.at, b.len, KEZ_BARE), 0, 0), "content of %zu bytes, no id", len);
         kez_sha256_finish(state, sizeof state, b.at, KEZ_ID_LEN);
-        CHECK(is(kez_id_belongs(b.at, b.len), 0, 1), "content of %zu bytes", len);
+        CHECK(is(kez_id_belongs(b.at, b.len, KEZ_BARE), 0, 1), "content of %zu bytes", len);
     }
 }
 
@@ -1897,7 +2112,7 @@ static void read_both(void)
     a_b(&packed, &damaged, "0801000500");
     shown_by(1, &damaged, &packed);
     /* by JSON alone the first buffer needs no room */
-    CHECK(is(kez_read_both(damaged.at, damaged.len, NULL, 0, other, packed.len, numbers), 0, 1), "one buffer is enough");
+    CHECK(is(kez_read_both(damaged.at, damaged.len, NULL, 0, other, packed.len, numbers), 0, 1), "one buffer");
     /* 11 where either is too short */
     const size_t all = sizeof room, need = packed.len;
     refused_by_both(&text, all, need - 1, 11, need);
@@ -1921,6 +2136,199 @@ static void read_both(void)
         fill(&damaged, ' ', 65537);
         refused_by_both(&damaged, lent, lent, 1, 0);
     }
+}
+
+/* An event of so many bytes, most of them its content. */
+static void of_length(bytes *b, size_t len)
+{
+    start(b);
+    PUT(b, "\x00\x00");
+    put_varint(b, len - 134);
+    fill(b, 'x', len - 134);
+    put_varint(b, 0);
+    CHECK(b->len == len, "%zu, not %zu", b->len, len);
+}
+
+/* Said to be versioned: no byte, 01 alone, and every other first byte, alone and in front of an event or of damage. */
+static void first_bytes(void)
+{
+    static bytes b;
+    refused_as(NULL, 0, KEZ_VERSIONED, 2, 0);
+    refused_as((const uint8_t *)"\x01", 1, KEZ_VERSIONED, 2, 1);
+    for (unsigned byte = 0; byte < 256; byte++) {
+        if (byte == 1)
+            continue;
+        versioned_of(&b, vector.at, vector.len);
+        b.at[0] = (uint8_t)byte;
+        refused_as(b.at, b.len, KEZ_VERSIONED, 25, 0);
+        refused_as(b.at, 1, KEZ_VERSIONED, 25, 0);
+        refused_as(b.at, 130, KEZ_VERSIONED, 25, 0);
+    }
+    refused_as(vector.at, vector.len, KEZ_VERSIONED, 25, 0);
+}
+
+/* The limit counts the 01, and comes before 25 and before all that is behind it. */
+static void versioned_limits(void)
+{
+    static bytes b, v, text;
+    of_length(&b, 65535);
+    reads(&b, 0, 0, 133, 65535 - 134, 0);
+    strict_form(&b, &b);
+    versioned_of(&v, b.at, b.len);
+    CHECK(v.len == KEZ_MOST && is(read_as(v.at, v.len, KEZ_VERSIONED), 0, 0), "65,536 bytes");
+    spelled_behind(&text, "notepack1_", v.at, v.len);
+    CHECK(text.len == KEZ_NOTEPACK_STRING_MOST && text.len == 87392, "%zu", text.len);
+    writes_as(kez_notepack_string_write, KEZ_VERSIONED, &v, &text);
+    v.at[0] = 2;
+    refused_as(v.at, v.len, KEZ_VERSIONED, 25, 0);
+    fill(&v, 0, 1);
+    for (unsigned byte = 0; byte < 3; byte++) {
+        v.at[0] = (uint8_t)byte;
+        refused_as(v.at, v.len, KEZ_VERSIONED, 1, 0);
+    }
+    /* 65,536 bare bytes have no versioned form, whatever is wrong with them */
+    of_length(&b, KEZ_MOST);
+    CHECK(is(read_it(b.at, b.len), 0, 0), "65,536 bytes");
+    refuses(kez_versioned_from_bare, &b, 1, 0);
+    b.at[1000] = 0xff;
+    refused_as(b.at, b.len, KEZ_BARE, 5, 133);
+    refuses(kez_versioned_from_bare, &b, 1, 0);
+}
+
+/* Any number but 0 says that an event is bare. */
+static void any_yes(void)
+{
+    static const uint64_t yes[] = {1, 2, 255, 256, UINT64_C(1) << 32, UINT64_C(1) << 63, UINT64_MAX};
+    for (size_t i = 0; i < sizeof yes / sizeof *yes; i++) {
+        CHECK(is(read_as(vector.at, vector.len, yes[i]), 0, 0), "%zu", i);
+        CHECK(is(kez_notepack_is_strict(vector.at, vector.len, yes[i]), 0, 1), "%zu", i);
+        CHECK(is(kez_notepack_write(vector.at, vector.len, yes[i], NULL, 0), 11, 237), "%zu", i);
+        CHECK(is(kez_notepack_string_write(vector.at, vector.len, yes[i], NULL, 0), 11, 325), "%zu", i);
+        CHECK(is(kez_notepack_tag_len(vector.at, vector.len, yes[i], 0), 0, 3), "%zu", i);
+        CHECK(is(element_of(vector.at, vector.len, yes[i], 0, 0), 0, 0), "%zu", i);
+        CHECK(is(kez_notepack_elements(vector.at, vector.len, yes[i], 0, NULL, 0), 0, 0), "%zu", i);
+        CHECK(is(kez_canonical_write(vector.at, vector.len, yes[i], NULL, 0), 11, 265), "%zu", i);
+        CHECK(kez_nson_write(vector.at, vector.len, yes[i], NULL, 0).refusal == 11, "%zu", i);
+        CHECK(is(kez_id_belongs(vector.at, vector.len, yes[i]), 0, 0), "%zu", i);
+        CHECK(is(kez_rivals(vector.at, vector.len, yes[i], vector.at, vector.len, yes[i]), 0, 1), "%zu", i);
+        start_table();
+        CHECK(is(offer_as(vector.at, vector.len, yes[i]), 0, KEZ_TABLE_NEW), "%zu", i);
+    }
+}
+
+/* 01 and an event of kind 1: said to be bare it reads well, as another event. Nothing in the bytes shows which of the
+ * two is meant. */
+static void wrong_word(void)
+{
+    static bytes b, v, form;
+    event(&b, 0, 1);
+    put_varint(&b, 0);
+    versioned_of(&v, b.at, b.len);
+    lend();
+    CHECK(is(read_as(v.at, v.len, KEZ_VERSIONED), 0, 0) && numbers[1] == 1 && numbers[3] == 0, "as it is");
+    CHECK(is(read_as(v.at, v.len, KEZ_BARE), 0, 0) && numbers[1] == 0 && numbers[3] == 1, "as bare");
+    CHECK(is(kez_notepack_is_strict(v.at, v.len, KEZ_BARE), 0, 1), "as bare");
+    writes_as(kez_notepack_write, KEZ_VERSIONED, &v, &b);
+    writes_as(kez_notepack_write, KEZ_BARE, &v, &v);
+    start_table();
+    stored(&b, &b, KEZ_TABLE_NEW, 0);
+    CHECK(is(offer_as(v.at, v.len, KEZ_VERSIONED), 0, KEZ_TABLE_HELD), "the very same event");
+    stored(&v, &v, KEZ_TABLE_NEW, 1);
+    versioned_of(&form, v.at, v.len);
+    writes(kez_versioned_from_bare, &v, &form);
+}
+
+/* What is refused of two inputs: all that the first has, 25 among it, comes before the second's 25; that comes before
+ * what else the second has. */
+static void two_words(void)
+{
+    static bytes cut, v;
+    cut = vector;
+    cut.len = 130; /* 4 at 128 */
+    versioned_of(&v, cut.at, cut.len);
+#define OF_TWO(a, a_bare, b, b_bare) kez_rivals((a)->at, (a)->len, a_bare, (b)->at, (b)->len, b_bare)
+    CHECK(is(OF_TWO(&vector, KEZ_VERSIONED, &cut, KEZ_BARE), 25, 0), "the first's 25");
+    CHECK(is(OF_TWO(&vector, KEZ_VERSIONED, &vector, KEZ_VERSIONED), 25, 0), "both have 25");
+    CHECK(is(OF_TWO(&cut, KEZ_BARE, &vector, KEZ_VERSIONED), 4, 128), "the first's 4, then the second's 25");
+    CHECK(is(OF_TWO(&v, KEZ_VERSIONED, &vector, KEZ_VERSIONED), 4, 129), "the same of a versioned one");
+    CHECK(is(OF_TWO(&vector, KEZ_BARE, &vector, KEZ_VERSIONED), 25, 0), "the second's 25");
+    CHECK(is(OF_TWO(&vector, KEZ_BARE, &v, KEZ_VERSIONED), 4, 129), "the second's 4");
+    CHECK(is(OF_TWO(&vector, KEZ_BARE, &cut, KEZ_VERSIONED), 25, 0), "25 before what is behind it");
+    CHECK(kez_rivals_refused(vector.at, vector.len, KEZ_VERSIONED) == 1, "the first");
+    CHECK(kez_rivals_refused(vector.at, vector.len, KEZ_BARE) == 2, "the second");
+}
+
+/* A table keeps bare strict forms, and measures those: 1,024 bytes behind 01 fit, 1,025 do not. */
+static void versioned_offers(void)
+{
+    static bytes b, v, loose;
+    for (size_t len = 1024; len <= 1025; len++) {
+        start_table();
+        record(&b, 1, 1, 9, 30000, "map", len);
+        versioned_of(&v, b.at, b.len);
+        if (len == 1025) {
+            changes_nothing(&b, 22, 0);
+            continue;
+        }
+        want_record(0, &b);
+        CHECK(is(offer_as(v.at, v.len, KEZ_VERSIONED), 0, KEZ_TABLE_NEW) && as_wanted(), "%zu bytes", len);
+        changes_nothing(&b, 0, KEZ_TABLE_HELD);
+    }
+    /* made strict on the way */
+    start_table();
+    event(&b, 0, 1);
+    loose = b;
+    PUT(&b, "\x01\x01\x03\xab");
+    PUT(&loose, "\x01\x01\x04""ab");
+    versioned_of(&v, loose.at, loose.len);
+    want_record(0, &b);
+    CHECK(is(offer_as(v.at, v.len, KEZ_VERSIONED), 0, KEZ_TABLE_NEW) && as_wanted(), "kept as offered");
+    /* 34 before 25 */
+    lent.slots[8] = 1;
+    wanted = lent;
+    CHECK(is(offer_as(vector.at, vector.len, KEZ_VERSIONED), 34, 0) && as_wanted(), "a bad table");
+}
+
+/* The versioned string form of the vector: each place where it can be cut, and a byte outside the alphabet at each. */
+static void versioned_string(void)
+{
+    static bytes v, text, changed;
+    versioned_of(&v, vector.at, vector.len);
+    spelled_behind(&text, "notepack1_", v.at, v.len);
+    CHECK(text.len == 10 + (4 * 238 + 2) / 3, "%zu", text.len);
+    writes_as(kez_notepack_string_write, KEZ_VERSIONED, &v, &text);
+    writes(kez_notepack_string_read_versioned, &text, &v);
+    for (size_t len = 0; len < text.len; len++) {
+        size_t chars = len < 10 ? 0 : len - 10, whole = chars * 3 / 4;
+        int bits = chars % 4 == 2 ? v.at[whole] >> 4 : chars % 4 == 3 ? v.at[whole] >> 6 : 0;
+        kez_answer a = read_as(v.at, whole, KEZ_VERSIONED);
+        changed = text;
+        changed.len = len;
+        if (len < 10)
+            refuses(kez_notepack_string_read_versioned, &changed, 20, 0);
+        else if (chars % 4 == 1 || bits)
+            refuses(kez_notepack_string_read_versioned, &changed, 21, len);
+        else
+            refuses(kez_notepack_string_read_versioned, &changed, a.refusal, a.value);
+        changed = text;
+        changed.at[len] = '-';
+        refuses(kez_notepack_string_read_versioned, &changed, len < 10 ? 20 : 21, len < 10 ? 0 : len);
+    }
+    /* nothing held, 01 alone, another first byte, the bare bytes */
+    text.len = 0;
+    PUT(&text, "notepack1_");
+    refuses(kez_notepack_string_read_versioned, &text, 2, 0);
+    PUT(&text, "AQ");
+    refuses(kez_notepack_string_read_versioned, &text, 2, 1);
+    text.at[11] = 'g'; /* 02 */
+    refuses(kez_notepack_string_read_versioned, &text, 25, 0);
+    spelled_behind(&text, "notepack1_", vector.at, vector.len);
+    refuses(kez_notepack_string_read_versioned, &text, 25, 0);
+    /* 65,537 bytes held, of whatever form */
+    v.len = 0;
+    fill(&v, 1, 65537);
+    spelled_behind(&text, "notepack1_", v.at, v.len);
+    refuses(kez_notepack_string_read_versioned, &text, 1, 0);
 }
 
 int main(void)
@@ -1965,6 +2373,13 @@ int main(void)
     short_states();
     ids();
     ids_by_hash();
+    first_bytes();
+    versioned_limits();
+    any_yes();
+    wrong_word();
+    two_words();
+    versioned_offers();
+    versioned_string();
     printf("%d passed, %d failed\n", passed, failed);
     return failed != 0;
 }

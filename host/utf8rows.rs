@@ -15,6 +15,7 @@ extern "C" {
     fn kez_notepack_read(
         packed: *const u8,
         packed_len: usize,
+        bare: u64,
         created_at: *mut u64,
         kind: *mut u64,
         content_at: *mut u64,
@@ -26,6 +27,7 @@ extern "C" {
 /// Id, pubkey and signature, then a time and a kind of one byte each; then the content's length.
 const LENGTH_AT: usize = 130;
 const ILL_FORMED: u64 = 5;
+const BARE: u64 = 1;
 
 /// A packed event whose content is some ASCII, the string that is asked, and some more ASCII.
 struct Record {
@@ -62,7 +64,8 @@ impl Record {
         let start = self.pack(string, count) as u64;
         let mut told = [0u64; 5];
         let [time, kind, at, len, tags] = &mut told;
-        let answer = unsafe { kez_notepack_read(self.packed.as_ptr(), self.packed.len(), time, kind, at, len, tags) };
+        let (packed, packed_len) = (self.packed.as_ptr(), self.packed.len());
+        let answer = unsafe { kez_notepack_read(packed, packed_len, BARE, time, kind, at, len, tags) };
         let good = std::str::from_utf8(string).is_ok();
         let right = if good {
             answer.refusal == 0 && told == [0, 0, start, count as u64, 0]

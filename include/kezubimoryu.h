@@ -13,8 +13,10 @@
  * No entry keeps a pointer after it returns, and none has state of its own, so several threads may call at once without
  * a lock.
  *
- * A packed event is notepack without a version byte, at most 65,536 bytes. Its string form, for a letter or a mail, is
- * notepack_ and the bytes in base64. Places, tags and elements are counted from 0. Lengths are in bytes. Link with
+ * A packed event is notepack, at most 65,536 bytes, in one of two forms: bare, without a version byte, or versioned,
+ * which is the byte 01 and then the bare bytes. With each packed input the caller says which of the two it is (see
+ * KEZ_BARE). Its string form, for a letter or a mail, is notepack_ and the bare bytes in base64, or notepack1_ and the
+ * versioned ones. Places, tags and elements are counted from 0. Lengths are in bytes. Link with
  * `pkg-config --cflags --libs kezubimoryu`.
  *
  * This header is C99, and C++ too.
@@ -22,13 +24,13 @@
  * An entry that writes an event or a text, lent nothing, answers refusal 11 and the length that it needs, unless it
  * refuses the input. So a host that would lend no more than that asks first (the lengths below need no question):
  *
- *     kez_answer a = kez_nson_write(packed, packed_len, NULL, 0);
+ *     kez_answer a = kez_nson_write(packed, packed_len, KEZ_BARE, NULL, 0);
  *     if (a.refusal != 11)
  *         return a;                        (no event, or one that NSON can't carry)
  *     size_t out_len = (size_t)a.value;
  *     uint8_t *out = malloc(out_len);
  *     if (out)
- *         a = kez_nson_write(packed, packed_len, out, out_len);        (a is now 0, out_len)
+ *         a = kez_nson_write(packed, packed_len, KEZ_BARE, out, out_len);        (a is now 0, out_len)
  *
  * "Cost" says how the time of a call grows, whether it is refused or not.
  *
@@ -48,33 +50,56 @@ extern "C" {
 
 /* The version of this header; the tool and the pkg-config file have it from here. As a number: 10,000 for a major
  * version, 100 for a minor one, 1 for a patch. */
-#define KEZ_VERSION "0.10.1"
-#define KEZ_VERSION_NUMBER 1001
+#define KEZ_VERSION "0.11.0"
+#define KEZ_VERSION_NUMBER 1100
 
 /* The version of the library that runs, as such a number. A host that was compiled with this header and runs with the
- * library of the same version has kez_version() == KEZ_VERSION_NUMBER.
+ * library of the same version has kez_version() == KEZ_VERSION_NUMBER. From 0.11.0 on most entries have one argument
+ * more than before, so a host that was compiled with an older header is compiled anew.
  * Cost: constant. */
 uint64_t kez_version(void);
+
+/* What the caller says of a packed input, in the argument behind its length: it is bare (KEZ_BARE, and any other number
+ * but 0), or it is versioned (KEZ_VERSIONED), that is, the byte 01 and then the bare bytes.
+ *
+ * The library can't see whether this is true. 01 and the bare bytes of an event, said to be bare, may read well as
+ * another event: with another id, author, time and kind. So a host keeps with each record in which form it is, and
+ * makes no guess from the first byte: a bare event may start with 01 too, which is then the first byte of its id.
+ *
+ * Of a versioned input:
+ * - What is behind the 01 is read as the bare bytes would be. Whether it is strict, which record it rivals, what its
+ *   canonical text is, and so on, is asked of those.
+ * - Refusals come in this order: 1 if it has more than 65,536 bytes, the 01 counted; 2 at 0 if it has none; 25 at 0 if
+ *   the first is not 01; then those that the bare bytes would have. Nothing behind the 01 is 2 at 1.
+ * - Places count in the bytes that are given, the 01 included: those of refusals, of the content and of the elements.
+ *   The value of refusal 11 is the length needed, as ever. 17, 19, 22 and 23 still have 0, and 34 a slot.
+ * - What is written in strict form, and what a table keeps, is bare, whichever form was given. A string form alone
+ *   keeps the form.
+ * Rules 12.8.4, 17. */
+#define KEZ_VERSIONED 0
+#define KEZ_BARE 1
 
 /* How long an output buffer has to be. An event in strict form is never longer than the packed bytes, the NSON or the
  * JSON it was read from, so a buffer as long as the input is always enough for it; so it is for what a string form
  * holds. A canonical text is never longer than three times the packed bytes. NSON is never longer than KEZ_MOST. A
- * string form has nine bytes, and four for each three of the strict form, rounded up. A host that passes buffers of
- * these lengths never gets refusal 11. The sizes below are enough for every input. Rules 3.7, 5.8, 6.14, 12.3.6, 14.1
- * and 14.2. */
+ * string form has nine bytes, or ten if it is versioned, and four for each three of the bytes that it holds, rounded
+ * up. The versioned form has one byte more than the bare one. A host that passes buffers of these lengths never gets
+ * refusal 11. The sizes below are enough for every input. Rules 3.7, 5.8, 6.14, 12.3.6, 14.1, 14.2, 17.10 and 17.13. */
 
 /* No accepted input is longer, but for a string form, of which the bytes that it holds are counted, and a piece of a
- * message that is hashed; nor is an event in strict form, nor NSON. Rules 1.9, 14.3, 14.6 and 16.8. */
+ * message that is hashed; nor is an event in strict form, nor NSON. Of a versioned event the 01 is counted. Rules 1.9,
+ * 14.3, 14.6, 16.8 and 17.3. */
 #define KEZ_MOST 65536
 
 /* No canonical text is longer: three bytes for each byte that was packed. Rule 5.8. */
 #define KEZ_CANONICAL_MOST (3 * KEZ_MOST)
 
-/* No string form is longer that is written or accepted: 87,391 bytes. Rules 14.1 to 14.3. */
-#define KEZ_NOTEPACK_STRING_MOST (9 + (4 * KEZ_MOST + 2) / 3)
+/* No string form is longer that is written or accepted: 87,392 bytes for a versioned event, one less for a bare one.
+ * Rules 14.1 to 14.3 and 17.13 to 17.15. */
+#define KEZ_NOTEPACK_STRING_MOST (10 + (4 * KEZ_MOST + 2) / 3)
 
-/* Where the three fixed fields of a packed event are, as raw bytes, and their lengths. Every packed event that
- * kez_notepack_read accepts has them there. Rules 1.1, 2.1 and 2.2. */
+/* Where the three fixed fields of a bare packed event are, as raw bytes, and their lengths. Every one that
+ * kez_notepack_read accepts has them there; a versioned one has each a byte further on. Rules 1.1, 2.1, 2.2, 17.6. */
 #define KEZ_ID_AT 0
 #define KEZ_ID_LEN 32
 #define KEZ_PUBKEY_AT 32
@@ -84,11 +109,11 @@ uint64_t kez_version(void);
 
 /* What every entry but kez_version answers. Rules 12.1.2 to 12.1.8.
  * Success: refusal is 0, and value is what the entry's comment says.
- * Refusal: refusal is a number from 1 to 24, or 34 or 35, and value is the place in the input where the fault was
+ * Refusal: refusal is a number from 1 to 25, or 34 or 35, and value is the place in the input where the fault was
  * found, or the input's length if the fault is at its end. Rule 10.N says when refusal N is given, and its place.
- * Refusals 1, 17, 19, 20, 22, 23 and 35 have no place of their own: value is then 0. With refusal 11, a lent buffer
+ * Refusals 1, 17, 19, 20, 22, 23, 25 and 35 have no place of their own: value is then 0. With refusal 11, a lent buffer
  * that is too short, value is the length needed; 11 is given only if there is no other refusal, but for a hash's state
- * that is too short (kez_sha256_add). For kez_notepack_string_read the places of 2 to 10 and of 24 are in the bytes
+ * that is too short (kez_sha256_add). For the readers of string forms the places of 2 to 10 and of 24 are in the bytes
  * that the text holds. With refusal 34 value is the number of a slot.
  * So refusal alone tells whether the call succeeded. After a refusal every buffer and number that was passed still
  * holds what it held before the call. After success the bytes behind the written length are unchanged. */
@@ -100,39 +125,59 @@ typedef struct {
 /* Reads a packed event and stores five numbers of it: created_at (in seconds), the kind, the place of the content in
  * packed, the content's length, and the number of tags. The place of an empty content is that of the byte behind its
  * length.
- * Refusals: 1 to 10; and 24 at a varint that is longer than its number needs (80 00 for 0), before all that the number
- * would decide.
+ * Refusals: 1 to 10; 24 at a varint that is longer than its number needs (80 00 for 0), before all that the number
+ * would decide; and 25 if packed is said to be versioned and does not start with 01, after 1 and, for no bytes, 2.
  * value: 0
  * Cost: linear in packed_len.
- * Rules 2.1 to 2.18, 4.1, 4.8, 4.9, 12.2.1 to 12.2.3. */
-kez_answer kez_notepack_read(const uint8_t *packed, size_t packed_len,
+ * Rules 2.1 to 2.18, 4.1, 4.8, 4.9, 12.2.1 to 12.2.3, 17.1 to 17.6. */
+kez_answer kez_notepack_read(const uint8_t *packed, size_t packed_len, uint64_t bare,
                              uint64_t *created_at, uint64_t *kind,
                              uint64_t *content_at, uint64_t *content_len,
                              uint64_t *tag_count);
 
 /* Are these bytes in strict form? They are if every element is stored as raw bytes exactly if its text is not empty,
- * has an even length and consists of 0-9 and a-f alone. (A varint longer than its number needs is refused with 24.)
+ * has an even length and consists of 0-9 and a-f alone. (A varint longer than its number needs is refused with 24.) Of
+ * a versioned event it is asked of what follows the 01.
  * Refusals: those of kez_notepack_read.
  * value: 1 strict, 0 not strict
  * Cost: linear in packed_len.
- * Rules 3.1 to 3.5, 12.2.7, 12.2.11; of the input 2.1 to 2.17. */
-kez_answer kez_notepack_is_strict(const uint8_t *packed, size_t packed_len);
+ * Rules 3.1 to 3.5, 12.2.7, 12.2.11; of the input 2.1 to 2.17 and 17.1 to 17.5. */
+kez_answer kez_notepack_is_strict(const uint8_t *packed, size_t packed_len, uint64_t bare);
 
-/* Writes the strict form of a packed event to out. Every event has exactly one, and it reads as the same event. Strict
- * bytes come out unchanged. An out_len of packed_len is always enough.
+/* Writes the strict form of a packed event to out. Every event has exactly one, and it reads as the same event. It is
+ * bare, also if packed is versioned. Bare strict bytes come out unchanged. An out_len of packed_len is always enough.
  * Refusals: those of kez_notepack_read; then 11.
  * value: the length written
  * Cost: linear in packed_len.
- * Rules 3.1 to 3.3, 3.6, 3.7, 12.2.4 to 12.2.6; of the input 2.1 to 2.17. */
-kez_answer kez_notepack_write(const uint8_t *packed, size_t packed_len,
+ * Rules 3.1 to 3.3, 3.6, 3.7, 12.2.4 to 12.2.6, 17.7; of the input 2.1 to 2.17 and 17.1 to 17.5. */
+kez_answer kez_notepack_write(const uint8_t *packed, size_t packed_len, uint64_t bare,
                               uint8_t *out, size_t out_len);
+
+/* Writes the versioned form of a bare packed event to out: 01, and behind it the same bytes. Nothing is made strict. An
+ * out_len of packed_len + 1 is always enough, and so is KEZ_MOST.
+ * Refusals: 1 if packed has more than 65,535 bytes, since the versioned form would pass 65,536; then those of
+ * kez_notepack_read for a bare event; then 11.
+ * value: the length written, which is packed_len + 1
+ * Cost: linear in packed_len.
+ * Rules 17.1, 17.9, 17.10, 12.8.1 to 12.8.3; of the input 2.1 to 2.17. */
+kez_answer kez_versioned_from_bare(const uint8_t *packed, size_t packed_len,
+                                   uint8_t *out, size_t out_len);
+
+/* Writes the bare form of a versioned packed event to out: the bytes behind the 01, as they are. Nothing is made
+ * strict. An out_len of packed_len is always enough. There and back gives the same bytes, from either form.
+ * Refusals: those of kez_notepack_read for a versioned event; then 11.
+ * value: the length written, which is packed_len - 1
+ * Cost: linear in packed_len.
+ * Rules 17.1, 17.9, 17.11, 12.8.1 to 12.8.3; of the input 2.1 to 2.17 and 17.1 to 17.5. */
+kez_answer kez_bare_from_versioned(const uint8_t *packed, size_t packed_len,
+                                   uint8_t *out, size_t out_len);
 
 /* How many texts does this tag have?
  * Refusals: those of kez_notepack_read; then 19 if there is no such tag.
  * value: the number of texts, 1 to 255
  * Cost: linear in packed_len, since each call reads the whole record. kez_notepack_elements tells of all tags at once.
- * Rules 4.4 to 4.6, 4.9, 12.2.3; of the input 2.1 to 2.17. */
-kez_answer kez_notepack_tag_len(const uint8_t *packed, size_t packed_len, uint64_t tag);
+ * Rules 4.4 to 4.6, 4.9, 12.2.3; of the input 2.1 to 2.17 and 17.1 to 17.5. */
+kez_answer kez_notepack_tag_len(const uint8_t *packed, size_t packed_len, uint64_t bare, uint64_t tag);
 
 /* Finds one text of a tag as it is packed. Stores the place of its payload in packed, the payload's length, and in
  * is_bytes how the payload is to be read: 0, it is the text; 1, the text is the payload written in lowercase hex. (Rule
@@ -140,8 +185,8 @@ kez_answer kez_notepack_tag_len(const uint8_t *packed, size_t packed_len, uint64
  * Refusals: those of kez_notepack_read; then 19 if there is no such tag or no such element in it.
  * value: 0
  * Cost: linear in packed_len, since each call reads the whole record. To list many, call kez_notepack_elements.
- * Rules 2.10 to 2.12, 4.2, 4.3, 4.5, 4.6, 4.8, 4.9, 12.2.3; of the input 2.1 to 2.17. */
-kez_answer kez_notepack_element(const uint8_t *packed, size_t packed_len,
+ * Rules 2.10 to 2.12, 4.2, 4.3, 4.5, 4.6, 4.8, 4.9, 12.2.3, 17.6; of the input 2.1 to 2.17 and 17.1 to 17.5. */
+kez_answer kez_notepack_element(const uint8_t *packed, size_t packed_len, uint64_t bare,
                                 uint64_t tag, uint64_t element,
                                 uint64_t *at, uint64_t *len, uint64_t *is_bytes);
 
@@ -159,31 +204,34 @@ kez_answer kez_notepack_element(const uint8_t *packed, size_t packed_len,
  * Refusals: those of kez_notepack_read; never 11.
  * value: how many were listed; fewer than fit means that there are no more, so a first past the last lists none
  * Cost: linear in packed_len.
- * Rules 2.10 to 2.12, 4.3, 4.8, 4.12 to 4.15; of the input 2.1 to 2.17. */
-kez_answer kez_notepack_elements(const uint8_t *packed, size_t packed_len, uint64_t first,
+ * Rules 2.10 to 2.12, 4.3, 4.8, 4.12 to 4.15, 17.6; of the input 2.1 to 2.17 and 17.1 to 17.5. */
+kez_answer kez_notepack_elements(const uint8_t *packed, size_t packed_len, uint64_t bare, uint64_t first,
                                  uint8_t *out, size_t out_len);
 
 /* Writes the string form of a packed event to out: the nine bytes notepack_, and behind them the event's strict form in
- * standard base64 (RFC 4648, section 4) without padding. It is one line of ASCII; no line end and no 00 is put behind
- * it. An out_len of 9 + (4 * packed_len + 2) / 3 is always enough, and so is KEZ_NOTEPACK_STRING_MOST.
+ * standard base64 (RFC 4648, section 4) without padding. If packed is versioned, it is the ten bytes notepack1_, and
+ * behind them 01 and the strict form in base64. It is one line of ASCII; no line end and no 00 is put behind it. An
+ * out_len of 9 + (4 * packed_len + 2) / 3, or 10 in the place of 9 for a versioned event, is always enough, and so is
+ * KEZ_NOTEPACK_STRING_MOST for either.
  * Refusals: those of kez_notepack_read; then 11.
  * value: the length written
  * Cost: linear in packed_len.
  * Stack: some 75 KB, since a strict form other than the packed bytes is made there.
- * Rules 3.1 to 3.3, 14.1, 14.2, 14.8, 14.9; of the input 2.1 to 2.17. */
-kez_answer kez_notepack_string_write(const uint8_t *packed, size_t packed_len,
+ * Rules 3.1 to 3.3, 14.1, 14.2, 14.8, 14.9, 17.12, 17.13; of the input 2.1 to 2.17 and 17.1 to 17.5. */
+kez_answer kez_notepack_string_write(const uint8_t *packed, size_t packed_len, uint64_t bare,
                                      uint8_t *out, size_t out_len);
 
-/* Reads a string form and writes the packed event that it holds to out, byte for byte as it was encoded. These bytes
- * are ones that kez_notepack_read accepts; they need not be strict. No other text that is read holds the same bytes: a
- * line end or other white space, padding with =, and the characters - and _ are refused, like all that is not A-Z, a-z,
- * 0-9, + or /. But base64 has no check sum: where a character was changed into another of the alphabet, lost, doubled
- * or exchanged, the bytes may be another event, and only its id (kez_id_belongs) and its signature show that. The text
- * may have any length. An out_len of text_len is always enough, and so is KEZ_MOST.
- * Refusals: 20 if the text does not start with notepack_; then 21, at the first character outside the alphabet, counted
- * in the whole text, or if there is none at the text's length, for a lone last character or leftover bits that are not
- * zero; then 1 if the text holds more than 65,536 bytes; then 2 to 10 and 24 as kez_notepack_read gives them, with
- * places in the bytes that the text holds (2 at 0 with nothing behind the prefix); then 11.
+/* Reads the string form of a bare event and writes the packed event that it holds to out, byte for byte as it was
+ * encoded. These bytes are ones that kez_notepack_read accepts as bare; they need not be strict. No other text that it
+ * reads holds the same bytes: a line end or other white space, padding with =, and the characters - and _ are refused,
+ * like all that is not A-Z, a-z, 0-9, + or /. But base64 has no check sum: where a character was changed into another
+ * of the alphabet, lost, doubled or exchanged, the bytes may be another event, and only its id (kez_id_belongs) and its
+ * signature show that. The text may have any length. An out_len of text_len is always enough, and so is KEZ_MOST.
+ * Refusals: 20 if the text does not start with notepack_, which notepack1_ does not; then 21, at the first character
+ * outside the alphabet, counted in the whole text, or if there is none at the text's length, for a lone last character
+ * or leftover bits that are not zero; then 1 if the text holds more than 65,536 bytes; then 2 to 10 and 24 as
+ * kez_notepack_read gives them, with places in the bytes that the text holds (2 at 0 with nothing behind the prefix);
+ * then 11.
  * value: the length written
  * Cost: linear in text_len.
  * Stack: some 75 KB, since the bytes are held there until no refusal is left.
@@ -191,28 +239,43 @@ kez_answer kez_notepack_string_write(const uint8_t *packed, size_t packed_len,
 kez_answer kez_notepack_string_read(const uint8_t *text, size_t text_len,
                                     uint8_t *out, size_t out_len);
 
+/* Reads the string form of a versioned event in the same way. What it writes to out starts with 01, and
+ * kez_notepack_read accepts it as versioned.
+ * Refusals: 20 if the text does not start with notepack1_, which notepack_ does not; then 21 as above; then 1 if the
+ * text holds more than 65,536 bytes, the 01 counted; then 2 at 0 if it holds none; then 25 at 0 if the first is not 01;
+ * then 2 to 10 and 24 for what follows the 01, with places in the bytes that the text holds; then 11.
+ * value: the length written, the 01 counted
+ * Cost: linear in text_len.
+ * Stack: some 75 KB, as above.
+ * Rules 14.1, 14.4, 14.7, 17.12, 17.14 to 17.16; of the bytes 2.1 to 2.17 and 17.1 to 17.5. */
+kez_answer kez_notepack_string_read_versioned(const uint8_t *text, size_t text_len,
+                                              uint8_t *out, size_t out_len);
+
 /* Which of two packed events is to be kept? Two events are rivals, versions of one record, if both have a key and the
  * keys are equal. The key of kinds 0, 3 and 10000 to 19999 is author and kind; that of kinds 30000 to 39999 is author,
  * kind and label. The label is the text behind "d", in the first tag with "d" in front; where no text is behind it, or
  * no such tag is there, it is the empty text. Other events have no key. Of two rivals the later is kept; at equal times
  * the one with the lower id; if the ids are equal too, the first.
- * Refusals: those of kez_notepack_read. Any refusal of the first input comes before those of the second. The place is
- * one in the input that is refused, and the answer does not say which that is; kez_rivals_refused below tells.
+ * One may be bare and the other versioned; that makes no difference to which is kept.
+ * Refusals: those of kez_notepack_read. Any refusal of the first input, 25 among them, comes before those of the
+ * second. The place is one in the input that is refused, and the answer does not say which that is; kez_rivals_refused
+ * below tells.
  * value: 0 not rivals, 1 keep the first, 2 keep the second
  * Cost: linear in first_len + second_len.
- * Rules 8.1 to 8.11; of both inputs 2.1 to 2.17. */
-kez_answer kez_rivals(const uint8_t *first, size_t first_len,
-                      const uint8_t *second, size_t second_len);
+ * Rules 8.1 to 8.11, 17.8; of both inputs 2.1 to 2.17 and 17.1 to 17.5. */
+kez_answer kez_rivals(const uint8_t *first, size_t first_len, uint64_t first_bare,
+                      const uint8_t *second, size_t second_len, uint64_t second_bare);
 
 /* Which input did kez_rivals refuse? Call it after a refusal, with the same first input. It reads that input alone: any
  * refusal of the first comes before those of the second, so if the first is refused here, kez_rivals told of it; if it
  * is not, kez_rivals can only have refused the second.
  * Returns 1 for the first, 2 for the second.
  * Cost: linear in first_len. */
-static inline int kez_rivals_refused(const uint8_t *first, size_t first_len)
+static inline int kez_rivals_refused(const uint8_t *first, size_t first_len, uint64_t first_bare)
 {
     uint64_t created_at, kind, content_at, content_len, tag_count;
-    kez_answer a = kez_notepack_read(first, first_len, &created_at, &kind, &content_at, &content_len, &tag_count);
+    kez_answer a = kez_notepack_read(first, first_len, first_bare,
+                                     &created_at, &kind, &content_at, &content_len, &tag_count);
     return a.refusal ? 1 : 2;
 }
 
@@ -221,8 +284,8 @@ static inline int kez_rivals_refused(const uint8_t *first, size_t first_len)
  *     byte 0         0: the slot is free; any other number: it is used
  *     bytes 1 to 7   never looked at; 0 where the library stores something
  *     bytes 8 to 15  the length of the event at the start of the cell, little endian
- * Every used slot has one event in strict form. Of the events with a key (see kez_rivals) the table has one for each
- * key, the current one; of those without a key one for each id. Kinds 20000 to 29999 are never kept.
+ * Every used slot has one event in bare strict form. Of the events with a key (see kez_rivals) the table has one for
+ * each key, the current one; of those without a key one for each id. Kinds 20000 to 29999 are never kept.
  *
  * Start with two buffers of these lengths, emptied once. They are plain bytes: a host may copy them, save them to a
  * file and lend them again later, together. Offers and views look through the whole table first, so one that is no
@@ -260,7 +323,7 @@ static inline int kez_rivals_refused(const uint8_t *first, size_t first_len)
 kez_answer kez_table_empty(uint8_t *slots, size_t slots_len,
                            uint8_t *cells, size_t cells_len);
 
-/* Offers a packed event to a table, which keeps it in strict form if it is to be kept.
+/* Offers a packed event to a table, which keeps it in bare strict form if it is to be kept.
  * value: one of these.
  * - KEZ_TABLE_NEW, stored: nothing was kept under its key or, if it has none, its id. It takes the lowest free slot.
  * - KEZ_TABLE_REPLACED, stored in the slot of the event with the same key, which is gone: that one was earlier, or as
@@ -278,18 +341,19 @@ kez_answer kez_table_empty(uint8_t *slots, size_t slots_len,
  * else at the lowest bad slot. A used slot is bad if its length is above KEZ_CELL_BYTES, if its cell has no event of
  * that length in strict form, if that event's kind is never kept, or if another used slot, not bad by itself, has an
  * event of the same key or, both without a key, of the same id. Then those of kez_notepack_read for the packed event;
- * then 22 if its strict form has more than KEZ_CELL_BYTES bytes, whatever its kind; then 23 if it is to be stored new
- * and no slot is free.
+ * then 22 if its bare strict form has more than KEZ_CELL_BYTES bytes, whatever its kind; then 23 if it is to be stored
+ * new and no slot is free.
  * Cost: linear in packed_len, and on top of that the time for the whole table, which has a bound: each kept event is
  * read, and its key or id compared with those of the others.
  * Stack: some 25 KB, for what is known of the 64 slots while the call lasts.
- * Rules 8.1 to 8.11, 15; of the input 2.1 to 2.17; of what is stored 3.1 to 3.3. */
+ * Rules 8.1 to 8.11, 15, 17.7; of the input 2.1 to 2.17 and 17.1 to 17.5; of what is stored 3.1 to 3.3. */
 kez_answer kez_table_offer(uint8_t *slots, size_t slots_len,
                            uint8_t *cells, size_t cells_len,
-                           const uint8_t *packed, size_t packed_len);
+                           const uint8_t *packed, size_t packed_len, uint64_t bare);
 
-/* Finds the event that is kept in slot n. Stores its place in cells, which is n * KEZ_CELL_BYTES, and its length. A
- * host that wants all of them asks for slots 0 to KEZ_SLOTS - 1 and passes over those that are refused with 19.
+/* Finds the event that is kept in slot n. Stores its place in cells, which is n * KEZ_CELL_BYTES, and its length. The
+ * event there is bare. A host that wants all of them asks for slots 0 to KEZ_SLOTS - 1 and passes over those that are
+ * refused with 19.
  * Refusals: 34 as kez_table_offer gives it; then 19 if the slot is free or n is above 63.
  * value: 0
  * Cost: the time for the whole table, as for kez_table_offer, for each call.
@@ -303,8 +367,8 @@ kez_answer kez_table_slot(const uint8_t *slots, size_t slots_len,
  * Refusals: those of kez_notepack_read; then 11.
  * value: the length written
  * Cost: linear in packed_len.
- * Rules 5.1 to 5.9, 12.2.8; of the input 2.1 to 2.17. */
-kez_answer kez_canonical_write(const uint8_t *packed, size_t packed_len,
+ * Rules 5.1 to 5.9, 12.2.8; of the input 2.1 to 2.17 and 17.1 to 17.5. */
+kez_answer kez_canonical_write(const uint8_t *packed, size_t packed_len, uint64_t bare,
                                uint8_t *out, size_t out_len);
 
 /* SHA-256 (FIPS 180-4) of a message that comes in consecutive pieces. What is known between two pieces is a state. It
@@ -361,16 +425,16 @@ kez_answer kez_sha256_finish(const uint8_t *state, size_t state_len,
  * Cost: linear in packed_len; the text that is hashed has up to three times as many bytes.
  * Stack: some 200 KB in this version, since the text is made there whole, in KEZ_CANONICAL_MOST bytes. A later version
  * will do without; until then a thread that calls this needs that much left on its stack.
- * Rules 16.12 to 16.14, 12.7.4; of the text 5.1 to 5.6; of the input 2.1 to 2.17. */
-kez_answer kez_id_belongs(const uint8_t *packed, size_t packed_len);
+ * Rules 16.12 to 16.14, 12.7.4; of the text 5.1 to 5.6; of the input 2.1 to 2.17 and 17.1 to 17.5. */
+kez_answer kez_id_belongs(const uint8_t *packed, size_t packed_len, uint64_t bare);
 
 /* Writes a packed event to out as NSON. kez_nson_read and kez_json_read both read that text as the same event. An
  * out_len of KEZ_MOST is always enough.
  * Refusals: those of kez_notepack_read; then 17 if NSON can't carry the event; then 11.
  * value: the length written
  * Cost: linear in packed_len.
- * Rules 6.1 to 6.16, 12.3.10 to 12.3.12; of the input 2.1 to 2.17. */
-kez_answer kez_nson_write(const uint8_t *packed, size_t packed_len,
+ * Rules 6.1 to 6.16, 12.3.10 to 12.3.12; of the input 2.1 to 2.17 and 17.1 to 17.5. */
+kez_answer kez_nson_write(const uint8_t *packed, size_t packed_len, uint64_t bare,
                           uint8_t *out, size_t out_len);
 
 /* Reads NSON by the counts in its nson field, and writes the event to out in strict form. A count that disagrees with
@@ -415,7 +479,9 @@ static inline const char *kez_refusal_text(uint64_t number)
 {
     switch (number) {
     case 0: return "Nothing is refused.";
-    case 1: return "The input is longer than 65,536 bytes, or a string form holds more."; /* rule 10.1 */
+    case 1: /* rule 10.1 */
+        return "The input is longer than 65,536 bytes, a string form holds more, "
+               "or the versioned form would be longer.";
     case 2: return "The packed event is cut short, or a length in it goes beyond its end."; /* rule 10.2 */
     case 3: return "A varint's tenth byte is neither 00 nor 01."; /* rule 10.3 */
     case 4: return "The packed event ends inside a varint."; /* rule 10.4 */
@@ -436,13 +502,15 @@ static inline const char *kez_refusal_text(uint64_t number)
     case 17: return "NSON can't carry this event."; /* rule 10.17 */
     case 18: return "Arrays and objects are nested more than 16 deep."; /* rule 10.18 */
     case 19: return "There is no such tag or element, or nothing is kept in this slot."; /* rule 10.19 */
-    case 20: return "The text does not start with notepack_."; /* rule 10.20 */
+    case 20: /* rule 10.20 */
+        return "The text does not start with notepack_ (bare) or notepack1_ (versioned), whichever is asked for.";
     case 21: /* rule 10.21 */
-        return "What follows notepack_ is not base64: a character outside its alphabet, "
+        return "What follows notepack_ or notepack1_ is not base64: a character outside its alphabet, "
                "a lone last one, or leftover bits that are not zero.";
     case 22: return "The event's strict form is longer than 1,024 bytes, which is a cell of a table."; /* rule 10.22 */
     case 23: return "The table has no free slot for another event."; /* rule 10.23 */
     case 24: return "A varint is longer than its number needs."; /* rule 10.24 */
+    case 25: return "The packed event is said to be versioned, and does not start with 01."; /* rule 10.25 */
     case 34: /* rule 10.34 */
         return "The table is not as it must be: not of 64 slots and cells, "
                "or a used slot without a strict event to be kept, or with the name of another.";

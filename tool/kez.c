@@ -18,18 +18,22 @@
 enum { ACCEPTED = 0, REFUSED = 1, USAGE = 2 };
 
 static const char help[] =
-    "usage: kez COMMAND [--hex | --hex=in | --hex=out] [FILE] > OUTPUT\n"
-    "       kez keep [--hex] FIRST SECOND\n"
-    "       kez table [--json] [--hex] FILE [RECORD ..]\n"
+    "usage: kez COMMAND [--versioned] [--hex | --hex=in | --hex=out] [FILE] > OUTPUT\n"
+    "       kez keep [--versioned | --versioned=first | --versioned=second] [--hex] FIRST SECOND\n"
+    "       kez table [--json] [--versioned] [--hex] FILE [RECORD ..]\n"
     "       kez --help | --version\n"
     "\n"
     "  list [--all | --json]\n"
     "                the numbers of a packed event; --all: its fields and texts too, for people;\n"
     "                --json: all of it as plain JSON on one line, for programs\n"
     "  strict        is a packed event in its strict form? 'strict' or 'not strict'\n"
-    "  pack          the strict form of a packed event\n"
-    "  to-letter     the string form, for a letter or a mail: notepack_ and base64, one line\n"
-    "  from-letter   a string form as the packed event that it holds\n"
+    "  pack          the strict form of a packed event, bare\n"
+    "  to-versioned  a bare packed event with 01 in front, otherwise as it is\n"
+    "  to-bare       a versioned packed event without its 01, otherwise as it is\n"
+    "  to-letter     the string form, for a letter or a mail: notepack_ and base64, one line;\n"
+    "                --versioned: notepack1_ and base64, of an event with 01 in front\n"
+    "  from-letter   a string form as the packed event that it holds; --versioned: one that\n"
+    "                starts with notepack1_\n"
     "  canonical     the canonical text, over which the id is taken\n"
     "  check-id      is the id of a packed event the SHA-256 of its canonical text? 'belongs', or\n"
     "                'does not belong' and both: the id that stands there, and that of the text\n"
@@ -44,6 +48,9 @@ static const char help[] =
     "                what the table holds; --json: all that on one line, for programs\n"
     "\n"
     "  --hex         bytes are hexadecimal digits on both sides; =in, =out: on one side\n"
+    "  --versioned   packed events that are read are versioned: 01, then the bare bytes; with\n"
+    "                keep =first, =second: one of them. Without it they are bare, and which of\n"
+    "                the two they are can't be seen in them: whoever keeps a record has to know\n"
     "\n"
     "Without FILE, or where it is -, standard input is read. A packed event is notepack.\n"
     "Exit status: 0 accepted, 1 refused ('refused N at P: ..' on standard error, with the\n"
@@ -57,13 +64,27 @@ static int usage(const char *what, const char *word)
     return USAGE;
 }
 
-/* Bytes that were read, in memory that grows with them. */
+/* Bytes that were read, in memory that grows with them; of a packed event and of its string form also whether it is
+ * said to be bare. */
 typedef struct {
     uint8_t *at;
     size_t len, room;
+    uint64_t bare;
 } bytes;
 
-static bytes first, second;
+static bytes first = {.bare = KEZ_BARE}, second = {.bare = KEZ_BARE};
+
+/* How many bytes stand in front of the bare ones. */
+static size_t front(const bytes *b)
+{
+    return b->bare ? 0 : 1;
+}
+
+/* Reads a string form of the form that it is said to be of. */
+static kez_answer read_string(const bytes *b, uint8_t *to, size_t room)
+{
+    return (b->bare ? kez_notepack_string_read : kez_notepack_string_read_versioned)(b->at, b->len, to, room);
+}
 
 /* Can more bytes change the answer? One more than the library takes is kept, so that it can say that there are too
  * many. A string form has no limit: as often as the memory is full, the library is asked whether it has a fault. */
@@ -73,7 +94,7 @@ static int wants_more(const bytes *b)
         return b->len <= KEZ_MOST;
     if (b->len < b->room)
         return 1;
-    kez_answer a = kez_notepack_string_read(b->at, b->len, NULL, 0);
+    kez_answer a = read_string(b, NULL, 0);
     return a.refusal != 20 && (a.refusal != 21 || a.value == b->len);
 }
 
@@ -281,14 +302,19 @@ static void put_quoted(const uint8_t *at, size_t len)
     put_byte('"');
 }
 
-/* Refusals. What the input is decides how its place is shown. HELD is what a string form holds. */
-enum { PACKED, NSON, JSON, STRING, HELD };
+/* Refusals. What the input is decides how its place is shown. HELD is what a string form holds, MOVED what is to get a
+ * 01 in front or to lose it. */
+enum { PACKED, NSON, JSON, STRING, HELD, MOVED };
 
 /* What can be done about it, where the sentence alone does not say. */
 static const char *advice(uint64_t refusal, int input)
 {
     switch (refusal) {
-    case 1: return input == STRING ? "A string form has at most 87,391 characters." : NULL;
+    case 1:
+        return input == STRING  ? "A string form has at most 87,391 characters, one that starts with notepack1_ 87,392."
+               : input == MOVED ? "A versioned record has at most 65,536 bytes, its 01 counted. A bare one of 65,536 "
+                                  "bytes stays bare."
+                                : NULL;
     case 2:
     case 4: return "Was the whole record read? Hexadecimal digits need --hex.";
     case 10:
@@ -311,6 +337,9 @@ static const char *advice(uint64_t refusal, int input)
     case 24:
         return "Either the tool that wrote it pads its numbers, and its maker has to mend that, or the record is "
                "damaged: ask for it anew. Nothing is repaired here.";
+    case 25:
+        return "A versioned record starts with 01, the only version there is. This is no record, or its first byte was "
+               "lost or changed: ask for it anew.";
     default: return NULL;
     }
 }
@@ -482,12 +511,21 @@ static void tell_piece(uint64_t place)
 /* A string form: why it does not start with its prefix, which character does not belong there, what is wrong at its
  * end. */
 
-static const char prefix[] = "notepack_";
-enum { PREFIX = sizeof prefix - 1 };
-
-static int starts(const uint8_t *at, size_t len)
+static const char *prefix_of(uint64_t bare)
 {
-    return len >= PREFIX && !memcmp(at, prefix, PREFIX);
+    return bare ? "notepack_" : "notepack1_";
+}
+
+/* Does a string form of this form start here? */
+static int starts(const uint8_t *at, size_t len, uint64_t bare)
+{
+    size_t prefix = strlen(prefix_of(bare));
+    return len >= prefix && !memcmp(at, prefix_of(bare), prefix);
+}
+
+static int starts_any(const uint8_t *at, size_t len)
+{
+    return starts(at, len, KEZ_BARE) || starts(at, len, KEZ_VERSIONED);
 }
 
 /* How much of the prefix is needed in front to make the text a string form that the library reads? 0: none does. White
@@ -495,24 +533,27 @@ static int starts(const uint8_t *at, size_t len)
 static int part_missing(const bytes *b)
 {
     static uint8_t event[KEZ_MOST];
-    size_t len = b->len;
-    uint8_t *text = malloc(PREFIX + len);
-    int found = 0;
+    const char *prefix = prefix_of(b->bare);
+    size_t len = b->len, all_of_it = strlen(prefix);
+    uint8_t *text = malloc(all_of_it + len);
+    size_t found = 0;
     while (len && is_space(b->at[len - 1]))
         len--;
-    for (int i = 1; text && !found && i <= PREFIX; i++) {
+    for (size_t i = 1; text && !found && i <= all_of_it; i++) {
+        bytes whole = {text, i + len, i + len, b->bare};
         memcpy(text, prefix, i);
         memcpy(text + i, b->at, len);
-        found = kez_notepack_string_read(text, i + len, event, sizeof event).refusal ? 0 : i;
+        found = read_string(&whole, event, sizeof event).refusal ? 0 : i;
     }
     free(text);
-    return found;
+    return (int)found;
 }
 
-static int is_packed(const bytes *b)
+/* Are the bytes a packed event of this form? */
+static int is_packed(const bytes *b, uint64_t bare)
 {
     uint64_t n[5];
-    return !kez_notepack_read(b->at, b->len, &n[0], &n[1], &n[2], &n[3], &n[4]).refusal;
+    return !kez_notepack_read(b->at, b->len, bare, &n[0], &n[1], &n[2], &n[3], &n[4]).refusal;
 }
 
 /* The prefix stands further behind: in which line and column, both from 1 on. */
@@ -523,28 +564,41 @@ static void tell_later(const bytes *b, size_t place)
         line += b->at[i] == '\n';
         column = b->at[i] == '\n' ? 1 : column + (b->at[i] >> 6 != 2);
     }
-    fprintf(stderr, "     notepack_ stands in line %zu, column %zu. Cut off what is in front: tail -c +%zu FILE\n",
-            line, column, place + 1);
+    fprintf(stderr, "     %s stands in line %zu, column %zu. Cut off what is in front: tail -c +%zu FILE\n",
+            prefix_of(b->bare), line, column, place + 1);
+}
+
+/* The text is a string form of the other form. */
+static void tell_other(const bytes *b)
+{
+    fprintf(stderr, b->bare ? "     It starts with notepack1_, as the string form of a versioned record does: "
+                              "from-letter --versioned reads these.\n"
+                            : "     It starts with notepack_, as the string form of a bare record does: "
+                              "from-letter without --versioned reads these.\n");
 }
 
 static void tell_prefix(const bytes *b)
 {
-    const uint8_t *later = memmem(b->at, b->len, prefix, PREFIX);
+    const char *prefix = prefix_of(b->bare);
+    size_t len = strlen(prefix);
+    const uint8_t *later = memmem(b->at, b->len, prefix, len);
     int part;
-    if (later)
+    if (starts(b->at, b->len, !b->bare))
+        tell_other(b);
+    else if (later)
         tell_later(b, later - b->at);
-    else if (b->len < PREFIX && !memcmp(b->at, prefix, b->len))
-        fprintf(stderr, "     The text ends inside notepack_: was all of it copied?\n");
-    else if (b->len >= PREFIX && !strncasecmp((const char *)b->at, prefix, PREFIX))
+    else if (b->len < len && !memcmp(b->at, prefix, b->len))
+        fprintf(stderr, "     The text ends inside %s: was all of it copied?\n", prefix);
+    else if (b->len >= len && !strncasecmp((const char *)b->at, prefix, len))
         fprintf(stderr, "     Capitals were changed on the way, perhaps in all of the text: ask for it anew.\n");
     else if ((part = part_missing(b)))
         fprintf(stderr, "     Its start was not copied along: with '%.*s' in front it is read.\n", part, prefix);
-    else if (is_packed(b))
+    else if (is_packed(b, KEZ_BARE) || is_packed(b, KEZ_VERSIONED))
         fprintf(stderr, "     These are packed bytes, and no text: the other commands read them.\n");
     else if (memmem(b->at, b->len, "n\0o\0t\0e\0p", 9))
         fprintf(stderr, "     The text is in UTF-16, with 00 between its characters: save it as UTF-8.\n");
     else
-        fprintf(stderr, "     A string form is notepack_ and base64, with nothing in front.\n");
+        fprintf(stderr, "     A string form is %s and base64, with nothing in front.\n", prefix);
 }
 
 static int is_line_end(int c)
@@ -582,9 +636,10 @@ static void tell_character(const bytes *b, size_t place)
 /* No character is outside the alphabet, but the last ones hold no whole byte. */
 static void tell_end(const bytes *b)
 {
-    size_t count = b->len - PREFIX;
+    const char *prefix = prefix_of(b->bare);
+    size_t count = b->len - strlen(prefix);
     if (count % 4 == 1)
-        fprintf(stderr, "     Behind notepack_ stand %zu characters, and base64 never has so many.\n", count);
+        fprintf(stderr, "     Behind %s stand %zu characters, and base64 never has so many.\n", prefix, count);
     else
         fprintf(stderr, "     The last character, '%c', has bits left over that are not zero.\n", b->at[b->len - 1]);
 }
@@ -597,12 +652,19 @@ static size_t behind_space(const bytes *b, size_t place, int padding)
     return place;
 }
 
+/* Does the last character of a second text's prefix stand here? */
+static int ends_prefix(const bytes *b, size_t place, uint64_t bare)
+{
+    size_t len = strlen(prefix_of(bare));
+    return place >= strlen(prefix_of(b->bare)) + len - 1 && starts(b->at + place - (len - 1), len, bare);
+}
+
 /* Does a second text start here, behind white space or at the end of its prefix? */
 static int is_second(const bytes *b, size_t place)
 {
     size_t behind = behind_space(b, place, 0);
-    return starts(b->at + behind, b->len - behind) ||
-           (place >= 2 * PREFIX - 1 && starts(b->at + place - (PREFIX - 1), PREFIX));
+    return starts_any(b->at + behind, b->len - behind) || ends_prefix(b, place, KEZ_BARE) ||
+           ends_prefix(b, place, KEZ_VERSIONED);
 }
 
 /* What can be done about refusal 21. */
@@ -622,7 +684,7 @@ static const char *string_advice(const bytes *b, size_t place)
     if (c == '=' && behind_space(b, place, 1) == b->len)
         return "This form has no padding. Take it off: tr -d '=[:space:]' < FILE | kez from-letter";
     if (c == '-' || c == '_')
-        return "If the sender used the URL-safe alphabet, write + for - and / for _ behind notepack_.";
+        return "If the sender used the URL-safe alphabet, write + for - and / for _ behind the prefix.";
     return "Base64 has A-Z, a-z, 0-9, + and / alone. Was something pasted along, or a character changed?";
 }
 
@@ -631,14 +693,16 @@ static void tell_column(const bytes *held, uint64_t place)
 {
     fprintf(stderr, "     These are the bytes that the text holds");
     if (place < held->len)
-        fprintf(stderr, "; byte %" PRIu64 " starts in column %" PRIu64, place, PREFIX + 8 * place / 6 + 1);
+        fprintf(stderr, "; byte %" PRIu64 " starts in column %" PRIu64, place,
+                strlen(prefix_of(held->bare)) + 8 * place / 6 + 1);
     fprintf(stderr, ".\n");
 }
 
 /* The length of the strict form, told by lending no room for it. */
 static void tell_length(const bytes *b)
 {
-    fprintf(stderr, "     Its strict form has %" PRIu64 " bytes.\n", kez_notepack_write(b->at, b->len, NULL, 0).value);
+    fprintf(stderr, "     Its strict form has %" PRIu64 " bytes.\n",
+            kez_notepack_write(b->at, b->len, b->bare, NULL, 0).value);
 }
 
 static void tell_lack(const bytes *b, kez_answer a, int input)
@@ -693,19 +757,51 @@ static void show_place(const bytes *b, uint64_t place, int is_text)
     fprintf(stderr, "     %*s%s byte %" PRIu64 " of %zu\n", mark, "", is_text ? "^" : "^^", place, b->len);
 }
 
+/* What was said of a packed event may be wrong: do the bytes read well in the other form? That is asked of what is
+ * refused alone; bytes that are read as they are said to be may be of the other form all the same. */
+static int reads_otherwise(const bytes *b, kez_answer a)
+{
+    return ((a.refusal >= 2 && a.refusal <= 10) || a.refusal >= 24) && is_packed(b, !b->bare);
+}
+
+static const char *other_word(const bytes *b, int input)
+{
+    if (b->bare)
+        return input == MOVED
+                   ? "It starts with 01, and as a versioned record it is read. If it is one, it has its 01 already."
+                   : "It starts with 01, and as a versioned record it is read. If it is one, say --versioned.";
+    return input == MOVED ? "As a bare record it is read. If it is one, it has no 01 that could be taken off."
+                          : "As a bare record it is read. If it is one, leave --versioned out.";
+}
+
 static const char *what_to_do(const bytes *b, kez_answer a, int input)
 {
+    if ((input == PACKED || input == MOVED) && reads_otherwise(b, a))
+        return other_word(b, input);
     if (a.refusal == 24)
         return advice(a.refusal, input);
+    if (input == HELD && a.refusal == 25 && is_packed(b, KEZ_BARE))
+        return "What it holds is a bare record, and a text that starts with notepack1_ holds a versioned one: tell the "
+               "sender.";
     if (input == HELD)
         return b->len ? "The text is base64, but the record in it is damaged: characters are missing, added or "
                         "changed. Ask for it anew."
-                      : "Nothing stands behind notepack_: was all of the text copied?";
+                      : "Nothing stands behind the prefix: was all of the text copied?";
     if (!b->len)
         return "The input is empty: is it the right file?";
-    if (input != STRING && starts(b->at, b->len))
+    if (input != STRING && starts(b->at, b->len, KEZ_BARE))
         return "It starts with notepack_, as a string form does: from-letter reads these.";
+    if (input != STRING && starts(b->at, b->len, KEZ_VERSIONED))
+        return "It starts with notepack1_, as a string form does: from-letter --versioned reads these.";
     return a.refusal == 21 ? string_advice(b, (size_t)a.value) : advice(a.refusal, input);
+}
+
+/* Advice that ends with the command to be called gets the word that it needs. */
+static const char *word_behind(const bytes *b, const char *what)
+{
+    static const char command[] = "kez from-letter";
+    size_t len = strlen(what), end = sizeof command - 1;
+    return !b->bare && len > end && !strcmp(what + len - end, command) ? " --versioned" : "";
 }
 
 static void tell_refusal(kez_answer a)
@@ -718,11 +814,11 @@ static int refused(const bytes *b, kez_answer a, int input)
     const char *what = what_to_do(b, a, input);
     tell_refusal(a);
     if (has_place(a.refusal) && a.value <= b->len)
-        show_place(b, a.value, input != PACKED && input != HELD);
+        show_place(b, a.value, input == NSON || input == JSON || input == STRING);
     if (b->len)
         tell_lack(b, a, input);
     if (what)
-        fprintf(stderr, "     %s\n", what);
+        fprintf(stderr, "     %s%s\n", what, word_behind(b, what));
     return REFUSED;
 }
 
@@ -754,7 +850,7 @@ static uint8_t list[KEZ_ELEMENTS_MOST];
 
 static void put_tags(const frame *f, int numbered)
 {
-    uint64_t count = kez_notepack_elements(first.at, first.len, 0, list, sizeof list).value;
+    uint64_t count = kez_notepack_elements(first.at, first.len, first.bare, 0, list, sizeof list).value;
     for (uint64_t i = 0; i < count; i++) {
         const uint8_t *e = list + i * KEZ_ELEMENT_BYTES;
         uint32_t tag = number_at(e);
@@ -782,7 +878,9 @@ static int do_list(void)
 {
     static const frame lines = {"tag", "\n", "", " "}, arrays = {"[", "]", ",", ","};
     uint64_t created_at, kind, content_at, content_len, tags;
-    kez_answer a = kez_notepack_read(first.at, first.len, &created_at, &kind, &content_at, &content_len, &tags);
+    const uint8_t *fixed = first.at + front(&first);
+    kez_answer a = kez_notepack_read(first.at, first.len, first.bare, &created_at, &kind, &content_at, &content_len,
+                                     &tags);
     if (a.refusal)
         return refused(&first, a, PACKED);
     if (json)
@@ -791,9 +889,9 @@ static int do_list(void)
         put("created_at %" PRIu64 "\nkind %" PRIu64 "\ncontent %" PRIu64 "\ntags %" PRIu64 "\n", created_at, kind,
             content_len, tags);
     if (json || all) {
-        put_named("id", first.at + KEZ_ID_AT, KEZ_ID_LEN);
-        put_named("pubkey", first.at + KEZ_PUBKEY_AT, KEZ_PUBKEY_LEN);
-        put_named("sig", first.at + KEZ_SIG_AT, KEZ_SIG_LEN);
+        put_named("id", fixed + KEZ_ID_AT, KEZ_ID_LEN);
+        put_named("pubkey", fixed + KEZ_PUBKEY_AT, KEZ_PUBKEY_LEN);
+        put_named("sig", fixed + KEZ_SIG_AT, KEZ_SIG_LEN);
         put(json ? "\"content\":" : "content ");
         put_quoted(first.at + content_at, content_len);
         put(json ? ",\"tags\":[" : "\n");
@@ -807,24 +905,27 @@ static int do_list(void)
 static uint8_t out[KEZ_CANONICAL_MOST];
 
 typedef kez_answer writer(const uint8_t *, size_t, uint8_t *, size_t);
+typedef kez_answer packed_writer(const uint8_t *, size_t, uint64_t, uint8_t *, size_t);
 
-/* Where the strict form first differs: in an element's word. Both have that byte: no event goes on behind its end. */
+/* Where the strict form first differs: in an element's word. Both have that byte: no event goes on behind its end. The
+ * strict form is bare; the place counts in the bytes as they are. */
 static void tell_difference(void)
 {
+    const uint8_t *bare = first.at + front(&first);
     size_t at = 0;
-    uint64_t len = kez_notepack_write(first.at, first.len, out, sizeof out).value;
-    while (at < len && out[at] == first.at[at])
+    uint64_t len = kez_notepack_write(first.at, first.len, first.bare, out, sizeof out).value;
+    while (at < len && out[at] == bare[at])
         at++;
     if (at == len)
         return;
-    fprintf(stderr, "the strict form differs first at byte %zu, an element's word, where it has %02x for %02x\n", at,
-            out[at], first.at[at]);
-    show_place(&first, at, 0);
+    fprintf(stderr, "the strict form differs first at byte %zu, an element's word, where it has %02x for %02x\n",
+            front(&first) + at, out[at], bare[at]);
+    show_place(&first, front(&first) + at, 0);
 }
 
 static int do_strict(void)
 {
-    kez_answer a = kez_notepack_is_strict(first.at, first.len);
+    kez_answer a = kez_notepack_is_strict(first.at, first.len, first.bare);
     if (a.refusal)
         return refused(&first, a, PACKED);
     put(a.value ? "strict\n" : "not strict\n");
@@ -841,17 +942,17 @@ static int do_strict(void)
 static void put_ids(void)
 {
     uint8_t state[KEZ_SHA256_STATE], digest[KEZ_SHA256_DIGEST];
-    uint64_t len = kez_canonical_write(first.at, first.len, out, sizeof out).value;
+    uint64_t len = kez_canonical_write(first.at, first.len, first.bare, out, sizeof out).value;
     kez_sha256_start(state, sizeof state);
     kez_sha256_add(state, sizeof state, out, len);
     kez_sha256_finish(state, sizeof state, digest, sizeof digest);
-    put_named("id", first.at + KEZ_ID_AT, KEZ_ID_LEN);
+    put_named("id", first.at + front(&first) + KEZ_ID_AT, KEZ_ID_LEN);
     put_named("SHA-256", digest, sizeof digest);
 }
 
 static int do_check_id(void)
 {
-    kez_answer a = kez_id_belongs(first.at, first.len);
+    kez_answer a = kez_id_belongs(first.at, first.len, first.bare);
     if (a.refusal)
         return refused(&first, a, PACKED);
     put(a.value ? "belongs\n" : "does not belong\n");
@@ -860,13 +961,23 @@ static int do_check_id(void)
     return ACCEPTED;
 }
 
-static int do_write(writer *entry, int input, int to_text)
+/* What an entry wrote to out, or why it did not. */
+static int wrote(kez_answer a, int input, int to_text)
 {
-    kez_answer a = entry(first.at, first.len, out, sizeof out);
     if (a.refusal)
         return refused(&first, a, input);
     put_output(out, a.value, to_text);
     return ACCEPTED;
+}
+
+static int do_write(writer *entry, int input)
+{
+    return wrote(entry(first.at, first.len, out, sizeof out), input, 0);
+}
+
+static int do_write_packed(packed_writer *entry, int to_text)
+{
+    return wrote(entry(first.at, first.len, first.bare, out, sizeof out), PACKED, to_text);
 }
 
 /* The bytes that base64 without a fault holds; their number. */
@@ -883,26 +994,32 @@ static size_t decode(const uint8_t *at, size_t len, uint8_t *to)
     return count;
 }
 
-/* Refusals 2 to 10 and 24 are of the bytes that the text holds, and their places are in these. */
+/* Refusals 2 to 10, 24 and 25 are of the bytes that the text holds, and their places are in these. */
 static int do_from_string(void)
 {
-    kez_answer a = kez_notepack_string_read(first.at, first.len, out, sizeof out);
-    if ((a.refusal >= 2 && a.refusal <= 10) || a.refusal == 24) {
-        bytes held = {out, decode(first.at + PREFIX, first.len - PREFIX, out), sizeof out};
+    size_t prefix = strlen(prefix_of(first.bare));
+    kez_answer a = read_string(&first, out, sizeof out);
+    if ((a.refusal >= 2 && a.refusal <= 10) || a.refusal == 24 || a.refusal == 25) {
+        bytes held = {out, decode(first.at + prefix, first.len - prefix, out), sizeof out, first.bare};
         return refused(&held, a, HELD);
     }
-    if (a.refusal)
-        return refused(&first, a, STRING);
-    put_output(out, a.value, 0);
-    return ACCEPTED;
+    return wrote(a, STRING, 0);
 }
 
-static int do_pack(void) { return do_write(kez_notepack_write, PACKED, 0); }
-static int do_to_string(void) { return do_write(kez_notepack_string_write, PACKED, 1); }
-static int do_canonical(void) { return do_write(kez_canonical_write, PACKED, 1); }
-static int do_to_nson(void) { return do_write(kez_nson_write, PACKED, 1); }
-static int do_from_nson(void) { return do_write(kez_nson_read, NSON, 0); }
-static int do_from_json(void) { return do_write(kez_json_read, JSON, 0); }
+/* The direction says which form is read. */
+static int do_to_bare(void)
+{
+    first.bare = KEZ_VERSIONED;
+    return do_write(kez_bare_from_versioned, MOVED);
+}
+
+static int do_pack(void) { return do_write_packed(kez_notepack_write, 0); }
+static int do_to_versioned(void) { return do_write(kez_versioned_from_bare, MOVED); }
+static int do_to_string(void) { return do_write_packed(kez_notepack_string_write, 1); }
+static int do_canonical(void) { return do_write_packed(kez_canonical_write, 1); }
+static int do_to_nson(void) { return do_write_packed(kez_nson_write, 1); }
+static int do_from_nson(void) { return do_write(kez_nson_read, NSON); }
+static int do_from_json(void) { return do_write(kez_json_read, JSON); }
 
 static int do_both(void)
 {
@@ -924,13 +1041,13 @@ static int do_both(void)
 static int do_keep(void)
 {
     static const char *const told[] = {"not rivals", "first", "second"};
-    kez_answer a = kez_rivals(first.at, first.len, second.at, second.len);
+    kez_answer a = kez_rivals(first.at, first.len, first.bare, second.at, second.len, second.bare);
     if (!a.refusal) {
         put("%s\n", told[a.value]);
         return ACCEPTED;
     }
     /* the place is in the input that is refused */
-    int of_first = kez_rivals_refused(first.at, first.len) == 1;
+    int of_first = kez_rivals_refused(first.at, first.len, first.bare) == 1;
     fprintf(stderr, of_first ? "the first: " : "the second: ");
     return refused(of_first ? &first : &second, a, PACKED);
 }
@@ -953,7 +1070,7 @@ static size_t slots_len(void)
 static kez_answer offer(const bytes *b)
 {
     size_t len = slots_len();
-    return kez_table_offer(table, len, table + len, table_len - len, b->at, b->len);
+    return kez_table_offer(table, len, table + len, table_len - len, b->at, b->len, b->bare);
 }
 
 /* The event that is kept in this slot. */
@@ -962,7 +1079,7 @@ static kez_answer kept(uint64_t slot, bytes *b)
     size_t slots = slots_len();
     uint64_t at = 0, len = 0;
     kez_answer a = kez_table_slot(table, slots, table + slots, table_len - slots, slot, &at, &len);
-    *b = (bytes){table + slots + at, (size_t)len, (size_t)len};
+    *b = (bytes){table + slots + at, (size_t)len, (size_t)len, KEZ_BARE};
     return a;
 }
 
@@ -982,6 +1099,7 @@ static int said(uint64_t slot, bytes *b, uint64_t *len)
     *len = number_at(at) | (uint64_t)number_at(at + 4) << 32;
     b->at = table + KEZ_SLOTS_BYTES + slot * KEZ_CELL_BYTES;
     b->len = b->room = *len < KEZ_CELL_BYTES ? (size_t)*len : KEZ_CELL_BYTES;
+    b->bare = KEZ_BARE;
     return table[slot * KEZ_SLOT_BYTES];
 }
 
@@ -994,7 +1112,7 @@ static int has_label(uint64_t kind)
  * the empty text. */
 static const uint8_t *label(const bytes *b)
 {
-    uint64_t count = kez_notepack_elements(b->at, b->len, 0, list, sizeof list).value;
+    uint64_t count = kez_notepack_elements(b->at, b->len, b->bare, 0, list, sizeof list).value;
     for (uint64_t i = 0; i < count; i++) {
         const uint8_t *e = list + i * KEZ_ELEMENT_BYTES;
         int heads = !i || number_at(e - KEZ_ELEMENT_BYTES) != number_at(e);
@@ -1004,20 +1122,25 @@ static const uint8_t *label(const bytes *b)
     return NULL;
 }
 
+/* Which of two kept events would be kept? They are bare. */
+static uint64_t choice(const bytes *a, const bytes *b)
+{
+    return kez_rivals(a->at, a->len, KEZ_BARE, b->at, b->len, KEZ_BARE).value;
+}
+
 /* Are these two strict events kept under one name: one key, or, both without a key, one id? */
 static int same_name(const bytes *a, const bytes *b)
 {
-    return kez_rivals(a->at, a->len, b->at, b->len).value ||
-           (!kez_rivals(a->at, a->len, a->at, a->len).value && !kez_rivals(b->at, b->len, b->at, b->len).value &&
-            !memcmp(a->at + KEZ_ID_AT, b->at + KEZ_ID_AT, KEZ_ID_LEN));
+    return choice(a, b) ||
+           (!choice(a, a) && !choice(b, b) && !memcmp(a->at + KEZ_ID_AT, b->at + KEZ_ID_AT, KEZ_ID_LEN));
 }
 
 /* Is this a strict event of a kind that is kept? */
 static int is_fit(const bytes *b)
 {
     uint64_t kind = 0, n[4];
-    kez_answer a = kez_notepack_read(b->at, b->len, &n[0], &kind, &n[1], &n[2], &n[3]);
-    return !a.refusal && (kind < 20000 || kind > 29999) && kez_notepack_is_strict(b->at, b->len).value;
+    kez_answer a = kez_notepack_read(b->at, b->len, b->bare, &n[0], &kind, &n[1], &n[2], &n[3]);
+    return !a.refusal && (kind < 20000 || kind > 29999) && kez_notepack_is_strict(b->at, b->len, b->bare).value;
 }
 
 /* The lowest other slot with an event of the same name. */
@@ -1044,14 +1167,14 @@ static int tell_slot(uint64_t slot)
     bytes b, other;
     uint64_t len, kind = 0, n[4];
     said(slot, &b, &len);
-    kez_answer a = kez_notepack_read(b.at, b.len, &n[0], &kind, &n[1], &n[2], &n[3]);
+    kez_answer a = kez_notepack_read(b.at, b.len, b.bare, &n[0], &kind, &n[1], &n[2], &n[3]);
     fprintf(stderr, "     Slot %" PRIu64, slot);
     if (len > KEZ_CELL_BYTES) {
         fprintf(stderr, " says %" PRIu64 " bytes, and a cell has %d.\n", len, KEZ_CELL_BYTES);
     } else if (a.refusal) {
         fprintf(stderr, " says %" PRIu64 " bytes, and these are no packed event: ", len);
         tell_refusal(a);
-    } else if (!kez_notepack_is_strict(b.at, b.len).value) {
+    } else if (!kez_notepack_is_strict(b.at, b.len, b.bare).value) {
         fprintf(stderr, " has a packed event that is not in its strict form.\n");
     } else if (kind >= 20000 && kind <= 29999) {
         fprintf(stderr, " has an event of kind %" PRIu64 ", and these are never kept.\n", kind);
@@ -1181,8 +1304,8 @@ static void put_field(const bytes *b, const char *name, size_t at, size_t len)
 static void put_kept(uint64_t slot, const bytes *b)
 {
     uint64_t created_at = 0, kind = 0, n[3];
-    kez_notepack_read(b->at, b->len, &created_at, &kind, &n[0], &n[1], &n[2]);
-    int has_key = kez_rivals(b->at, b->len, b->at, b->len).value != 0;
+    kez_notepack_read(b->at, b->len, b->bare, &created_at, &kind, &n[0], &n[1], &n[2]);
+    int has_key = choice(b, b) != 0;
     put(json ? "{\"slot\":%" PRIu64 ",\"kind\":%" PRIu64 ",\"created_at\":%" PRIu64 ",\"length\":%zu"
              : "slot %" PRIu64 " kind %" PRIu64 " created_at %" PRIu64 " length %zu",
         slot, kind, created_at, b->len);
@@ -1290,8 +1413,10 @@ static int do_table(void)
     bytes *records = calloc((size_t)named, sizeof *records);
     kez_answer *answers = calloc((size_t)named, sizeof *answers);
     char *path = realpath(files[0], NULL);
-    for (int i = 0; records && answers && good && i < count; i++)
+    for (int i = 0; records && answers && good && i < count; i++) {
+        records[i].bare = first.bare; /* said of all of them */
         good = read_file(&records[i], files[i + 1]);
+    }
     if (!records || !answers)
         good = failed("there is no memory for so many records");
     return good ? run_table(path ? path : files[0], records, answers, count) : USAGE;
@@ -1305,11 +1430,11 @@ typedef struct {
 
 /* one file may be named, or none; with keep two must be; with table one or more */
 static const command commands[] = {
-    {"list", 1, do_list},           {"strict", 1, do_strict},           {"pack", 1, do_pack},
-    {"to-letter", 1, do_to_string}, {"from-letter", 1, do_from_string}, {"canonical", 1, do_canonical},
-    {"check-id", 1, do_check_id},   {"to-nson", 1, do_to_nson},         {"from-nson", 1, do_from_nson},
-    {"from-json", 1, do_from_json}, {"both", 1, do_both},               {"keep", 2, do_keep},
-    {"table", INT_MAX, do_table},
+    {"list", 1, do_list},           {"strict", 1, do_strict},             {"pack", 1, do_pack},
+    {"to-bare", 1, do_to_bare},     {"to-versioned", 1, do_to_versioned}, {"canonical", 1, do_canonical},
+    {"to-letter", 1, do_to_string}, {"from-letter", 1, do_from_string},   {"check-id", 1, do_check_id},
+    {"to-nson", 1, do_to_nson},     {"from-nson", 1, do_from_nson},       {"from-json", 1, do_from_json},
+    {"both", 1, do_both},           {"keep", 2, do_keep},                 {"table", INT_MAX, do_table},
 };
 
 static const command *find(const char *name)
@@ -1320,9 +1445,35 @@ static const command *find(const char *name)
     return NULL;
 }
 
+/* Does the command read packed events, or string forms, of either form? */
+static int takes_forms(const command *c)
+{
+    return c->run != do_to_bare && c->run != do_to_versioned && c->run != do_from_nson && c->run != do_from_json &&
+           c->run != do_both;
+}
+
+/* What is said of the packed events that are read; 0: it can't be said of these. */
+static int said_versioned(const char *which, const command *c)
+{
+    if (!takes_forms(c) || (*which && c->run != do_keep))
+        return 0;
+    if (!*which)
+        first.bare = second.bare = KEZ_VERSIONED;
+    else if (!strcmp(which, "=first"))
+        first.bare = KEZ_VERSIONED;
+    else if (!strcmp(which, "=second"))
+        second.bare = KEZ_VERSIONED;
+    else
+        return 0;
+    return 1;
+}
+
 /* Takes an option; 0: there is no such option. */
 static int option(const char *word, const command *c)
 {
+    static const char versioned[] = "--versioned";
+    if (c && !strncmp(word, versioned, sizeof versioned - 1))
+        return said_versioned(word + sizeof versioned - 1, c);
     if (!strcmp(word, "--hex"))
         hex_in = hex_out = 1;
     else if (!strcmp(word, "--hex=in"))

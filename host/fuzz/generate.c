@@ -164,12 +164,24 @@ static void put_base64(input *to, const uint8_t *at, size_t len)
         put_byte(to, alphabet[bits >> (18 - 6 * i) & 63]);
 }
 
+/* A packed record behind 01; now and then behind another byte. */
+static void put_versioned(input *to, const record *r)
+{
+    put_byte(to, percent(95) ? 1 : (int)draw(256));
+    put_packed(to, r);
+}
+
+/* The string form of a bare record or of a versioned one; now and then with the other's prefix. */
 static void put_string(input *to, const record *r)
 {
     static input packed;
+    int versioned = percent(40);
     packed.len = 0;
-    put_packed(&packed, r);
-    put_words(to, percent(98) ? "notepack_" : "notepack-");
+    if (versioned)
+        put_versioned(&packed, r);
+    else
+        put_packed(&packed, r);
+    put_words(to, percent(2) ? "notepack-" : versioned == percent(97) ? "notepack1_" : "notepack_");
     for (size_t i = 0; i < packed.len; i += 3)
         put_base64(to, packed.at + i, packed.len - i < 3 ? packed.len - i : 3);
     if (percent(5))
@@ -394,10 +406,11 @@ static void make_long(record *r)
 static void spell(input *to, const record *r)
 {
     to->len = 0;
-    switch (draw(5)) {
-    case 0: put_nson(to, r); break;
-    case 1: put_json(to, r); break;
-    case 2: put_string(to, r); break;
+    switch (draw(11)) {
+    case 0: case 1: put_nson(to, r); break;
+    case 2: case 3: put_json(to, r); break;
+    case 4: case 5: put_string(to, r); break;
+    case 6: put_versioned(to, r); break;
     default: put_packed(to, r); break;
     }
     if (percent(60))

@@ -16,7 +16,8 @@
 
 enum {
     READ, STRICT, PACK, TAG_LEN, ELEMENT, ELEMENTS, CANONICAL, NSON_WRITE, NSON_READ, JSON_READ, READ_BOTH, RIVALS,
-    STRING_WRITE, STRING_READ, TABLE_EMPTY, TABLE_OFFER, TABLE_SLOT, SHA256_START, SHA256_ADD, SHA256_FINISH, ID_BELONGS
+    STRING_WRITE, STRING_READ, TABLE_EMPTY, TABLE_OFFER, TABLE_SLOT, SHA256_START, SHA256_ADD, SHA256_FINISH,
+    ID_BELONGS, TO_VERSIONED, TO_BARE, STRING1_READ
 };
 
 const char *const entry_names[ENTRIES] = {
@@ -24,6 +25,7 @@ const char *const entry_names[ENTRIES] = {
     "kez_notepack_elements", "kez_canonical_write", "kez_nson_write", "kez_nson_read", "kez_json_read", "kez_read_both",
     "kez_rivals", "kez_notepack_string_write", "kez_notepack_string_read", "kez_table_empty", "kez_table_offer",
     "kez_table_slot", "kez_sha256_start", "kez_sha256_add", "kez_sha256_finish", "kez_id_belongs",
+    "kez_versioned_from_bare", "kez_bare_from_versioned", "kez_notepack_string_read_versioned",
 };
 
 void (*answered)(int entry, uint64_t refusal, uint64_t value);
@@ -31,6 +33,7 @@ void (*answered)(int entry, uint64_t refusal, uint64_t value);
 /* What goes wrong ends the process, with the input. */
 
 static int current; /* the entry */
+static uint64_t said = KEZ_BARE; /* of a packed input */
 static const uint8_t *given;
 static size_t given_len;
 
@@ -58,6 +61,12 @@ static uint64_t roll(uint64_t below)
     z = (z ^ (z >> 30)) * UINT64_C(0xbf58476d1ce4e5b9);
     z = (z ^ (z >> 27)) * UINT64_C(0x94d049bb133111eb);
     return (z ^ (z >> 31)) % below;
+}
+
+/* What is said, as a number for the call: any but 0 says that an event is bare. */
+static uint64_t word(void)
+{
+    return !said ? KEZ_VERSIONED : roll(4) ? KEZ_BARE : UINT64_C(1) << roll(64);
 }
 
 /* Lent buffers */
@@ -128,7 +137,8 @@ static void unchanged(const buffer *b, size_t written, const char *what)
 }
 
 /* The refusals that the header allows each entry, one bit for each number. */
-enum { PACKED_ONES = 0x7fe | 1 << 24, ROOM = 1 << 11, NO_SUCH = 1 << 19, NOT_CARRIED = 1 << 17 };
+enum { BARE_ONES = 0x7fe | 1 << 24, PACKED_ONES = BARE_ONES | 1 << 25 };
+enum { ROOM = 1 << 11, NO_SUCH = 1 << 19, NOT_CARRIED = 1 << 17 };
 #define BAD_TABLE (UINT64_C(1) << 34)
 #define TOO_MUCH (UINT64_C(1) << 35)
 static const uint64_t allowed[ENTRIES] = {
@@ -145,7 +155,10 @@ static const uint64_t allowed[ENTRIES] = {
     [READ_BOTH] = 1 << 1 | 0x7e0 | 1 << 12 | 1 << 14 | 1 << 15 | 1 << 16 | 1 << 18 | ROOM,
     [RIVALS] = PACKED_ONES,
     [STRING_WRITE] = PACKED_ONES | ROOM,
-    [STRING_READ] = 1 << 20 | 1 << 21 | PACKED_ONES | ROOM,
+    [STRING_READ] = 1 << 20 | 1 << 21 | BARE_ONES | ROOM,
+    [STRING1_READ] = 1 << 20 | 1 << 21 | PACKED_ONES | ROOM,
+    [TO_VERSIONED] = BARE_ONES | ROOM,
+    [TO_BARE] = PACKED_ONES | ROOM,
     [TABLE_EMPTY] = BAD_TABLE,
     [TABLE_OFFER] = BAD_TABLE | PACKED_ONES | 1 << 22 | 1 << 23,
     [TABLE_SLOT] = BAD_TABLE | NO_SUCH,
@@ -167,6 +180,7 @@ static kez_answer checked(kez_answer a)
     unchanged(&in_first, 0, "changes its input");
     must(a.refusal <= REFUSALS, "has a refusal that does not exist");
     must(!a.refusal || (allowed[current] >> a.refusal & 1), "has a refusal of another entry");
+    must(a.refusal != 25 || !said || current == TO_BARE || current == STRING1_READ, "asks a bare event for its 01");
     size_t longest = current == RIVALS && in_second.len > in_first.len ? in_second.len : in_first.len;
     size_t last = a.refusal == 34 ? KEZ_SLOTS - 1 : longest;
     must(!a.refusal || a.refusal == 11 || a.value <= last, "has a place that is not in the input");
@@ -188,6 +202,17 @@ static void accepted(kez_answer a, uint64_t value, const char *what)
 /* Entries that write */
 
 typedef kez_answer writer(const uint8_t *, size_t, uint8_t *, size_t);
+
+/* Those that take a packed event, of which something is said. */
+#define AS_SAID(name, entry)                                                              \
+    static kez_answer name(const uint8_t *in, size_t len, uint8_t *out, size_t room)     \
+    {                                                                                     \
+        return entry(in, len, word(), out, room);                                         \
+    }
+AS_SAID(pack, kez_notepack_write)
+AS_SAID(write_canonical, kez_canonical_write)
+AS_SAID(write_nson, kez_nson_write)
+AS_SAID(write_string, kez_notepack_string_write)
 
 static kez_answer in_room(int entry, writer *call, size_t room)
 {
@@ -262,7 +287,8 @@ static kez_answer read_numbers(void)
 {
     current = READ;
     lend_numbers(5);
-    kez_answer a = checked(kez_notepack_read(lent(&in_first), in_first.len, number(0), number(1), number(2), number(3), number(4)));
+    kez_answer a = checked(kez_notepack_read(lent(&in_first), in_first.len, word(), number(0), number(1), number(2),
+                                             number(3), number(4)));
     take_numbers(a, 5);
     return a;
 }
@@ -272,13 +298,14 @@ static void elements(kez_answer read, uint64_t tags)
 {
     uint64_t tag = roll(8) ? roll(tags + 2) : UINT64_MAX - roll(2);
     current = TAG_LEN;
-    kez_answer count = checked(kez_notepack_tag_len(lent(&in_first), in_first.len, tag));
+    kez_answer count = checked(kez_notepack_tag_len(lent(&in_first), in_first.len, word(), tag));
     kez_answer none = {19, 0};
     must(read.refusal ? same(count, read) : tag < tags ? !count.refusal && count.value - 1 < 255 : same(count, none), "disagrees with the reader");
     uint64_t texts = count.refusal ? 1 : count.value, element = roll(8) ? roll(texts + 1) : UINT64_MAX - roll(2);
     current = ELEMENT;
     lend_numbers(3);
-    kez_answer a = checked(kez_notepack_element(lent(&in_first), in_first.len, tag, element, number(0), number(1), number(2)));
+    kez_answer a = checked(kez_notepack_element(lent(&in_first), in_first.len, word(), tag, element, number(0),
+                                                number(1), number(2)));
     take_numbers(a, 3);
     must(count.refusal ? same(a, count) : element < texts ? !a.refusal : same(a, none), "disagrees with the tag's length");
     if (!a.refusal)
@@ -297,7 +324,7 @@ static kez_answer list_from(uint64_t first, size_t room)
 {
     current = ELEMENTS;
     lend_room(&out_first, room);
-    kez_answer a = checked(kez_notepack_elements(lent(&in_first), in_first.len, first, lent(&out_first), room));
+    kez_answer a = checked(kez_notepack_elements(lent(&in_first), in_first.len, word(), first, lent(&out_first), room));
     must(a.refusal || a.value <= room / KEZ_ELEMENT_BYTES, "lists more than there is room for");
     unchanged(&out_first, a.refusal ? 0 : KEZ_ELEMENT_BYTES * a.value, "changes bytes behind the listed elements");
     return a;
@@ -307,7 +334,8 @@ static kez_answer list_from(uint64_t first, size_t room)
 static void must_show(uint64_t tag, uint64_t element, const uint8_t *wanted)
 {
     lend_numbers(3);
-    kez_answer a = kez_notepack_element(lent(&in_first), in_first.len, tag, element, number(0), number(1), number(2));
+    kez_answer a = kez_notepack_element(lent(&in_first), in_first.len, word(), tag, element, number(0), number(1),
+                                        number(2));
     take_numbers(a, 3);
     if (!wanted)
         must(a.refusal == 19, "leaves out an element");
@@ -364,9 +392,12 @@ static void listed_elements(kez_answer read, uint64_t tags)
 
 /* String forms */
 
-static const char prefix[] = "notepack_";
 static const char alphabet[] = "ABCDEFGHIJKLMNOPQRSTUVWXYZabcdefghijklmnopqrstuvwxyz0123456789+/";
-enum { PREFIX = sizeof prefix - 1 };
+
+static const char *prefix_of(uint64_t bare)
+{
+    return bare ? "notepack_" : "notepack1_";
+}
 
 /* A text or bytes of the harness's own. */
 typedef struct {
@@ -374,12 +405,12 @@ typedef struct {
     size_t len;
 } own;
 
-/* The string form of these bytes: a bit at a time. */
-static void spell(own *text, const uint8_t *bytes, size_t len)
+/* The string form of these bytes, which are of this form: a bit at a time. */
+static void spell(own *text, uint64_t bare, const uint8_t *bytes, size_t len)
 {
     size_t bits = 8 * len;
-    memcpy(text->at, prefix, PREFIX);
-    text->len = PREFIX;
+    text->len = strlen(prefix_of(bare));
+    memcpy(text->at, prefix_of(bare), text->len);
     for (size_t at = 0; at < bits; at += 6) {
         int six = 0;
         for (size_t bit = at; bit < at + 6; bit++)
@@ -394,14 +425,15 @@ static int six_bits(uint8_t c)
     return at ? (int)(at - alphabet) : -1;
 }
 
-/* The bytes that a text spells. Refusal 20, 21 or 1 if there are none, or more than may be. */
-static kez_answer despell(own *bytes, const uint8_t *text, size_t len)
+/* The bytes that a text of this form spells. Refusal 20, 21 or 1 if there are none, or more than may be. */
+static kez_answer despell(own *bytes, uint64_t bare, const uint8_t *text, size_t len)
 {
     uint32_t bits = 0, count = 0;
+    size_t behind = strlen(prefix_of(bare));
     bytes->len = 0;
-    if (len < PREFIX || memcmp(text, prefix, PREFIX))
+    if (len < behind || memcmp(text, prefix_of(bare), behind))
         return (kez_answer){20, 0};
-    for (size_t i = PREFIX; i < len; i++) {
+    for (size_t i = behind; i < len; i++) {
         int six = six_bits(text[i]);
         if (six < 0)
             return (kez_answer){21, i};
@@ -418,25 +450,34 @@ static kez_answer despell(own *bytes, const uint8_t *text, size_t len)
     return bytes->len > KEZ_MOST ? (kez_answer){1, 0} : (kez_answer){0, bytes->len};
 }
 
-/* Any text, put to the reader of string forms: it does what spelling and the reader of packed events say, and an
- * accepted text is the one that its bytes are spelled by. */
+/* The reader of string forms of what is said. */
+static void read_with(result *left)
+{
+    if (said)
+        write_with(left, STRING_READ, kez_notepack_string_read);
+    else
+        write_with(left, STRING1_READ, kez_notepack_string_read_versioned);
+}
+
+/* Any text, put to the reader of string forms of what is said: it does what spelling and the reader of packed events
+ * say, and an accepted text is the one that its bytes are spelled by. */
 static void read_string(const uint8_t *text, size_t len)
 {
     static own bytes, back;
     static result left;
-    kez_answer wanted = despell(&bytes, text, len);
+    kez_answer wanted = despell(&bytes, said, text, len);
     if (!wanted.refusal) {
         lend_input(&in_first, bytes.at, bytes.len, first_copy);
         kez_answer read = read_numbers();
         wanted = read.refusal ? read : wanted;
     }
     lend_input(&in_first, text, len, first_copy);
-    write_with(&left, STRING_READ, kez_notepack_string_read);
+    read_with(&left);
     must(same(left.answer, wanted), "answers otherwise than the text is spelled");
     if (left.answer.refusal)
         return;
     must(leaves(&left, bytes.at, bytes.len), "leaves other bytes than are spelled");
-    spell(&back, left.bytes, left.answer.value);
+    spell(&back, said, left.bytes, left.answer.value);
     must(back.len == len && !memcmp(back.at, text, len), "accepts a second text for the same bytes");
 }
 
@@ -459,12 +500,15 @@ static void as_string_of(const uint8_t *data, size_t len, kez_answer read)
 {
     static own text;
     static result left;
-    spell(&text, data, len);
+    spell(&text, said, data, len);
     lend_input(&in_first, text.at, text.len, first_copy);
-    write_with(&left, STRING_READ, kez_notepack_string_read);
+    read_with(&left);
     must(read.refusal ? same(left.answer, read) : leaves(&left, data, len), "disagrees with kez_notepack_read");
     change(&text);
     read_string(text.at, text.len);
+    said = !said;
+    read_string(text.at, text.len); /* mostly 20 */
+    said = !said;
 }
 
 /* One input as a packed event */
@@ -477,7 +521,7 @@ static void string_written(const result *string)
 {
     static own text;
     current = STRING_WRITE;
-    spell(&text, strict_form.bytes, strict_form.answer.value);
+    spell(&text, KEZ_BARE, strict_form.bytes, strict_form.answer.value);
     must(leaves(string, text.at, text.len), "does not spell the strict form");
     lend_input(&in_first, string->bytes, string->answer.value, first_copy);
     write_with(&again, STRING_READ, kez_notepack_string_read);
@@ -487,7 +531,7 @@ static void string_written(const result *string)
 static int is_strict(void)
 {
     current = STRICT;
-    kez_answer a = checked(kez_notepack_is_strict(lent(&in_first), in_first.len));
+    kez_answer a = checked(kez_notepack_is_strict(lent(&in_first), in_first.len, word()));
     must(a.refusal || a.value < 2, "has a value that is neither 0 nor 1");
     return a.refusal ? -1 : (int)a.value;
 }
@@ -497,7 +541,7 @@ static kez_answer belongs(const uint8_t *data, size_t len)
 {
     current = ID_BELONGS;
     lend_input(&in_first, data, len, first_copy);
-    kez_answer a = checked(kez_id_belongs(lent(&in_first), in_first.len));
+    kez_answer a = checked(kez_id_belongs(lent(&in_first), in_first.len, word()));
     must(a.refusal || a.value < 2, "has a value that is neither 0 nor 1");
     return a;
 }
@@ -558,14 +602,14 @@ static void as_packed(const uint8_t *data, size_t len)
     for (int i = 0; i < 3; i++)
         elements(read, was[4]);
     listed_elements(read, was[4]);
-    write_with(&strict_form, PACK, kez_notepack_write);
-    write_with(&canonical_text, CANONICAL, kez_canonical_write);
+    write_with(&strict_form, PACK, pack);
+    write_with(&canonical_text, CANONICAL, write_canonical);
     must(!read.refusal || same(read, canonical_text.answer), "refuses otherwise than the reader");
     must(read.refusal || canonical_text.answer.value <= 3 * len, "writes more than three times what was packed");
     static result text, string;
-    write_with(&text, NSON_WRITE, kez_nson_write);
+    write_with(&text, NSON_WRITE, write_nson);
     must(!read.refusal || same(read, text.answer), "refuses otherwise than the reader");
-    write_with(&string, STRING_WRITE, kez_notepack_string_write);
+    write_with(&string, STRING_WRITE, write_string);
     must(!read.refusal || same(read, string.answer), "refuses otherwise than the reader");
     as_string_of(data, len, read);
     identity(data, len, read);
@@ -588,9 +632,9 @@ static void as_packed(const uint8_t *data, size_t len)
     must(numbers[0] == was[0] && numbers[1] == was[1] && numbers[3] == was[3] && numbers[4] == was[4] &&
              !memcmp(content, in_first.at + numbers[2], was[3]), "reads the strict form as another event");
     must(is_strict() == 1, "does not take the strict form as strict");
-    write_with(&again, PACK, kez_notepack_write);
+    write_with(&again, PACK, pack);
     must(leaves(&again, strict_form.bytes, strict_form.answer.value), "does not leave strict bytes as they are");
-    write_with(&again, CANONICAL, kez_canonical_write);
+    write_with(&again, CANONICAL, write_canonical);
     must(leaves(&again, canonical_text.bytes, canonical_text.answer.value), "has another text for the strict form");
     string_written(&string);
     if (text.answer.refusal)
@@ -600,6 +644,143 @@ static void as_packed(const uint8_t *data, size_t len)
     must(leaves(&again, strict_form.bytes, strict_form.answer.value), "does not read what the NSON writer wrote");
     write_with(&again, JSON_READ, kez_json_read);
     must(leaves(&again, strict_form.bytes, strict_form.answer.value), "does not read what the NSON writer wrote");
+}
+
+/* One input, said to be versioned */
+
+/* 01 in front of the bytes. */
+static void versioned_of(own *v, const uint8_t *data, size_t len)
+{
+    v->at[0] = 1;
+    memcpy(v->at + 1, data, len);
+    v->len = len + 1;
+}
+
+static int has_place(uint64_t refusal)
+{
+    return (refusal >= 2 && refusal <= 10) || refusal == 24;
+}
+
+/* The answer to these bytes, said to be versioned, by the answer to those behind the first, said to be bare: a refusal
+ * of the packed event counts the first byte too, all else is the same. */
+static kez_answer by_bare(const uint8_t *data, size_t len, kez_answer bare)
+{
+    if (len > KEZ_MOST)
+        return (kez_answer){1, 0};
+    if (!len || data[0] != 1)
+        return (kez_answer){len ? 25 : 2, 0};
+    bare.value += (uint64_t)has_place(bare.refusal);
+    return bare;
+}
+
+/* The bytes are lent as they are and said to be versioned, or without their first byte and said to be bare. */
+static void lend_form(const uint8_t *data, size_t len, uint64_t bare)
+{
+    said = bare;
+    lend_input(&in_first, data + (bare && len), len - (bare && len), first_copy);
+}
+
+/* An entry that writes leaves the same in both forms. */
+static void writes_same(int entry, writer *call, const uint8_t *data, size_t len)
+{
+    static result bare, versioned;
+    lend_form(data, len, KEZ_BARE);
+    write_with(&bare, entry, call);
+    lend_form(data, len, KEZ_VERSIONED);
+    write_with(&versioned, entry, call);
+    must(same(versioned.answer, by_bare(data, len, bare.answer)),
+         "answers a versioned event otherwise than a bare one");
+    must(versioned.answer.refusal || leaves(&bare, versioned.bytes, versioned.answer.value),
+         "writes something else of a versioned event");
+}
+
+/* What is read and asked of the bytes: the numbers and all elements, with places one further on. */
+static void reads_same(const uint8_t *data, size_t len)
+{
+    uint64_t was[NUMBERS];
+    lend_form(data, len, KEZ_BARE);
+    kez_answer bare = read_numbers();
+    memcpy(was, numbers, sizeof was);
+    int strict = is_strict();
+    kez_answer id = belongs(data + !!len, len - !!len);
+    lend_form(data, len, KEZ_VERSIONED);
+    kez_answer read = read_numbers();
+    must(same(read, by_bare(data, len, bare)), "answers a versioned event otherwise than a bare one");
+    uint64_t tags = numbers[4];
+    was[2]++;
+    must(read.refusal || !memcmp(was, numbers, sizeof was), "reads a versioned event with other numbers");
+    must(is_strict() == (read.refusal ? -1 : strict), "answers a versioned event otherwise than a bare one");
+    must(same(belongs(data, len), by_bare(data, len, id)), "answers a versioned event otherwise than a bare one");
+    lend_form(data, len, KEZ_VERSIONED);
+    elements(read, tags);
+    listed_elements(read, tags);
+    if (!read.refusal && tags) {
+        lend_form(data, len, KEZ_BARE);
+        kez_answer first = list_from(0, KEZ_ELEMENT_BYTES);
+        uint64_t place = four_bytes(out_first.at + 4);
+        lend_form(data, len, KEZ_VERSIONED);
+        must(same(first, list_from(0, KEZ_ELEMENT_BYTES)) && four_bytes(out_first.at + 4) == place + 1,
+             "lists an element of a versioned event at another place");
+    }
+}
+
+/* Moves: the same bytes, with the 01 or without, of all that is read and may have it. There and back is the same. */
+static void moves(const uint8_t *data, size_t len)
+{
+    static result there, back;
+    static own wanted;
+    lend_form(data, len, KEZ_VERSIONED);
+    kez_answer read = read_numbers();
+    write_with(&back, TO_BARE, kez_bare_from_versioned);
+    must(read.refusal ? same(back.answer, read) : leaves(&back, data + 1, len - 1), "moves other bytes");
+    said = KEZ_BARE;
+    lend_input(&in_first, data, len, first_copy);
+    read = len < KEZ_MOST ? read_numbers() : (kez_answer){1, 0};
+    write_with(&there, TO_VERSIONED, kez_versioned_from_bare);
+    versioned_of(&wanted, data, len);
+    must(read.refusal ? same(there.answer, read) : leaves(&there, wanted.at, len + 1), "moves other bytes");
+    if (there.answer.refusal)
+        return;
+    lend_input(&in_first, wanted.at, len + 1, first_copy);
+    write_with(&back, TO_BARE, kez_bare_from_versioned);
+    must(leaves(&back, data, len), "does not move back what was moved");
+}
+
+/* The string form of a versioned event: that of 01 and the strict form. */
+static void versioned_string(const uint8_t *data, size_t len)
+{
+    static result strict, string;
+    static own held, text;
+    lend_form(data, len, KEZ_VERSIONED);
+    kez_answer read = read_numbers();
+    write_with(&strict, PACK, pack);
+    write_with(&string, STRING_WRITE, write_string);
+    must(!read.refusal || same(read, string.answer), "refuses otherwise than the reader");
+    as_string_of(data, len, read);
+    if (read.refusal)
+        return;
+    current = STRING_WRITE;
+    versioned_of(&held, strict.bytes, strict.answer.value);
+    spell(&text, KEZ_VERSIONED, held.at, held.len);
+    must(leaves(&string, text.at, text.len), "does not spell 01 and the strict form");
+}
+
+/* Any bytes, or 01 and any bytes, said to be versioned. */
+static void as_versioned(const uint8_t *data, size_t len)
+{
+    static own behind;
+    if (roll(4)) {
+        versioned_of(&behind, data, len);
+        data = behind.at;
+        len = behind.len;
+    }
+    reads_same(data, len);
+    writes_same(PACK, pack, data, len);
+    writes_same(CANONICAL, write_canonical, data, len);
+    writes_same(NSON_WRITE, write_nson, data, len);
+    moves(data, len);
+    versioned_string(data, len);
+    said = KEZ_BARE;
 }
 
 /* One input as a text */
@@ -650,28 +831,67 @@ static void as_text(const uint8_t *data, size_t len)
     }
     if (!by_nson.answer.refusal) {
         lend_input(&in_first, by_nson.bytes, by_nson.answer.value, first_copy);
-        write_with(&again, NSON_WRITE, kez_nson_write);
+        write_with(&again, NSON_WRITE, write_nson);
         must(leaves(&again, data, len), "does not write the text that the NSON reader read");
     }
 }
 
 /* Two inputs */
 
-static kez_answer rivals_of(const uint8_t *data, size_t len, const uint8_t *other, size_t other_len)
+/* Two inputs, each said to be of a form. */
+static kez_answer rivals_in(const uint8_t *data, size_t len, uint64_t bare, const uint8_t *other, size_t other_len,
+                            uint64_t other_bare)
 {
     lend_input(&in_first, data, len, first_copy);
     lend_input(&in_second, other, other_len, second_copy);
     current = RIVALS;
-    kez_answer a = checked(kez_rivals(lent(&in_first), in_first.len, lent(&in_second), in_second.len));
+    said = bare && other_bare;
+    kez_answer a = checked(kez_rivals(lent(&in_first), in_first.len, bare, lent(&in_second), in_second.len,
+                                      other_bare));
+    said = KEZ_BARE;
     unchanged(&in_second, 0, "changes its second input");
     must(a.refusal || a.value < 3, "has a value above 2");
     return a;
 }
 
+static kez_answer rivals_of(const uint8_t *data, size_t len, const uint8_t *other, size_t other_len)
+{
+    return rivals_in(data, len, KEZ_BARE, other, other_len, KEZ_BARE);
+}
+
+static kez_answer read_alone(const uint8_t *packed, size_t len, uint64_t bare)
+{
+    uint64_t none;
+    return kez_notepack_read(packed, len, bare, &none, &none, &none, &none, &none);
+}
+
+/* The same two in other forms, now and then with another first byte: which is kept does not change, and what is refused
+ * is what the reader refuses, of the first before the second. */
+static void rivals_in_forms(const uint8_t *data, size_t len, const uint8_t *other, size_t other_len, kez_answer bare)
+{
+    static own first, second;
+    uint64_t first_bare = roll(2), second_bare = !first_bare || roll(2) ? 0 : 1;
+    versioned_of(&first, data, len);
+    versioned_of(&second, other, other_len);
+    if (first_bare)
+        memmove(first.at, data, first.len = len);
+    if (second_bare)
+        memmove(second.at, other, second.len = other_len);
+    else if (!roll(8))
+        second.at[0] = (uint8_t)roll(256);
+    if (!first_bare && !roll(8))
+        first.at[0] = (uint8_t)roll(256);
+    kez_answer refused = read_alone(first.at, first.len, first_bare);
+    if (!refused.refusal)
+        refused = read_alone(second.at, second.len, second_bare);
+    kez_answer a = rivals_in(first.at, first.len, first_bare, second.at, second.len, second_bare);
+    must(same(a, refused.refusal ? refused : bare), "answers two forms otherwise than two bare ones");
+}
+
 static uint64_t kind_of(const uint8_t *packed, size_t len)
 {
     uint64_t kind = 0, none;
-    kez_notepack_read(packed, len, &none, &kind, &none, &none, &none);
+    kez_notepack_read(packed, len, KEZ_BARE, &none, &kind, &none, &none, &none);
     return kind;
 }
 
@@ -685,6 +905,7 @@ static void as_rivals(const uint8_t *data, size_t len, const uint8_t *other, siz
 {
     kez_answer one = rivals_of(data, len, other, other_len), two = rivals_of(other, other_len, data, len);
     must(!one.refusal == !two.refusal, "refuses two inputs in one order only");
+    rivals_in_forms(data, len, other, other_len, one);
     if (one.refusal)
         return;
     must(rivals_of(data, len, data, len).value == (uint64_t)keyed(kind_of(data, len)),
@@ -760,19 +981,19 @@ static int is_fit(table *t, size_t n)
 {
     if (length_of(t, n) > KEZ_CELL_BYTES)
         return 0;
-    kez_answer strict = kez_notepack_is_strict(cell_of(t, n), length_of(t, n));
+    kez_answer strict = kez_notepack_is_strict(cell_of(t, n), length_of(t, n), KEZ_BARE);
     return !strict.refusal && strict.value && !kind_passes(cell_of(t, n), length_of(t, n));
 }
 
 /* An event that has a key is its own rival. */
 static int has_key(const uint8_t *packed, size_t len)
 {
-    return kez_rivals(packed, len, packed, len).value != 0;
+    return kez_rivals(packed, len, KEZ_BARE, packed, len, KEZ_BARE).value != 0;
 }
 
 static int one_name(const uint8_t *a, size_t a_len, const uint8_t *b, size_t b_len)
 {
-    if (kez_rivals(a, a_len, b, b_len).value)
+    if (kez_rivals(a, a_len, KEZ_BARE, b, b_len, KEZ_BARE).value)
         return 1;
     return !memcmp(a, b, KEZ_ID_LEN) && !has_key(a, a_len) && !has_key(b, b_len);
 }
@@ -806,7 +1027,7 @@ static kez_answer placed(table *t, const uint8_t *strict, size_t len, size_t *n)
             *n = i;
             if (!has_key(strict, len) || (cell_len == len && !memcmp(cell, strict, len)))
                 return (kez_answer){0, KEZ_TABLE_HELD};
-            int wins = kez_rivals(cell, cell_len, strict, len).value == 2;
+            int wins = kez_rivals(cell, cell_len, KEZ_BARE, strict, len, KEZ_BARE).value == 2;
             return (kez_answer){0, wins ? KEZ_TABLE_REPLACED : KEZ_TABLE_LOSES};
         }
     }
@@ -815,18 +1036,18 @@ static kez_answer placed(table *t, const uint8_t *strict, size_t len, size_t *n)
 }
 
 /* The answer to any offer; what is stored is left in strict. */
-static kez_answer foretold(table *t, const uint8_t *data, size_t len, own *strict, size_t *n)
+static kez_answer foretold(table *t, const uint8_t *data, size_t len, uint64_t bare, own *strict, size_t *n)
 {
     size_t bad = lowest_bad(t);
     if (bad < KEZ_SLOTS)
         return (kez_answer){34, bad};
-    kez_answer written = kez_notepack_write(data, len, strict->at, SIZE);
+    kez_answer written = kez_notepack_write(data, len, bare, strict->at, SIZE);
     if (written.refusal)
         return written;
     strict->len = written.value;
     if (strict->len > KEZ_CELL_BYTES)
         return (kez_answer){22, 0};
-    if (kind_passes(data, len))
+    if (kind_passes(strict->at, strict->len))
         return (kez_answer){0, KEZ_TABLE_NOT_KEPT};
     return placed(t, strict->at, strict->len, n);
 }
@@ -869,22 +1090,25 @@ static void shown_once(const own *strict, size_t n)
     }
 }
 
-static kez_answer offer(const uint8_t *data, size_t len)
+static kez_answer offer(const uint8_t *data, size_t len, uint64_t bare)
 {
     current = TABLE_OFFER;
     lend_input(&in_first, data, len, first_copy);
     lend_table();
-    return checked(kez_table_offer(slots_buffer.at, slots_buffer.len, cells_buffer.at, cells_buffer.len,
-                                   lent(&in_first), in_first.len));
+    said = bare;
+    kez_answer a = checked(kez_table_offer(slots_buffer.at, slots_buffer.len, cells_buffer.at, cells_buffer.len,
+                                           lent(&in_first), in_first.len, bare));
+    said = KEZ_BARE;
+    return a;
 }
 
 /* One offer: the answer and every byte of the table are what the other entries say. Then the same is held. */
-static void offered(const uint8_t *data, size_t len)
+static void offered_in(const uint8_t *data, size_t len, uint64_t bare)
 {
     static own strict;
     size_t n = KEZ_SLOTS;
-    kez_answer wanted = foretold(&kept, data, len, &strict, &n);
-    kez_answer a = offer(data, len);
+    kez_answer wanted = foretold(&kept, data, len, bare, &strict, &n);
+    kez_answer a = offer(data, len, bare);
     must(same(a, wanted), "answers otherwise than the other entries say");
     if (a.refusal || a.value > KEZ_TABLE_REPLACED) {
         must_hold(&kept, "stores nothing, and changes the table");
@@ -894,8 +1118,20 @@ static void offered(const uint8_t *data, size_t len)
     memcpy(cell_of(&kept, n), strict.at, strict.len);
     must_hold(&kept, "stores something else than the strict form, or elsewhere too");
     shown_once(&strict, n);
-    must(same(offer(data, len), (kez_answer){0, KEZ_TABLE_HELD}), "does not hold what it stored");
+    must(same(offer(data, len, bare), (kez_answer){0, KEZ_TABLE_HELD}), "does not hold what it stored");
     must_hold(&kept, "holds an event, and changes the table");
+}
+
+/* In either form; now and then the other is said. */
+static void offered(const uint8_t *data, size_t len)
+{
+    static own v;
+    uint64_t bare = roll(3) != 0;
+    versioned_of(&v, data, len);
+    if (bare)
+        offered_in(data, len, roll(16) ? bare : !bare);
+    else
+        offered_in(v.at, v.len, roll(16) ? bare : !bare);
 }
 
 /* A strict record, one of few: of its kind, its author, its id, its time and its label there are some. It is small, or
@@ -969,7 +1205,7 @@ static void other_sizes(void)
     uint8_t *slots = lent(&slots_buffer), *cells = lent(&cells_buffer);
     kez_answer all[] = {
         kez_table_empty(slots, slots_len, cells, cells_len),
-        kez_table_offer(slots, slots_len, cells, cells_len, lent(&in_first), in_first.len),
+        kez_table_offer(slots, slots_len, cells, cells_len, lent(&in_first), in_first.len, roll(2)),
         kez_table_slot(slots, slots_len, cells, cells_len, roll(99), numbers_lent, numbers_lent + 1),
     };
     for (int i = 0; i < 3; i++) {
@@ -1200,8 +1436,12 @@ void properties(const uint8_t *data, size_t len, const uint8_t *other, size_t ot
     given = data;
     given_len = len;
     as_packed(data, len);
+    as_versioned(data, len);
     as_text(data, len);
     read_string(data, len);
+    said = KEZ_VERSIONED;
+    read_string(data, len);
+    said = KEZ_BARE;
     as_message(data, len);
     as_rivals(data, len, other, other_len);
     /* a table is large: one input of four is offered to one */

@@ -74,12 +74,12 @@ int main(int words, char **word)
     }
     alarm(0);
     uint64_t sum = 0;
-    printf("%-26s %12s %12s  refusals seen\n", "entry", "calls", "accepted");
+    printf("%-34s %12s %12s  refusals seen\n", "entry", "calls", "accepted");
     for (int i = 0; i < ENTRIES; i++) {
         sum += calls[i];
         if (!calls[i])
             continue;
-        printf("%-26s %12" PRIu64 " %12" PRIu64 " ", entry_names[i], calls[i], accepted_calls[i]);
+        printf("%-34s %12" PRIu64 " %12" PRIu64 " ", entry_names[i], calls[i], accepted_calls[i]);
         for (int j = 1; j <= REFUSALS; j++)
             if (seen[i][j])
                 printf(" %d", j);

@@ -8,7 +8,7 @@
 #endif
 
 /* one input of 64 */
-static int shows(const uint8_t *at, size_t len)
+__attribute__((unused)) static int shows(const uint8_t *at, size_t len)
 {
     uint32_t sum = 2166136261u;
     for (size_t i = 0; i < len; i++)
@@ -21,18 +21,31 @@ static int shows(const uint8_t *at, size_t len)
     kez_answer __wrap_##name(const uint8_t *in, size_t in_len, uint8_t *out, size_t out_len);  \
     kez_answer __wrap_##name(const uint8_t *in, size_t in_len, uint8_t *out, size_t out_len)
 
+#define PACKED_WRITER(name)                                                                                   \
+    kez_answer __real_##name(const uint8_t *in, size_t in_len, uint64_t bare, uint8_t *out, size_t out_len);  \
+    kez_answer __wrap_##name(const uint8_t *in, size_t in_len, uint64_t bare, uint8_t *out, size_t out_len);  \
+    kez_answer __wrap_##name(const uint8_t *in, size_t in_len, uint64_t bare, uint8_t *out, size_t out_len)
+
+#define READER(name)                                                                                            \
+    kez_answer __real_##name(const uint8_t *in, size_t in_len, uint64_t bare, uint64_t *a, uint64_t *b,         \
+                             uint64_t *c, uint64_t *d, uint64_t *e);                                            \
+    kez_answer __wrap_##name(const uint8_t *in, size_t in_len, uint64_t bare, uint64_t *a, uint64_t *b,         \
+                             uint64_t *c, uint64_t *d, uint64_t *e);                                            \
+    kez_answer __wrap_##name(const uint8_t *in, size_t in_len, uint64_t bare, uint64_t *a, uint64_t *b,         \
+                             uint64_t *c, uint64_t *d, uint64_t *e)
+
 #if PLANTED == 1 /* one byte is stored by a refusal */
-WRITER(kez_notepack_write)
+PACKED_WRITER(kez_notepack_write)
 {
-    kez_answer a = __real_kez_notepack_write(in, in_len, out, out_len);
+    kez_answer a = __real_kez_notepack_write(in, in_len, bare, out, out_len);
     if (a.refusal && out_len && shows(in, in_len))
         out[out_len / 2] ^= 1;
     return a;
 }
 #elif PLANTED == 2 /* one byte behind the written length is changed */
-WRITER(kez_canonical_write)
+PACKED_WRITER(kez_canonical_write)
 {
-    kez_answer a = __real_kez_canonical_write(in, in_len, out, out_len);
+    kez_answer a = __real_kez_canonical_write(in, in_len, bare, out, out_len);
     if (!a.refusal && a.value < out_len && shows(in, in_len))
         out[out_len - 1] ^= 1;
     return a;
@@ -46,67 +59,83 @@ WRITER(kez_json_read)
     return a;
 }
 #elif PLANTED == 4 /* one byte of the event is flipped by the strict writer */
-WRITER(kez_notepack_write)
+PACKED_WRITER(kez_notepack_write)
 {
-    kez_answer a = __real_kez_notepack_write(in, in_len, out, out_len);
+    kez_answer a = __real_kez_notepack_write(in, in_len, bare, out, out_len);
     if (!a.refusal && shows(in, in_len))
         out[128] ^= 1;
     return a;
 }
 #elif PLANTED == 5 /* the byte behind an input is read */
-kez_answer __real_kez_notepack_is_strict(const uint8_t *in, size_t in_len);
-kez_answer __wrap_kez_notepack_is_strict(const uint8_t *in, size_t in_len);
-kez_answer __wrap_kez_notepack_is_strict(const uint8_t *in, size_t in_len)
+typedef kez_answer asks(const uint8_t *in, size_t in_len, uint64_t bare);
+asks __real_kez_notepack_is_strict, __wrap_kez_notepack_is_strict;
+kez_answer __wrap_kez_notepack_is_strict(const uint8_t *in, size_t in_len, uint64_t bare)
 {
     if (in_len && shows(in, in_len))
         (void)*(const volatile uint8_t *)(in + in_len);
-    return __real_kez_notepack_is_strict(in, in_len);
+    return __real_kez_notepack_is_strict(in, in_len, bare);
 }
 #elif PLANTED == 6 /* the byte before a lent buffer is changed */
-WRITER(kez_canonical_write)
+PACKED_WRITER(kez_canonical_write)
 {
     if (out_len && shows(in, in_len))
         out[-1] ^= 1;
-    return __real_kez_canonical_write(in, in_len, out, out_len);
+    return __real_kez_canonical_write(in, in_len, bare, out, out_len);
 }
 #elif PLANTED == 7 /* a number is stored by a refusal */
-kez_answer __real_kez_notepack_read(const uint8_t *in, size_t in_len, uint64_t *a, uint64_t *b, uint64_t *c, uint64_t *d, uint64_t *e);
-kez_answer __wrap_kez_notepack_read(const uint8_t *in, size_t in_len, uint64_t *a, uint64_t *b, uint64_t *c, uint64_t *d, uint64_t *e);
-kez_answer __wrap_kez_notepack_read(const uint8_t *in, size_t in_len, uint64_t *a, uint64_t *b, uint64_t *c, uint64_t *d, uint64_t *e)
+READER(kez_notepack_read)
 {
-    kez_answer answer = __real_kez_notepack_read(in, in_len, a, b, c, d, e);
+    kez_answer answer = __real_kez_notepack_read(in, in_len, bare, a, b, c, d, e);
     if (answer.refusal && shows(in, in_len))
         *a = 0;
     return answer;
 }
-#elif PLANTED == 8 /* an old record is kept */
-kez_answer __real_kez_rivals(const uint8_t *first, size_t first_len, const uint8_t *second, size_t second_len);
-kez_answer __wrap_kez_rivals(const uint8_t *first, size_t first_len, const uint8_t *second, size_t second_len);
-kez_answer __wrap_kez_rivals(const uint8_t *first, size_t first_len, const uint8_t *second, size_t second_len)
+#elif PLANTED == 40 /* the place of a refusal does not count the 01 */
+READER(kez_notepack_read)
 {
-    kez_answer a = __real_kez_rivals(first, first_len, second, second_len);
-    if (!a.refusal && a.value == 2 && shows(first, first_len))
+    kez_answer answer = __real_kez_notepack_read(in, in_len, bare, a, b, c, d, e);
+    if (!bare && answer.refusal && answer.value && shows(in, in_len))
+        answer.value--;
+    return answer;
+}
+#elif PLANTED == 8 || PLANTED == 45 /* an old record is kept; the second's 25 comes before what the first has */
+typedef kez_answer chooses(const uint8_t *first, size_t first_len, uint64_t first_bare,
+                           const uint8_t *second, size_t second_len, uint64_t second_bare);
+chooses __real_kez_rivals, __wrap_kez_rivals;
+kez_answer __wrap_kez_rivals(const uint8_t *first, size_t first_len, uint64_t first_bare,
+                             const uint8_t *second, size_t second_len, uint64_t second_bare)
+{
+    kez_answer a = __real_kez_rivals(first, first_len, first_bare, second, second_len, second_bare);
+    if (PLANTED == 8 && !a.refusal && a.value == 2 && shows(first, first_len))
         a.value = 1;
+    /* both first bytes are looked at before anything else */
+    if (PLANTED == 45 && a.refusal && !second_bare && second_len && second[0] != 1)
+        a = (kez_answer){25, 0};
     return a;
 }
-#elif PLANTED == 11 || PLANTED == 12 || PLANTED == 13 /* in a list: another tag, a byte behind it, the last left out */
-typedef kez_answer lists(const uint8_t *in, size_t in_len, uint64_t first, uint8_t *out, size_t out_len);
+#elif (PLANTED >= 11 && PLANTED <= 13) || PLANTED == 41 /* of a list of elements, see host/fuzz/planted */
+typedef kez_answer lists(const uint8_t *in, size_t in_len, uint64_t bare, uint64_t first, uint8_t *out,
+                         size_t out_len);
 lists __real_kez_notepack_elements, __wrap_kez_notepack_elements;
-kez_answer __wrap_kez_notepack_elements(const uint8_t *in, size_t in_len, uint64_t first, uint8_t *out, size_t out_len)
+kez_answer __wrap_kez_notepack_elements(const uint8_t *in, size_t in_len, uint64_t bare, uint64_t first, uint8_t *out,
+                                        size_t out_len)
 {
     int less = PLANTED == 13 && out_len >= KEZ_ELEMENT_BYTES && shows(in, in_len);
-    kez_answer a = __real_kez_notepack_elements(in, in_len, first, out, less ? out_len - KEZ_ELEMENT_BYTES : out_len);
+    kez_answer a = __real_kez_notepack_elements(in, in_len, bare, first, out,
+                                                less ? out_len - KEZ_ELEMENT_BYTES : out_len);
     size_t written = a.refusal ? 0 : KEZ_ELEMENT_BYTES * a.value;
     if (PLANTED == 11 && written && shows(in, in_len))
         out[written - KEZ_ELEMENT_BYTES] ^= 1;
     if (PLANTED == 12 && written < out_len && shows(in, in_len))
         out[written] ^= 1;
+    if (PLANTED == 41 && !bare && written && out[4] && shows(in, in_len))
+        out[4]--;
     return a;
 }
 #elif PLANTED >= 14 && PLANTED <= 16 /* of a string form: another character, a byte behind it, its last one lost */
-WRITER(kez_notepack_string_write)
+PACKED_WRITER(kez_notepack_string_write)
 {
-    kez_answer a = __real_kez_notepack_string_write(in, in_len, out, out_len);
+    kez_answer a = __real_kez_notepack_string_write(in, in_len, bare, out, out_len);
     if (a.refusal || !shows(in, in_len))
         return a;
     if (PLANTED == 14)
@@ -115,6 +144,14 @@ WRITER(kez_notepack_string_write)
         out[a.value] ^= 1;
     if (PLANTED == 16)
         a.value--;
+    return a;
+}
+#elif PLANTED == 44 /* the first byte that a versioned string form holds is another one */
+PACKED_WRITER(kez_notepack_string_write)
+{
+    kez_answer a = __real_kez_notepack_string_write(in, in_len, bare, out, out_len);
+    if (!a.refusal && !bare && shows(in, in_len))
+        out[11] ^= 1;
     return a;
 }
 #elif PLANTED >= 17 && PLANTED <= 21 /* of a string form that is read, see host/fuzz/planted */
@@ -136,13 +173,17 @@ WRITER(kez_notepack_string_read)
         a.refusal = 20;
     return a;
 }
-#elif PLANTED >= 22 && PLANTED <= 26 /* of an offer to a table, see host/fuzz/planted */
-typedef kez_answer offers(uint8_t *slots, size_t slots_len, uint8_t *cells, size_t cells_len, const uint8_t *in, size_t in_len);
+#elif (PLANTED >= 22 && PLANTED <= 26) || PLANTED == 43 /* of an offer to a table, see host/fuzz/planted */
+typedef kez_answer offers(uint8_t *slots, size_t slots_len, uint8_t *cells, size_t cells_len, const uint8_t *in,
+                          size_t in_len, uint64_t bare);
 offers __real_kez_table_offer, __wrap_kez_table_offer;
-kez_answer __wrap_kez_table_offer(uint8_t *slots, size_t slots_len, uint8_t *cells, size_t cells_len, const uint8_t *in, size_t in_len)
+kez_answer __wrap_kez_table_offer(uint8_t *slots, size_t slots_len, uint8_t *cells, size_t cells_len, const uint8_t *in,
+                                  size_t in_len, uint64_t bare)
 {
-    kez_answer a = __real_kez_table_offer(slots, slots_len, cells, cells_len, in, in_len);
+    kez_answer a = __real_kez_table_offer(slots, slots_len, cells, cells_len, in, in_len, bare);
     int stored = !a.refusal && a.value <= KEZ_TABLE_REPLACED;
+    if (PLANTED == 43 && a.refusal == 34 && !bare && in_len && in[0] != 1)
+        return (kez_answer){25, 0};
     if (!shows(in, in_len))
         return a;
     if (PLANTED == 22 && !stored && cells_len)
@@ -213,23 +254,49 @@ WRITER(kez_sha256_finish)
     return a;
 }
 #elif PLANTED == 36 || PLANTED == 37 /* an id belongs if its first 31 bytes do; one that belongs is told as another's */
-typedef kez_answer asks(const uint8_t *in, size_t in_len);
+typedef kez_answer asks(const uint8_t *in, size_t in_len, uint64_t bare);
 asks __real_kez_id_belongs, __wrap_kez_id_belongs;
-kez_answer __wrap_kez_id_belongs(const uint8_t *in, size_t in_len)
+kez_answer __wrap_kez_id_belongs(const uint8_t *in, size_t in_len, uint64_t bare)
 {
     static uint8_t copy[KEZ_MOST];
-    kez_answer a = __real_kez_id_belongs(in, in_len);
+    kez_answer a = __real_kez_id_belongs(in, in_len, bare);
     if (a.refusal || in_len > 2000 || !shows(in, in_len))
         return a;
     for (size_t i = 0; i < in_len; i++)
         copy[i] = in[i];
     for (int last = 0; PLANTED == 36 && !a.value && last < 256; last++) {
-        copy[31] = (uint8_t)last;
-        a = __real_kez_id_belongs(copy, in_len);
+        copy[bare ? 31 : 32] = (uint8_t)last;
+        a = __real_kez_id_belongs(copy, in_len, bare);
     }
     if (PLANTED == 37)
         a.value = 0;
     return a;
+}
+#elif PLANTED == 38 /* a byte of the event is flipped on its way to the versioned form */
+WRITER(kez_versioned_from_bare)
+{
+    kez_answer a = __real_kez_versioned_from_bare(in, in_len, out, out_len);
+    if (!a.refusal && shows(in, in_len))
+        out[a.value - 1] ^= 1;
+    return a;
+}
+#elif PLANTED == 39 /* another first byte than 01 is taken for it */
+WRITER(kez_bare_from_versioned)
+{
+    static uint8_t copy[KEZ_MOST];
+    if (in_len && in_len <= KEZ_MOST && in[0] == 2) {
+        for (size_t i = 0; i < in_len; i++)
+            copy[i] = in[i];
+        copy[0] = 1;
+        in = copy;
+    }
+    return __real_kez_bare_from_versioned(in, in_len, out, out_len);
+}
+#elif PLANTED == 42 /* the string form of a bare event is read as that of a versioned one */
+WRITER(kez_notepack_string_read_versioned)
+{
+    kez_answer a = __real_kez_notepack_string_read_versioned(in, in_len, out, out_len);
+    return a.refusal == 20 && shows(in, in_len) ? kez_notepack_string_read(in, in_len, out, out_len) : a;
 }
 #elif PLANTED >= 9 /* a refusal of both readers is told as success; the length of what was written is one too many */
 typedef kez_answer both(const uint8_t *in, size_t in_len, uint8_t *first, size_t first_len, uint8_t *second, size_t second_len, uint64_t *written);

@@ -32,6 +32,7 @@ pub const NOT_BASE64: u8 = 21;
 pub const TOO_LONG_TO_KEEP: u8 = 22;
 pub const NO_FREE_SLOT: u8 = 23;
 pub const PADDED: u8 = 24;
+pub const NOT_VERSIONED: u8 = 25;
 pub const BAD_TABLE: u8 = 34;
 pub const TOO_MUCH_TO_HASH: u8 = 35;
 

@@ -3,6 +3,7 @@
 use crate::answer::{Answer, Refusal};
 use crate::rivals::Choice;
 use crate::table::Offered;
+use crate::versioned::{self, Given};
 use crate::{both, canonical, hash, json, notepack, nson, rivals, string_form, table};
 
 #[repr(C)]
@@ -11,10 +12,10 @@ pub struct KezAnswer {
     value: u64,
 }
 
-/// 0.10.1: 10,000 for a major version, 100 for a minor one, 1 for a patch.
+/// 0.11.0: 10,000 for a major version, 100 for a minor one, 1 for a patch.
 #[no_mangle]
 pub extern "C" fn kez_version() -> u64 {
-    1001
+    1100
 }
 
 fn told(answer: Answer<u64>) -> KezAnswer {
@@ -33,6 +34,11 @@ unsafe fn lent<'a>(at: *const u8, length: usize) -> &'a [u8] {
     }
 }
 
+/// Lent packed bytes; any number but 0 says that they are bare.
+unsafe fn given<'a>(at: *const u8, length: usize, bare: u64) -> Given<'a> {
+    Given { bytes: unsafe { lent(at, length) }, bare: bare != 0 }
+}
+
 unsafe fn lent_mut<'a>(at: *mut u8, length: usize) -> &'a mut [u8] {
     if length == 0 {
         &mut []
@@ -45,17 +51,19 @@ unsafe fn lent_mut<'a>(at: *mut u8, length: usize) -> &'a mut [u8] {
 pub unsafe extern "C" fn kez_notepack_read(
     packed: *const u8,
     packed_len: usize,
+    bare: u64,
     created_at: *mut u64,
     kind: *mut u64,
     content_at: *mut u64,
     content_len: *mut u64,
     tag_count: *mut u64,
 ) -> KezAnswer {
-    told(notepack::read(unsafe { lent(packed, packed_len) }).map(|p| {
+    let packed = unsafe { given(packed, packed_len, bare) };
+    told(packed.with(notepack::read).map(|p| {
         unsafe {
             *created_at = p.created_at;
             *kind = p.kind;
-            *content_at = p.content_at as u64;
+            *content_at = packed.place(p.content_at) as u64;
             *content_len = p.content_len as u64;
             *tag_count = p.tag_count;
         }
@@ -64,29 +72,38 @@ pub unsafe extern "C" fn kez_notepack_read(
 }
 
 #[no_mangle]
-pub unsafe extern "C" fn kez_notepack_is_strict(packed: *const u8, packed_len: usize) -> KezAnswer {
-    told(notepack::is_strict(unsafe { lent(packed, packed_len) }).map(u64::from))
+pub unsafe extern "C" fn kez_notepack_is_strict(packed: *const u8, packed_len: usize, bare: u64) -> KezAnswer {
+    let packed = unsafe { given(packed, packed_len, bare) };
+    told(packed.with(notepack::is_strict).map(u64::from))
 }
 
 #[no_mangle]
-pub unsafe extern "C" fn kez_notepack_tag_len(packed: *const u8, packed_len: usize, tag: u64) -> KezAnswer {
-    told(notepack::read(unsafe { lent(packed, packed_len) }).and_then(|p| p.tag_len(tag)))
+pub unsafe extern "C" fn kez_notepack_tag_len(
+    packed: *const u8,
+    packed_len: usize,
+    bare: u64,
+    tag: u64,
+) -> KezAnswer {
+    let packed = unsafe { given(packed, packed_len, bare) };
+    told(packed.with(|s| notepack::read(s)?.tag_len(tag)))
 }
 
 #[no_mangle]
 pub unsafe extern "C" fn kez_notepack_element(
     packed: *const u8,
     packed_len: usize,
+    bare: u64,
     tag: u64,
     element: u64,
     at: *mut u64,
     len: *mut u64,
     is_bytes: *mut u64,
 ) -> KezAnswer {
-    let found = notepack::read(unsafe { lent(packed, packed_len) }).and_then(|p| p.element(tag, element));
+    let packed = unsafe { given(packed, packed_len, bare) };
+    let found = packed.with(|s| notepack::read(s)?.element(tag, element));
     told(found.map(|text| {
         unsafe {
-            *at = text.at as u64;
+            *at = packed.place(text.at) as u64;
             *len = text.payload.len() as u64;
             *is_bytes = text.raw as u64;
         }
@@ -98,11 +115,12 @@ pub unsafe extern "C" fn kez_notepack_element(
 pub unsafe extern "C" fn kez_notepack_elements(
     packed: *const u8,
     packed_len: usize,
+    bare: u64,
     first: u64,
     out: *mut u8,
     out_len: usize,
 ) -> KezAnswer {
-    let (packed, out) = unsafe { (lent(packed, packed_len), lent_mut(out, out_len)) };
+    let (packed, out) = unsafe { (given(packed, packed_len, bare), lent_mut(out, out_len)) };
     told(notepack::elements(packed, first, out))
 }
 
@@ -117,14 +135,35 @@ macro_rules! writing {
     };
 }
 
-writing!(kez_notepack_write, notepack::write);
-writing!(kez_canonical_write, canonical::write);
-writing!(kez_nson_write, nson::write);
 writing!(kez_nson_read, nson::read);
 writing!(kez_json_read, json::read);
-writing!(kez_notepack_string_write, string_form::write);
 writing!(kez_notepack_string_read, string_form::read);
+writing!(kez_notepack_string_read_versioned, string_form::read_versioned);
+writing!(kez_versioned_from_bare, versioned::from_bare);
+writing!(kez_bare_from_versioned, versioned::to_bare);
 writing!(kez_sha256_finish, hash::finish);
+
+/// An entry that reads packed bytes and writes another lent buffer.
+macro_rules! writing_packed {
+    ($name:ident, $function:expr) => {
+        #[no_mangle]
+        pub unsafe extern "C" fn $name(
+            packed: *const u8,
+            packed_len: usize,
+            bare: u64,
+            out: *mut u8,
+            out_len: usize,
+        ) -> KezAnswer {
+            let (packed, out) = unsafe { (given(packed, packed_len, bare), lent_mut(out, out_len)) };
+            told($function(packed, out).map(|length| length as u64))
+        }
+    };
+}
+
+writing_packed!(kez_notepack_write, |packed: Given, out: &mut [u8]| packed.with(|s| notepack::write(s, out)));
+writing_packed!(kez_canonical_write, |packed: Given, out: &mut [u8]| packed.with(|s| canonical::write(s, out)));
+writing_packed!(kez_nson_write, |packed: Given, out: &mut [u8]| packed.with(|s| nson::write(s, out)));
+writing_packed!(kez_notepack_string_write, string_form::write);
 
 #[no_mangle]
 pub unsafe extern "C" fn kez_sha256_start(state: *mut u8, state_len: usize) -> KezAnswer {
@@ -143,13 +182,22 @@ pub unsafe extern "C" fn kez_sha256_add(
 }
 
 #[no_mangle]
-pub unsafe extern "C" fn kez_id_belongs(packed: *const u8, packed_len: usize) -> KezAnswer {
-    told(hash::id_belongs(unsafe { lent(packed, packed_len) }).map(u64::from))
+pub unsafe extern "C" fn kez_id_belongs(packed: *const u8, packed_len: usize, bare: u64) -> KezAnswer {
+    let packed = unsafe { given(packed, packed_len, bare) };
+    told(packed.with(hash::id_belongs).map(u64::from))
 }
 
 #[no_mangle]
-pub unsafe extern "C" fn kez_rivals(first: *const u8, first_len: usize, second: *const u8, second_len: usize) -> KezAnswer {
-    let (first, second) = unsafe { (lent(first, first_len), lent(second, second_len)) };
+pub unsafe extern "C" fn kez_rivals(
+    first: *const u8,
+    first_len: usize,
+    first_bare: u64,
+    second: *const u8,
+    second_len: usize,
+    second_bare: u64,
+) -> KezAnswer {
+    let first = unsafe { given(first, first_len, first_bare) };
+    let second = unsafe { given(second, second_len, second_bare) };
     told(match rivals::choose(first, second) {
         Ok(Choice::NotRivals) => Ok(0),
         Ok(Choice::First) => Ok(1),
@@ -194,9 +242,10 @@ pub unsafe extern "C" fn kez_table_offer(
     cells_len: usize,
     packed: *const u8,
     packed_len: usize,
+    bare: u64,
 ) -> KezAnswer {
     let (slots, cells) = unsafe { (lent_mut(slots, slots_len), lent_mut(cells, cells_len)) };
-    told(table::offer(slots, cells, unsafe { lent(packed, packed_len) }).map(|offered| match offered {
+    told(table::offer(slots, cells, unsafe { given(packed, packed_len, bare) }).map(|offered| match offered {
         Offered::New => 0,
         Offered::Replaced => 1,
         Offered::Loses => 2,

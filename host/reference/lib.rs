@@ -15,3 +15,4 @@ pub mod rivals;
 pub mod sha256;
 pub mod string_form;
 pub mod table;
+pub mod versioned;

@@ -2,10 +2,12 @@
 //!   reference < requests > answers
 //!   reference --selftest
 //!   reference --bench ENTRY FILE N      nanoseconds for a call, over N calls
+//! A packed event is b:BYTES if it is said to be bare, v:BYTES if it is said to be versioned; without a mark, bare.
 
 use hash_session::HashSession;
 use reference::answer::{Answer, Refusal};
 use reference::rivals::{Choice, Which};
+use reference::versioned::{self, Given};
 use reference::{both, canonical, hash, json, notepack, nson, rivals, sha256, string_form};
 use session::Session;
 use std::io::{self, BufRead, Write};
@@ -52,30 +54,20 @@ fn yes_or_no(yes: bool) -> String {
 
 fn answer(line: &str) -> Option<String> {
     let words: Vec<&str> = line.split(' ').collect();
-    let writes = |f: Writing, from: &str, room: &str| -> Option<String> {
-        let (from, mut out) = (bytes(from)?, vec![0; number(room)? as usize]);
-        Some(told(f(&from, &mut out).map(|length| format!("ok {length} {}", hex(&out[..length])))))
-    };
     Some(match words[..] {
-        ["read", s] => told(
-            notepack::read(&bytes(s)?)
-                .map(|p| format!("ok {} {} {} {} {}", p.created_at, p.kind, p.content_at, p.content_len, p.tag_count)),
-        ),
-        ["strict", s] => told(notepack::is_strict(&bytes(s)?).map(yes_or_no)),
-        ["id_belongs", s] => told(hash::id_belongs(&bytes(s)?).map(yes_or_no)),
-        ["content", s] => told(notepack::read(&bytes(s)?).map(|p| format!("ok {} {}", p.content_at, p.content_len))),
+        ["read" | "content" | "strict" | "id_belongs", s] => of_packed(words[0], said(s)?.given()),
         ["element", s, tag, element] => {
-            let (s, tag, element) = (bytes(s)?, number(tag)?, number(element)?);
-            let found = notepack::read(&s).and_then(|p| p.element(tag, element));
-            told(found.map(|text| format!("ok {} {} {}", text.at, text.payload.len(), text.raw as u8)))
+            let (s, tag, element) = (said(s)?, number(tag)?, number(element)?);
+            let found = s.given().with(|s| notepack::read(s)?.element(tag, element));
+            told(found.map(|text| format!("ok {} {} {}", s.given().place(text.at), text.payload.len(), text.raw as u8)))
         }
         ["elements", s, first, room] => {
-            let (s, first, mut out) = (bytes(s)?, number(first)?, vec![0; number(room)? as usize]);
-            let listed = notepack::elements(&s, first, &mut out);
+            let (s, first, mut out) = (said(s)?, number(first)?, vec![0; number(room)? as usize]);
+            let listed = notepack::elements(s.given(), first, &mut out);
             told(listed.map(|count| format!("ok {count} {}", hex(&out[..count as usize * notepack::ELEMENT_BYTES]))))
         }
         ["lister", s] => notepack::list(&bytes(s)?).replace('\n', "\\n"),
-        ["rivals", first, second] => match rivals::choose(&bytes(first)?, &bytes(second)?) {
+        ["rivals", first, second] => match rivals::choose(said(first)?.given(), said(second)?.given()) {
             Ok(Choice::NotRivals) => "not_rivals".into(),
             Ok(Choice::First) => "first".into(),
             Ok(Choice::Second) => "second".into(),
@@ -91,24 +83,75 @@ fn answer(line: &str) -> Option<String> {
                 format!("ok {value} {length} {first} {}", hex(&second[..length]))
             }))
         }
-        [entry, s, room] => writes(writing(entry)?, s, room)?,
+        [entry, s, room] => {
+            let mut out = vec![0; number(room)? as usize];
+            let written = match writing(entry) {
+                Some(f) => f(&bytes(s)?, &mut out),
+                None => writing_packed(entry)?(said(s)?.given(), &mut out),
+            };
+            told(written.map(|length| format!("ok {length} {}", hex(&out[..length]))))
+        }
         _ => return None,
     })
 }
 
+/// What is asked of packed bytes alone.
+fn of_packed(question: &str, s: Given) -> String {
+    told(match question {
+        "strict" => s.with(notepack::is_strict).map(yes_or_no),
+        "id_belongs" => s.with(hash::id_belongs).map(yes_or_no),
+        "content" => s.with(notepack::read).map(|p| format!("ok {} {}", s.place(p.content_at), p.content_len)),
+        _ => s.with(notepack::read).map(|p| {
+            format!("ok {} {} {} {} {}", p.created_at, p.kind, s.place(p.content_at), p.content_len, p.tag_count)
+        }),
+    })
+}
+
 type Writing = fn(&[u8], &mut [u8]) -> Answer<usize>;
+type WritingPacked = fn(Given, &mut [u8]) -> Answer<usize>;
 
 fn writing(entry: &str) -> Option<Writing> {
     Some(match entry {
-        "pack" => notepack::write,
-        "canonical" => canonical::write,
-        "nson_write" => nson::write,
         "nson_read" => nson::read,
         "json_read" => json::read,
-        "string_write" => string_form::write,
         "string_read" => string_form::read,
+        "string1_read" => string_form::read_versioned,
+        "to_versioned" => versioned::from_bare,
+        "to_bare" => versioned::to_bare,
         _ => return None,
     })
+}
+
+fn writing_packed(entry: &str) -> Option<WritingPacked> {
+    Some(match entry {
+        "pack" => |packed, out| packed.with(|s| notepack::write(s, out)),
+        "canonical" => |packed, out| packed.with(|s| canonical::write(s, out)),
+        "nson_write" => |packed, out| packed.with(|s| nson::write(s, out)),
+        "string_write" => string_form::write,
+        _ => return None,
+    })
+}
+
+/// A packed input of a request.
+pub struct Said {
+    bytes: Vec<u8>,
+    bare: bool,
+}
+
+impl Said {
+    pub fn given(&self) -> Given<'_> {
+        Given { bytes: &self.bytes, bare: self.bare }
+    }
+}
+
+/// `v:BYTES` is said to be versioned; `b:BYTES`, or BYTES alone, to be bare.
+pub fn said(word: &str) -> Option<Said> {
+    let (bare, word) = match word.split_once(':') {
+        Some(("v", word)) => (false, word),
+        Some(("b", word)) => (true, word),
+        _ => (true, word),
+    };
+    Some(Said { bytes: bytes(word)?, bare })
 }
 
 fn number(word: &str) -> Option<u64> {
@@ -142,10 +185,11 @@ fn bench(entry: &str, file: &str, calls: &str) -> bool {
         "strict" => Box::new(|s| notepack::is_strict(s).map(u64::from)),
         "id_belongs" => Box::new(|s| hash::id_belongs(s).map(u64::from)),
         "sha256" => Box::new(|s| Ok(sha256::digest(s)[0].into())),
-        "elements" => Box::new(move |s| notepack::elements(s, 0, &mut out)),
-        _ => match writing(entry) {
-            Some(f) => Box::new(move |s| f(s, &mut out).map(|length| length as u64)),
-            None => {
+        "elements" => Box::new(move |s| notepack::elements(Given::bare(s), 0, &mut out)),
+        _ => match (writing(entry), writing_packed(entry)) {
+            (Some(f), _) => Box::new(move |s| f(s, &mut out).map(|length| length as u64)),
+            (_, Some(f)) => Box::new(move |s| f(Given::bare(s), &mut out).map(|length| length as u64)),
+            _ => {
                 eprintln!("no entry {entry}");
                 return false;
             }

@@ -2,6 +2,7 @@
 
 use crate::answer::*;
 use crate::bytes::*;
+use crate::versioned::Given;
 use std::borrow::Cow;
 
 pub const LIMIT: usize = 65_536;
@@ -348,14 +349,14 @@ impl<'a> Iterator for Items<'a> {
 pub const ELEMENT_BYTES: usize = 16;
 
 /// The elements of all tags from number `first` on, as many as there are and as fit whole into the lent buffer; how
-/// many that is. Each is four little-endian numbers: its tag, the payload's place and length, and b.
-pub fn elements(bytes: &[u8], first: u64, out: &mut [u8]) -> Answer<u64> {
-    let packed = read(bytes)?;
+/// many that is. Each is four little-endian numbers: its tag, the payload's place in what was given, its length, and b.
+pub fn elements(given: Given, first: u64, out: &mut [u8]) -> Answer<u64> {
+    let packed = given.with(read)?;
     let places = out.chunks_exact_mut(ELEMENT_BYTES);
     let wanted = packed.texts().skip(usize::try_from(first).unwrap_or(usize::MAX));
     let mut listed = 0;
     for (place, (tag, text)) in places.zip(wanted) {
-        let numbers = [tag, text.at as u32, text.payload.len() as u32, text.raw as u32];
+        let numbers = [tag, given.place(text.at) as u32, text.payload.len() as u32, text.raw as u32];
         for (four, number) in place.chunks_exact_mut(4).zip(numbers) {
             four.copy_from_slice(&number.to_le_bytes());
         }

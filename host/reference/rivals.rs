@@ -2,6 +2,7 @@
 
 use crate::answer::*;
 use crate::notepack::{read, Item, Packed, Text};
+use crate::versioned::Given;
 
 #[derive(Clone, Copy, Debug, PartialEq, Eq)]
 pub enum Choice {
@@ -68,9 +69,9 @@ pub fn later(a: &Packed, b: &Packed) -> bool {
     b.created_at > a.created_at || b.created_at == a.created_at && b.id() < a.id()
 }
 
-pub fn choose(first: &[u8], second: &[u8]) -> Result<Choice, (Refusal, Which)> {
-    let a = read(first).map_err(|r| (r, Which::First))?;
-    let b = read(second).map_err(|r| (r, Which::Second))?;
+pub fn choose(first: Given, second: Given) -> Result<Choice, (Refusal, Which)> {
+    let a = first.with(read).map_err(|r| (r, Which::First))?;
+    let b = second.with(read).map_err(|r| (r, Which::Second))?;
     if !same_key(&a, &b) {
         return Ok(Choice::NotRivals);
     }

@@ -40,6 +40,11 @@ const STRING: &str = concat!(
     "7u7u7u7u7u7u7u7u7u7u7u7u7",
 );
 
+/// 01, and behind it these bytes.
+fn versioned(bare: &[u8]) -> Vec<u8> {
+    [&[1], bare].concat()
+}
+
 /// An event with zero id, pubkey and sig.
 fn packed(created_at: &[u8], rest: &[u8]) -> Vec<u8> {
     [&[0; 128], created_at, rest].concat()
@@ -157,6 +162,7 @@ pub fn run() -> bool {
     }
     padded_numbers(&mut same);
     string_forms(&mut same);
+    versioned_forms(&mut same);
     tables(&mut same);
     bad_tables(&mut same);
     digests(&mut same);
@@ -261,6 +267,79 @@ fn string_forms(same: &mut impl FnMut(&str, String, String)) {
     let string = answer_bytes(&ask(format!("string_write {} 87391", hex(&longest))));
     same("the longest string form", string.len().to_string(), "87391".into());
     same("the longest string form, read", ask(format!("string_read {} 65536", hex(&string))), left(&longest));
+}
+
+/// Versioned events: first bytes, places, the limit, moves, string forms, and words that are not true. Part 17.
+fn versioned_forms(same: &mut impl FnMut(&str, String, String)) {
+    let (bare, v) = (vector(), versioned(&vector()));
+    for (given, wanted) in [
+        (format!("v:{}", hex(&v)), "ok 1720000000 0 136 5 2"),
+        (format!("b:{}", hex(&bare)), "ok 1720000000 0 135 5 2"),
+        (format!("v:{}", hex(&bare)), "refused 25 0"),
+        (format!("v:{}", hex(&v[..130])), "refused 4 129"),
+        (format!("v:{}", hex(&v[..129])), "refused 2 129"),
+        ("v:-".into(), "refused 2 0"),
+        ("v:01".into(), "refused 2 1"),
+        ("v:02".into(), "refused 25 0"),
+        ("b:-".into(), "refused 2 0"),
+    ] {
+        same(&format!("read {:.20}", given), ask(format!("read {given}")), wanted.into());
+    }
+    same("an element", ask(format!("element v:{} 0 1", hex(&v))), "ok 146 32 1".into());
+    same("no element", ask(format!("element v:{} 9 1", hex(&v))), "refused 19 0".into());
+    same("strict", ask(format!("strict v:{}", hex(&v))), "yes".into());
+    same("packed", ask(format!("pack v:{} 237", hex(&v))), left(&bare));
+    same("packed without room", ask(format!("pack v:{} 236", hex(&v))), "refused 11 237".into());
+    // the limit counts the 01, and comes before it
+    let mut most = packed(b"\0", b"\0\xf9\xfe\x03");
+    most.resize(65_534, b'x');
+    most.push(0);
+    let long = versioned(&most);
+    same("65,536 bytes", ask(format!("read v:{}", hex(&long))), "ok 0 0 134 65401 0".into());
+    for first in [0, 1, 2] {
+        let longer = [&[first], &long[..]].concat();
+        same("65,537 bytes", ask(format!("read v:{}", hex(&longer))), "refused 1 0".into());
+    }
+    for (bytes, moved, back) in [(&bare, &v, 237), (&most, &long, 65_535)] {
+        same("there", room("to_versioned", bytes), left(moved));
+        same("and back", ask(format!("to_bare {} {back}", hex(moved))), left(bytes));
+        let short = ask(format!("to_versioned {} {back}", hex(bytes)));
+        same("there, without room", short, format!("refused 11 {}", back + 1));
+    }
+    same("65,536 bytes moved", room("to_versioned", &long), "refused 1 0".into());
+    same("65,536 bad bytes moved", room("to_versioned", &[0xff; 65_536]), "refused 1 0".into());
+    let hollow = packed(b"\0", b"\0\0\x01\x01\x01");
+    same("nothing is made strict", room("to_versioned", &hollow), left(&versioned(&hollow)));
+    // the string form keeps the form
+    let string = answer_bytes(&ask(format!("string_write v:{} 328", hex(&v))));
+    same("versioned string form, length", string.len().to_string(), "328".into());
+    same("its prefix", String::from_utf8_lossy(&string[..12]).into(), "notepack1_AQ".into());
+    same("versioned string form, read", room("string1_read", &string), left(&v));
+    same("by the other reader", room("string_read", &string), "refused 20 0".into());
+    same("a bare one by this reader", room("string1_read", STRING.as_bytes()), "refused 20 0".into());
+    for (text, wanted) in [
+        ("notepack1_", "refused 2 0"),
+        ("notepack1_AQ", "refused 2 1"),
+        ("notepack1_Ag", "refused 25 0"),
+        ("notepack1_AAAA", "refused 25 0"),
+        ("notepack1_AAAAA", "refused 21 15"),
+        ("notepack1_AAAA-", "refused 21 14"),
+    ] {
+        same(text, room("string1_read", text.as_bytes()), wanted.into());
+    }
+    // 01 and an event of kind 1, said to be bare
+    let one = versioned(&packed(b"\0", b"\x01\0\0"));
+    same("a true word", ask(format!("read v:{}", hex(&one))), "ok 0 1 132 0 0".into());
+    same("a wrong word", ask(format!("read b:{}", hex(&one))), "ok 0 0 131 1 0".into());
+    let later = {
+        let mut later = v.clone();
+        later[130] += 1;
+        later
+    };
+    let rivals = |a: String, b: String| ask(format!("rivals {a} {b}"));
+    same("two forms", rivals(format!("b:{}", hex(&bare)), format!("v:{}", hex(&later))), "second".into());
+    same("two wrong words", rivals(format!("v:{}", hex(&bare)), "v:02".into()), "refused 25 0 1".into());
+    same("the second's", rivals(format!("b:{}", hex(&bare)), format!("v:{}", hex(&bare))), "refused 25 0 2".into());
 }
 
 /// A strict event by a number for each of id and author, with a label.

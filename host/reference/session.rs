@@ -1,13 +1,13 @@
 //! The requests about a table of records, which lives from line to line.
 //!   table_new               a fresh table
 //!   table_empty             emptied
-//!   table_offer BYTES       new, replaced, loses, held or not_kept
+//!   table_offer PACKED      new, replaced, loses, held or not_kept
 //!   table_slot N            where the event of slot N is in the cells, and its length
 //! Two words only look at the lent bytes and set them:
 //!   table_look N            used or free, the length in the slot, the cell without the zeros at its end
 //!   table_load SLOTS [N:LENGTH:CELL ..]     any table, of any number of slots; ~N:.. is a free one that is not zero
 
-use crate::{bytes, hex, number, told};
+use crate::{bytes, hex, number, said, told};
 use reference::table::{self, Offered, CELL_BYTES, SLOTS, SLOT_BYTES};
 
 pub struct Session {
@@ -34,7 +34,8 @@ impl Session {
             }
             ["table_empty"] => told(table::empty(&mut self.slots, &mut self.cells).map(|()| "ok".into())),
             ["table_offer", packed] => {
-                let offered = table::offer(&mut self.slots, &mut self.cells, &bytes(packed)?);
+                let packed = said(packed)?;
+                let offered = table::offer(&mut self.slots, &mut self.cells, packed.given());
                 told(offered.map(|offered| spelled(offered).into()))
             }
             ["table_slot", n] => {

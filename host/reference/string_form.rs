@@ -1,9 +1,11 @@
-//! The string form: `notepack_` and base64 (RFC 4648, section 4) without padding.
+//! The string form: a prefix, which says whether the bytes are bare, and base64 (RFC 4648, section 4) without padding.
 
 use crate::answer::*;
 use crate::notepack;
+use crate::versioned::Given;
 
 pub const PREFIX: &[u8] = b"notepack_";
+pub const VERSIONED_PREFIX: &[u8] = b"notepack1_";
 
 const ALPHABET: &[u8; 64] = b"ABCDEFGHIJKLMNOPQRSTUVWXYZabcdefghijklmnopqrstuvwxyz0123456789+/";
 
@@ -89,22 +91,29 @@ fn outside(chars: &[u8]) -> Option<usize> {
     chars[from..].iter().position(|&c| is_outside(c)).map(|at| from + at)
 }
 
-/// The string form of the strict bytes into the lent buffer; its length.
-pub fn write(packed: &[u8], out: &mut [u8]) -> Answer<usize> {
-    let strict = notepack::strict(packed)?;
-    let chars = chars_for(strict.len());
-    let mut out = room(out, PREFIX.len() + chars)?;
-    out.put(PREFIX);
-    encode(&strict, out.take(chars));
+fn prefix(bare: bool) -> &'static [u8] {
+    if bare { PREFIX } else { VERSIONED_PREFIX }
+}
+
+/// The string form of the strict bytes, in the form that was given, into the lent buffer; its length.
+pub fn write(packed: Given, out: &mut [u8]) -> Answer<usize> {
+    let (strict, prefix) = (packed.with(notepack::strict)?, prefix(packed.bare));
+    let chars = chars_for(packed.front().len() + strict.len());
+    let mut out = room(out, prefix.len() + chars)?;
+    out.put(prefix);
+    match packed.bare {
+        true => encode(&strict, out.take(chars)),
+        false => encode(&[packed.front(), &strict].concat(), out.take(chars)),
+    }
     assert!(out.full());
-    Ok(PREFIX.len() + chars)
+    Ok(prefix.len() + chars)
 }
 
 /// The characters behind the prefix, if they are base64 of something.
-fn base64(text: &[u8]) -> Answer<&[u8]> {
-    let Some(chars) = text.strip_prefix(PREFIX) else { return refuse(NOT_A_STRING_FORM, 0) };
+fn base64<'a>(text: &'a [u8], prefix: &[u8]) -> Answer<&'a [u8]> {
+    let Some(chars) = text.strip_prefix(prefix) else { return refuse(NOT_A_STRING_FORM, 0) };
     if let Some(at) = outside(chars) {
-        return refuse(NOT_BASE64, PREFIX.len() + at);
+        return refuse(NOT_BASE64, prefix.len() + at);
     }
     if chars.len() % 4 == 1 || !nothing_left_over(chars) {
         return refuse(NOT_BASE64, text.len());
@@ -113,15 +122,24 @@ fn base64(text: &[u8]) -> Answer<&[u8]> {
 }
 
 /// The packed event that the text spells, into the lent buffer as it was decoded; its length.
-pub fn read(text: &[u8], out: &mut [u8]) -> Answer<usize> {
-    let chars = base64(text)?;
+fn read_form(text: &[u8], bare: bool, out: &mut [u8]) -> Answer<usize> {
+    let chars = base64(text, prefix(bare))?;
     let length = bytes_in(chars.len());
     if length > notepack::LIMIT {
         return refuse(TOO_LONG, 0);
     }
     let mut packed = vec![0; length];
     decode(chars, &mut packed);
-    notepack::read(&packed)?;
+    Given { bytes: &packed, bare }.with(notepack::read)?;
     room(out, length)?.put(&packed);
     Ok(length)
+}
+
+pub fn read(text: &[u8], out: &mut [u8]) -> Answer<usize> {
+    read_form(text, true, out)
+}
+
+/// The version byte is among the bytes that are left.
+pub fn read_versioned(text: &[u8], out: &mut [u8]) -> Answer<usize> {
+    read_form(text, false, out)
 }

@@ -6,6 +6,7 @@
 use crate::answer::*;
 use crate::notepack::{measured, Packed};
 use crate::rivals::{key, later, Key};
+use crate::versioned::Given;
 
 pub const SLOTS: usize = 64;
 pub const SLOT_BYTES: usize = 16;
@@ -137,10 +138,10 @@ fn placed(all: &[Slot], event: &Packed, strict: &[u8]) -> Answer<(Offered, usize
     Ok((offered, n))
 }
 
-/// Offers a packed event to the table, which keeps it in strict form if it is to be kept.
-pub fn offer(slots: &mut [u8], cells: &mut [u8], packed: &[u8]) -> Answer<Offered> {
+/// Offers a packed event to the table, which keeps it in bare strict form if it is to be kept.
+pub fn offer(slots: &mut [u8], cells: &mut [u8], packed: Given) -> Answer<Offered> {
     let all = slots_of(slots, cells)?;
-    let (event, length, is_strict) = measured(packed)?;
+    let (event, length, is_strict) = packed.with(measured)?;
     if length > CELL_BYTES {
         return refuse(TOO_LONG_TO_KEEP, 0);
     }
@@ -150,7 +151,7 @@ pub fn offer(slots: &mut [u8], cells: &mut [u8], packed: &[u8]) -> Answer<Offere
     let mut strict = [0; CELL_BYTES];
     let strict = &mut strict[..length];
     if is_strict {
-        strict.copy_from_slice(packed);
+        strict.copy_from_slice(event.bytes);
     } else {
         event.put_strict(&mut room(strict, length)?);
     }

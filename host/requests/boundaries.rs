@@ -5,7 +5,8 @@ use crate::json::*;
 use crate::notepack::*;
 use crate::string_form::*;
 use crate::texts::*;
-use crate::{firsts, hash, rooms, table, Requests, PACKED};
+use crate::versioned::{Form, FORMS};
+use crate::{firsts, hash, rooms, table, versioned, Requests, PACKED};
 
 pub fn all(g: &mut Requests) {
     packed_boundaries(g);
@@ -14,8 +15,13 @@ pub fn all(g: &mut Requests) {
     carry_boundaries(g);
     nson_boundaries(g);
     json_boundaries(g);
-    string_boundaries(g);
+    for form in FORMS {
+        if g.has(form.reader()) {
+            string_boundaries(g, form);
+        }
+    }
     rival_boundaries(g);
+    versioned::boundaries(g);
     hash::boundaries(g);
     if g.has("table") {
         table::boundaries(g);
@@ -95,7 +101,9 @@ fn padded_boundaries(g: &mut Requests) {
             changed[i] = Piece::Spelled(padded(n, length));
             let whole = spelled(&changed, varint);
             g.all(&PACKED, &whole, &e);
-            g.all(&["string_read"], &string_of(&whole), &e);
+            for form in FORMS {
+                g.all(&[form.reader()], &form.string_of(&whole), &e);
+            }
             g.rivals(&whole, &strict(&e));
             g.rivals(&strict(&e), &whole);
             g.any(&PACKED, &spelled(&changed, |n| padded(n, 2)), &e);
@@ -466,87 +474,85 @@ fn json_boundaries(g: &mut Requests) {
     }
 }
 
-/// String forms: prefixes, the last characters, the order of faults, sizes.
-fn string_boundaries(g: &mut Requests) {
-    if !g.has("string_read") {
-        return;
-    }
-    let ask = |g: &mut Requests, text: &[u8], e: &Event| g.all(&["string_read"], text, e);
+/// String forms of one form: prefixes, the last characters, the order of faults, sizes.
+fn string_boundaries(g: &mut Requests, form: Form) {
+    let ask = |g: &mut Requests, text: &[u8], e: &Event| g.all(&[form.reader()], text, e);
+    let right = form.prefix();
     for e in [small(), carried(), vector(), mixed()] {
         let (loose, padded) = (loose(&mut g.dice, &e), with_padded(&mut g.dice, &e));
         for packed in [strict(&e), loose, padded] {
-            ask(g, &string_of(&packed), &e);
+            ask(g, &form.string_of(&packed), &e);
             for prefix in ODD_PREFIXES {
-                ask(g, &[prefix, &base64(&packed, 0)].concat(), &e);
+                ask(g, &[prefix, &base64(&form.of(&packed), 0)].concat(), &e);
             }
         }
     }
-    for at in 0..PREFIX.len() {
-        ask(g, &PREFIX[..at], &small());
-        let mut other = string_of(&strict(&small()));
+    for at in 0..right.len() {
+        ask(g, &right[..at], &small());
+        let mut other = form.string_of(&strict(&small()));
         other[at] ^= 0x20;
         ask(g, &other, &small());
     }
     for content in ["", "a", "ab"] {
-        last_characters(g, &Event { content: content.into(), ..carried() });
+        last_characters(g, form, &Event { content: content.into(), ..carried() });
     }
     for chars in (0..=13).chain(165..=190) {
         for c in [b'A', b'/'] {
-            ask(g, &[PREFIX, &vec![c; chars]].concat(), &small());
+            ask(g, &[right, &vec![c; chars]].concat(), &small());
         }
     }
-    string_sizes(g);
+    string_sizes(g, form);
 }
 
 /// Of an event whose packed bytes leave 0, 1 or 2 after division by 3: each byte as one of the last four characters,
 /// each number in the bits left over, and faults that come together.
-fn last_characters(g: &mut Requests, e: &Event) {
-    let packed = strict(e);
-    let text = string_of(&packed);
+fn last_characters(g: &mut Requests, form: Form, e: &Event) {
+    let (packed, prefix, reader) = (form.of(&strict(e)), form.prefix(), form.reader());
+    let text = form.string_of(&strict(e));
     for from_end in 1..=4 {
         for b in 0..=255 {
             let mut changed = text.clone();
             changed[text.len() - from_end] = b;
-            g.one("string_read", &changed, e);
+            g.one(reader, &changed, e);
         }
     }
     for leftover in 0..16 {
-        let text = [PREFIX, &base64(&packed, leftover)].concat();
-        g.one("string_read", &text, e);
-        for (place, b) in [(PREFIX.len(), b'!'), (100, b'='), (text.len() - 1, b'-'), (0, b'N')] {
+        let text = [prefix, &base64(&packed, leftover)].concat();
+        g.one(reader, &text, e);
+        for (place, b) in [(prefix.len(), b'!'), (100, b'='), (text.len() - 1, b'-'), (0, b'N')] {
             let mut changed = text.clone();
             changed[place] = b;
-            g.one("string_read", &changed, e);
+            g.one(reader, &changed, e);
             changed[text.len() / 2] = b'?';
-            g.one("string_read", &changed, e);
+            g.one(reader, &changed, e);
         }
     }
     for more in ["A", "B", "AA", "AB", "AAA", "AAB", "=", "==", "\n", "\r\n", " ", "A=", "A\n"] {
-        g.all(&["string_read"], &[&text, more.as_bytes()].concat(), e);
-        g.one("string_read", &[&text[..text.len() - 1], more.as_bytes()].concat(), e);
+        g.all(&[reader], &[&text, more.as_bytes()].concat(), e);
+        g.one(reader, &[&text[..text.len() - 1], more.as_bytes()].concat(), e);
     }
 }
 
 /// About 65,536 decoded bytes, and far more characters than that takes.
-fn string_sizes(g: &mut Requests) {
-    let e = small();
+fn string_sizes(g: &mut Requests, form: Form) {
+    let (e, reader) = (small(), form.reader());
     for size in [65_534, 65_535, 65_536, 65_537, 65_538] {
         let content = vec![b'x'; size - strict(&e).len() - 2];
         let packed = strict(&Event { content, ..small() });
-        g.all(&["string_read"], &string_of(&packed), &e);
+        g.all(&[reader], &form.string_of(&packed), &e);
         // refused at the end: a tag that is not there, and something behind the end
         let cut = [&packed[..packed.len() - 1], &[1]].concat();
-        g.one("string_read", &string_of(&cut), &e);
-        g.one("string_read", &string_of(&[&packed[..], &[0]].concat()), &e);
-        g.one("string_read", &[&string_of(&packed)[..], b"\n"].concat(), &e);
+        g.one(reader, &form.string_of(&cut), &e);
+        g.one(reader, &form.string_of(&[&packed[..], &[0]].concat()), &e);
+        g.one(reader, &[&form.string_of(&packed)[..], b"\n"].concat(), &e);
     }
     for chars in (87_379..=87_385).chain([199_999, 200_000, 200_001, 200_002]) {
-        let text = [PREFIX, &vec![b'A'; chars]].concat();
+        let text = [form.prefix(), &vec![b'A'; chars]].concat();
         let last = text.len() - 1;
         for (place, b) in [(9, b'A'), (last, b'B'), (last, b'!'), (9, b'\n'), (8, b'-'), (last.min(90_000), b'=')] {
             let mut changed = text.clone();
             changed[place] = b;
-            g.one("string_read", &changed, &e);
+            g.one(reader, &changed, &e);
         }
     }
 }

@@ -6,6 +6,7 @@ use crate::json::*;
 use crate::notepack::*;
 use crate::string_form::*;
 use crate::texts::*;
+use crate::versioned::{Form, FORMS};
 use crate::{hash, Requests, PACKED};
 
 /// Samples cut at every place; at every place a byte changed, put in or taken out.
@@ -15,8 +16,10 @@ pub fn everywhere(g: &mut Requests) {
         let loose = loose(&mut g.dice, e);
         for bytes in [strict(e), loose] {
             damaged(g, &PACKED, &bytes, e, &ODD_BYTES);
-            damaged(g, &["string_read"], &string_of(&bytes), e, &ODD_CHARS);
-            damaged_inside(g, &bytes, e);
+            for form in FORMS {
+                damaged(g, &[form.reader()], &form.string_of(&bytes), e, &ODD_CHARS);
+                damaged_inside(g, form, &bytes, e);
+            }
         }
         let nson = Nson::of(e).spelled();
         damaged(g, &["nson_read", "json_read"], &nson, e, &ODD_BYTES);
@@ -46,10 +49,10 @@ fn damaged(g: &mut Requests, kinds: &[&str], bytes: &[u8], e: &Event, odd: &[u8]
 }
 
 /// String forms of bytes that are damaged.
-fn damaged_inside(g: &mut Requests, bytes: &[u8], e: &Event) {
+fn damaged_inside(g: &mut Requests, form: Form, bytes: &[u8], e: &Event) {
     for place in 0..bytes.len() {
         for changed in changes_at(&mut g.dice, bytes, place, &ODD_BYTES) {
-            g.any(&["string_read"], &string_of(&changed), e);
+            g.any(&[form.reader()], &form.string_of(&changed), e);
         }
     }
 }
@@ -127,9 +130,10 @@ pub fn random(g: &mut Requests) {
             let text = random_json(&mut g.dice, &e);
             g.any(&["json_read"], &text, &e);
         }
-        "string_read" => {
-            let text = random_string(&mut g.dice, &e);
-            g.one("string_read", &text, &e);
+        "string_read" | "string1_read" => {
+            let form = if kind == "string_read" { Form::Bare } else { Form::Versioned };
+            let text = random_string(&mut g.dice, form, &e);
+            g.one(&kind, &text, &e);
         }
         _ => {
             if kind == "nson_write" && g.dice.percent(70) {
@@ -218,12 +222,16 @@ fn random_json(d: &mut Dice, e: &Event) -> Vec<u8> {
 }
 
 /// The string form of bytes that may be wrong, with up to three things that happened to it.
-fn random_string(d: &mut Dice, e: &Event) -> Vec<u8> {
-    let mut text = string_of(&random_packed(d, e));
+fn random_string(d: &mut Dice, form: Form, e: &Event) -> Vec<u8> {
+    let mut text = form.string_of(&random_packed(d, e));
+    if d.percent(3) {
+        // it holds the other form
+        text = [form.prefix(), &base64(&form.other().of(&random_packed(d, e)), 0)].concat();
+    }
     let spoils = d.pick(&[0, 0, 0, 1, 1, 1, 1, 2, 3]);
     for _ in 0..spoils {
-        if text.len() > PREFIX.len() + 3 {
-            spoil_string(d, &mut text);
+        if text.len() > form.prefix().len() + 3 {
+            spoil_string(d, form, &mut text);
         }
     }
     text

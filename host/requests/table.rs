@@ -4,6 +4,7 @@ use crate::damage::spoil_bytes;
 use crate::dice::Dice;
 use crate::event::*;
 use crate::notepack::*;
+use crate::versioned::Form;
 use crate::{hex, Requests};
 
 pub const SLOTS: usize = 64;
@@ -93,7 +94,7 @@ fn label_of(n: usize) -> Vec<u8> {
 }
 
 /// The event with a content that brings its strict form to this length, if that can be.
-fn of_length(mut e: Event, length: usize) -> Event {
+pub fn of_length(mut e: Event, length: usize) -> Event {
     e.content.clear();
     for _ in 0..3 {
         let now = strict(&e).len();
@@ -144,8 +145,18 @@ fn spelling(d: &mut Dice, e: &Event) -> Vec<u8> {
     }
 }
 
-fn offer(packed: &[u8]) -> String {
-    format!("table_offer {}", hex(packed))
+fn offer(bare: &[u8]) -> String {
+    format!("table_offer {}", Form::Bare.said(bare))
+}
+
+/// Some of the offers in the versioned form.
+fn in_either_form(d: &mut Dice, lines: Vec<String>) -> Vec<String> {
+    let versioned = |bare: &str| format!("table_offer v:01{}", bare.trim_start_matches('-'));
+    let changed = |line: String| match line.strip_prefix("table_offer b:") {
+        Some(bare) if d.percent(35) => versioned(bare),
+        _ => line,
+    };
+    lines.into_iter().map(changed).collect()
 }
 
 /// A look at every slot.
@@ -186,7 +197,7 @@ pub fn run(g: &mut Requests) -> Vec<String> {
         }
     }
     look(&mut lines, SLOTS);
-    lines
+    in_either_form(&mut g.dice, lines)
 }
 
 /// A new one, one that was offered before, or one near to that.
@@ -334,6 +345,7 @@ pub fn boundaries(g: &mut Requests) {
 }
 
 fn group(g: &mut Requests, lines: Vec<String>) {
+    let lines = in_either_form(&mut g.dice, lines);
     g.lines.push(lines.join("\n"));
 }
 

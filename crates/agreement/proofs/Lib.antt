@@ -16,3 +16,4 @@ pub mod Demand3
 pub mod Stored
 pub mod Demand2
 pub mod Example
+pub mod Given

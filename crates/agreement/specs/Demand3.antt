@@ -15,7 +15,8 @@ use Rattle.nson.specs.Nson.{Counts, nson}
 use Rattle.nson.specs.Carries.{Carries}
 use Rattle.nson.specs.Read.{byteHere, countsAt, readNson}
 use Rattle.json.specs.Entries.{jsonReads, jsonLeaves}
-use Rattle.nson.specs.Entries.{nsonReads, nsonLeaves, nsonWrites, writerLeaves}
+use Rattle.buffer.specs.Entry.{writes, leaves}
+use Rattle.nson.specs.Entries.{nsonReads, nsonLeaves, carried, nsonWrites, writerLeaves}
 use Rattle.agreement.specs.Counted.{OtherField, TrueCounts, FieldHolds}
 
 -- ---- the readers
@@ -93,26 +94,27 @@ CountsFollowed = (s : List ℕ) (e : Event) → readNson s ≡ shown e → Follo
 -- ---- the writer
 
 -- A packed event that is accepted, that NSON can carry, and that has room in d ..
-pub record Writable (s d : List ℕ) : Type 0 where
+-- (a is what the reader of packed events tells.)
+pub record Writable (a : Answer Event) (d : List ℕ) : Type 0 where
   pub event : Event
-  pub accepted : unpack s ≡ shown event
+  pub accepted : a ≡ shown event
   pub carries : Carries event
   pub room : length (nson event) ≤ length d
 
 -- .. is written (12.3.10): its length is told, its text stands at the start of d, and behind it d is as it was.
-pub record Writes (s d : List ℕ) (e : Event) : Type 0 where
-  pub written : nsonWrites s d ≡ shown (length (nson e))
-  pub left : writerLeaves s d ≡ nson e ++ drop (length (nson e)) d
+pub record Writes (a : Answer Event) (d : List ℕ) (e : Event) : Type 0 where
+  pub written : writes nson (carried a) d ≡ shown (length (nson e))
+  pub left : leaves nson (carried a) d ≡ nson e ++ drop (length (nson e)) d
 
 abbrev pub WriterWrites : Type 0
-WriterWrites = (s d : List ℕ) (w : Writable s d) → Writes s d (w .event)
+WriterWrites = (s d : List ℕ) (w : Writable (unpack s) d) → Writes (unpack s) d (w .event)
 
 -- Any other is refused, and d stays as it was (12.3.11).
 pub data Refused : Answer ℕ → Type 0 where
   is-refused : {n p : ℕ} → Refused (refused n p)
 
 abbrev pub OrNothing : Type 0
-OrNothing = (s d : List ℕ) → (Writable s d → ⊥) → Refused (nsonWrites s d) × (writerLeaves s d ≡ d)
+OrNothing = (s d : List ℕ) → (Writable (unpack s) d → ⊥) → Refused (nsonWrites s d) × (writerLeaves s d ≡ d)
 
 -- The refusal says why (12.3.11): it is that of the reader of packed events; or 17 at 0, where NSON can't carry the
 -- event; or 11 with the length needed.

@@ -16,7 +16,7 @@ use Rattle.archive.specs.declared.Outcome.{Outcome}
 use Rattle.table.specs.Standing.{Stand, standOf}
 use Rattle.table.specs.Offer.{Offer, offer, outcomeOf, placeIn, slotsAfter, cellsAfter}
 use Rattle.table.proofs.Offers.{offer-apart, offer-within}
-use Rattle.tablebytes.specs.Entries.{tableOffer, bytesAfter, tableSlot, sized, zeroed}
+use Rattle.tablebytes.specs.Entries.{tableOfferOf, tableOffer, bytesAfter, tableSlot, sized, zeroed}
 use Rattle.tableread.proofs.Entries.{clash}
 use Rattle.tablebytes.proofs.Slots.{length-with, bytes-with}
 
@@ -27,12 +27,12 @@ module _ (slots cells packed : List ℕ) where
       (a ≡ outcomeOf (tableOffer slots cells packed)) × ((b ≡ bytesAfter (tableOffer slots cells packed) slots) × (c ≡ cellsAfter (tableOffer slots cells packed) cells))
 
   pub other-size : (length slots ≡ 1_024 → ⊥) → Answers (refused 34 0) slots cells
-  unfolding tableOffer
+  unfolding tableOfferOf
   other-size h = rw (ne-eqb (length slots) 1_024 h) (refl, (refl, refl))
 
   module _ (n : length slots ≡ 1_024) (b : (i : ℕ) → getD slots i 0 < 256) where
     bytes-offer : tableOffer slots cells packed ≡ offer (slotsIn 64 slots) cells packed
-    unfolding tableOffer
+    unfolding tableOfferOf
     bytes-offer = rw (eq-eqb (length slots) 1_024 n)
 
     -- a refusal: nothing changes

@@ -1,4 +1,5 @@
 pub mod Again
+mod Further
 pub mod Entry
 pub mod Most
 pub mod Texts

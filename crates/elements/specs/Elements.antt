@@ -1,12 +1,14 @@
 -- The elements of all tags as a list, and what is told of them in a lent buffer (rules 4.12 to 4.15). Assumes nothing.
 use Prim.Native.Nat.{ℕ, suc, _/_}
+use mathlib.Core.Bool.{Bool}
 use mathlib.Core.List.{List, [], _∷_, _++_}
 use lib.ListN.{length, take, drop}
 use Rattle.scan.specs.Choice.{pick, Answer, shown, andThen}
 use Rattle.buffer.specs.Entry.{leaves}
 use Rattle.littleendian.specs.LittleEndian.{lowFirst}
 use Rattle.notepack.specs.declared.Part.{Part}
-use Rattle.notepack.specs.Unpack.{Packed, packedAt}
+use Rattle.notepack.specs.Unpack.{Packed}
+use Rattle.versioned.specs.Views.{packedGiven}
 
 -- an element: the number of its tag, and where its payload stands
 pub record TagElement : Type 0 where
@@ -35,9 +37,9 @@ rows (e ∷ es) = row e ++ rows es
 unfoldable pub listed : ℕ → List ℕ → Packed → List TagElement
 listed first d p = take (length d / 16) (drop first (inTags 0 (p .tags)))
 
--- how many are told, or the reader's refusal; and what is left in d
-abbrev pub elementsTold : ℕ → List ℕ → List ℕ → Answer ℕ
-elementsTold first s d = andThen (packedAt s) λ p. shown (length (listed first d p))
+-- how many are told, or the reader's refusal; and what is left in d. Their places count in the bytes given.
+abbrev pub elementsTold : Bool → ℕ → List ℕ → List ℕ → Answer ℕ
+elementsTold bare first s d = andThen (packedGiven bare s) λ p. shown (length (listed first d p))
 
-abbrev pub elementsLeft : ℕ → List ℕ → List ℕ → List ℕ
-elementsLeft first s d = leaves (λ p. rows (listed first d p)) (packedAt s) d
+abbrev pub elementsLeft : Bool → ℕ → List ℕ → List ℕ → List ℕ
+elementsLeft bare first s d = leaves (λ p. rows (listed first d p)) (packedGiven bare s) d

@@ -126,13 +126,14 @@ fn list_tags(out: &mut [u8], s: &[u8], from: usize, count: u64, skip: u64, room:
     o
 }
 
-// The elements of a packed event from element number `first` on, as many as fit whole into the lent buffer: how many
-// were told, or the reader's refusal.
-pub fn list_elements(s: &[u8], first: u64, out: &mut [u8]) -> Writing
-    ensures { λ r. ⌜ writing r ≡ elementsTold first (now (s .entry)) (now (out .entry)) ⌝ }
-    ensures { λ _. ⌜ now (out .exit) ≡ elementsLeft first (now (s .entry)) (now (out .entry)) ⌝ }
+// The elements of a packed event of either form from element number `first` on, as many as fit whole into the lent
+// buffer: how many were told, or the reader's refusal. Places count in the bytes given, so the pass goes over all of
+// them.
+pub fn list_elements(s: &[u8], bare: bool, first: u64, out: &mut [u8]) -> Writing
+    ensures { λ r. ⌜ writing r ≡ elementsTold bare first (now (s .entry)) (now (out .entry)) ⌝ }
+    ensures { λ _. ⌜ now (out .exit) ≡ elementsLeft bare first (now (s .entry)) (now (out .entry)) ⌝ }
 {
-    let found = notepack::read_packed(s);
+    let found = versioned::read_packed(s, bare);
     match found {
         HeadRead::Refused(r) => Writing::Refused(r),
         HeadRead::Found(h) => {

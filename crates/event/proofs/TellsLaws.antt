@@ -8,6 +8,7 @@ use native.Mathlib.Omega.{arith}
 use lib.Dec.{eqb}
 use borrow.Author.Tests.{eqb-true}
 use Rattle.scan.specs.Choice.{pick, Answer, shown, refused, Read, read, andThen, many}
+use Rattle.scan.specs.Bytes.{All, none, also}
 use Rattle.scan.proofs.Step.{pick-true, false-true}
 use Rattle.event.specs.inner.Tells.{among, Tells, value, refusal}
 
@@ -39,6 +40,15 @@ module _ {numbers : List ℕ} {most : ℕ} where
   unfolding many
   many-tells item h zero at k = value k
   many-tells item h (suc n) at k = then-tells _ (h at k) (λ x p. then-tells _ (many-tells item h n (x .next) p) (λ xs q. value q))
+
+  -- and each value that was read has Q
+  pub many-all-tells : {A : Type 0} {Q : A → Type 0} (item : ℕ → Answer (Read A))
+      → ((at : ℕ) → at ≤ most → Tells numbers most (λ (r : Read A). (r .next ≤ most) × Q (r .value)) (item at)) → (n at : ℕ) → at ≤ most
+      → Tells numbers most (λ (r : Read (List A)). (r .next ≤ most) × All Q (r .value)) (many item n at)
+  unfolding many
+  many-all-tells item h zero at k = value (k, none)
+  many-all-tells item h (suc n) at k =
+      then-tells _ (h at k) (λ x p. then-tells _ (many-all-tells item h n (x .next) (p .0)) (λ xs q. value (q .0, also (p .1) (q .1))))
 
 -- all of a stand in b
 abbrev pub allAmong : List ℕ → List ℕ → Bool

@@ -63,6 +63,8 @@ pub const OVER_A_CELL: u8 = 22;
 pub const TABLE_FULL: u8 = 23;
 // varint: more bytes than its number needs
 pub const VARINT_PADDED: u8 = 24;
+// versioned form: another first byte than 01
+pub const NOT_VERSIONED: u8 = 25;
 // table: another size, or a bad slot, which is the place
 pub const BAD_TABLE: u8 = 34;
 // hash: the message would have 2 to the power 61 bytes or more

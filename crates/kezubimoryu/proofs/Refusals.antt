@@ -13,13 +13,19 @@ use Rattle.scan.specs.Choice.{pick, Answer, shown, refused, andThen}
 use Rattle.buffer.specs.Entry.{written, filled, writes, leaves}
 use Rattle.event.specs.Event.{Event}
 use Rattle.event.specs.inner.Tells.{among, Tells, value, refusal}
-use Rattle.event.proofs.TellsLaws.{then-tells, pick-tells, wider}
-use Rattle.notepack.specs.Unpack.{Packed, packedAt, unpack}
-use Rattle.notepack.specs.inner.Numbers.{packedNumbers}
+use Rattle.event.proofs.TellsLaws.{then-tells, pick-tells, allAmong, wider}
+use Rattle.notepack.specs.Unpack.{Packed, unpack}
 use Rattle.notepack.specs.Strict.{pack}
-use Rattle.notepack.proofs.Telling.{packed-tells, unpack-tells, numbers-tells, texts-tells, element-of-tells}
+use Rattle.notepack.proofs.Telling.{unpack-tells}
 use Rattle.elements.specs.Elements.{rows, listed, elementsTold, elementsLeft}
+use Rattle.strict.specs.Strict.{strict}
 use Rattle.strict.proofs.Telling.{strict-tells}
+use Rattle.versioned.specs.Versioned.{given}
+use Rattle.versioned.specs.Views.{packedGiven}
+use Rattle.versioned.specs.Moves.{withVersion, withoutVersion, accepted, movable}
+use Rattle.versioned.specs.inner.Numbers.{givenNumbers, givenViewNumbers}
+use Rattle.stringform.specs.inner.Numbers.{stringNumbers}
+use Rattle.versioned.proofs.Telling.{given-tells, packed-given-tells, numbers-given-tells, texts-given-tells, element-given-tells, accepted-tells, movable-tells}
 use Rattle.stringform.specs.StringForm.{eventString, readString, itself}
 use Rattle.stringform.proofs.Telling.{string-tells}
 use Rattle.canonical.specs.Canonical.{canonical}
@@ -32,10 +38,10 @@ use Rattle.json.specs.inner.Numbers.{jsonNumbers}
 use Rattle.json.proofs.Telling.{json-tells}
 use Rattle.bothreaders.specs.Both.{Compared, compared, bothOf, firstOf, secondOf, both, bothFirst, bothSecond}
 use Rattle.nson.specs.Read.{readNson}
-use Rattle.rivals.proofs.Telling.{rivals-tells}
+use Rattle.versionedrivals.proofs.Telling.{rivals-given-tell}
 use Rattle.table.specs.Standing.{Stand}
 use Rattle.table.specs.Offer.{Offer, outcomeOf, cellsAfter}
-use Rattle.tablebytes.specs.Entries.{tableOffer, bytesAfter, tableSlot, sized, zeroed}
+use Rattle.tablebytes.specs.Entries.{tableOfferOf, bytesAfter, tableSlot, sized, zeroed}
 use Rattle.tablebytes.specs.inner.Telling as telling
 use Rattle.tablebytes.specs.inner.Telling.{OfferTells, outcome, of-event, over-a-cell, full, SlotTells, found, no-event}
 use Rattle.tablebytes.proofs.Telling.{table-offer-tells, table-slot-tells}
@@ -43,6 +49,7 @@ use Rattle.sha256.specs.Pieces.{started}
 use Rattle.sha256.specs.declared.Hash.{Hash}
 use Rattle.sha256bytes.specs.StateBytes.{bytesOfState, addIn, finishIn}
 use Rattle.sha256bytes.proofs.Telling.{HashTells, shows, short, too-long, add-tells, finish-tells}
+use Rattle.identity.specs.Identity.{belongs}
 use Rattle.identity.proofs.Telling.{belongs-tells}
 use Rattle.kezubimoryu.specs.Entries.{outcomeNumber}
 use Rattle.kezubimoryu.specs.inner.Refusals.{Asks, Fills, too-short, FillsBoth, first-short, second-short, writerNumbers, hashNumbers, Refusals}
@@ -68,10 +75,18 @@ fills {numbers = numbers} s text (shown a) d (value p) = go (leb (length (text a
     go false e = too-short (leb-false (length (text a)) (length d) e)
 fills s text (refused n q) d (refusal o h) = Fills.refusal o h
 
+-- the event of an input of either form
+unpacks : (b : Bool) (s : List ℕ) → Tells (givenNumbers b) (length s) (λ (e : Event). Unit {0}) (given b unpack s)
+unpacks b s = given-tells b unpack s unpack-tells
+
+given-among : (b : Bool) → allAmong (givenNumbers b) (writerNumbers b) ≡ true
+given-among true = refl
+given-among false = refl
+
 -- what NSON can't carry is 17 at 0
-carried-tells : (s : List ℕ) → Tells writerNumbers (length s) (λ (e : Event). Unit {0}) (carried (unpack s))
-carried-tells s =
-    then-tells _ (wider {a = packedNumbers} refl (omega arith) (unpack-tells s)) (λ e p. pick-tells (carries e) (λ t. value tt) (λ f. refusal refl (omega arith)))
+carried-tells : (b : Bool) (s : List ℕ) → Tells (writerNumbers b) (length s) (λ (e : Event). Unit {0}) (carried (given b unpack s))
+carried-tells b s =
+    then-tells _ (wider {a = givenNumbers b} (given-among b) (omega arith) (unpacks b s)) (λ e p. pick-tells (carries e) (λ t. value tt) (λ f. refusal refl (omega arith)))
 
 -- both readers: the plain JSON reader's refusals, or 11
 both-fills : (s d₁ d₂ : List ℕ) → FillsBoth jsonNumbers s d₁ d₂ (andThen (both s d₁ d₂) (λ (c : Compared). shown (c .which)))
@@ -141,8 +156,8 @@ both-keeps s d₁ d₂ n p = by (readNson s) (readJson s)
     by (shown a) (refused k q) h = (refl, refl)
     by (refused m q) (refused k r) h = (refl, refl)
 
-elements-keep : (i : ℕ) (s d : List ℕ) (n p : ℕ) → elementsTold i s d ≡ refused n p → elementsLeft i s d ≡ d
-elements-keep i s d n p = go (packedAt s)
+elements-keep : (b : Bool) (i : ℕ) (s d : List ℕ) (n p : ℕ) → elementsTold b i s d ≡ refused n p → elementsLeft b i s d ≡ d
+elements-keep b i s d n p = go (packedGiven b s)
   where
     go : (a : Answer Packed) → andThen a (λ (p : Packed). shown (length (listed i d p))) ≡ refused n p → leaves (λ (p : Packed). rows (listed i d p)) a d ≡ d
     go (shown x) h = no-value h
@@ -150,7 +165,7 @@ elements-keep i s d n p = go (packedAt s)
 
 -- ---- a table
 
-offer-told : {A B : Type 0} {s : List ℕ} {a : Answer A} (f : A → B) → OfferTells s a → OfferTells s (andThen a (λ (x : A). shown (f x)))
+offer-told : {A B : Type 0} {l s : List ℕ} {a : Answer A} (f : A → B) → OfferTells l s a → OfferTells l s (andThen a (λ (x : A). shown (f x)))
 offer-told f outcome = outcome
 offer-told f (telling.OfferTells.bad-table h) = telling.OfferTells.bad-table h
 offer-told f (of-event h k) = of-event h k
@@ -170,9 +185,9 @@ sized-tells slots cells = go (eqb (length slots) 1_024) (eqb (length cells) 65_5
     go true false = refusal {p = 0} refl (omega arith)
     go false u = refusal {p = 0} refl (omega arith)
 
-offer-keeps : (slots cells s : List ℕ) (n p : ℕ) → tableOffer slots cells s ≡ refused n p
-    → (bytesAfter (tableOffer slots cells s) slots ≡ slots) × (cellsAfter (tableOffer slots cells s) cells ≡ cells)
-offer-keeps slots cells s n p e = rw e (refl, refl)
+offer-keeps : (slots cells : List ℕ) (a : Answer Event) (n p : ℕ) → tableOfferOf slots cells a ≡ refused n p
+    → (bytesAfter (tableOfferOf slots cells a) slots ≡ slots) × (cellsAfter (tableOfferOf slots cells a) cells ≡ cells)
+offer-keeps slots cells a n p e = rw e (refl, refl)
 
 empty-keeps : (slots cells : List ℕ) (n p : ℕ) → sized slots cells ≡ refused n p
     → (zeroed (sized slots cells) slots ≡ slots) × (zeroed (sized slots cells) cells ≡ cells)
@@ -205,33 +220,43 @@ finish-fills b d = go (finishIn b) (finish-tells b)
     go (refused n q) (short h) = first-short h
     go (refused n q) too-long = FillsBoth.refusal {p = 0} refl (omega arith)
 
+-- of either form no number is 0
+either-form : (f : Bool → List ℕ) → among (f true) 0 ≡ false → among (f false) 0 ≡ false → (b : Bool) → among (f b) 0 ≡ false
+either-form f e h true = e
+either-form f e h false = h
+
 -- THE refusals of the C entries
 pub entries-refuse : Refusals
 entries-refuse =
     record {
-      notepack-read = λ s. told s (λ h. 0) (numbers-tells s);
-      notepack-is-strict = λ s. told s (λ b. pick b 1 0) (strict-tells s);
-      notepack-write = λ s d. fills s pack (unpack s) d (unpack-tells s);
-      notepack-tag-len = λ i s. asked s (texts-tells s i);
-      notepack-element = λ i j s. told s (λ p. 0) (element-of-tells s i j);
-      notepack-elements = λ i s d. told s (λ p. length (listed i d p)) (packed-tells s);
-      string-write = λ s d. fills s eventString (unpack s) d (unpack-tells s);
-      string-read = λ t d. fills t itself (readString t) d (string-tells t);
-      canonical-write = λ s d. fills s canonical (unpack s) d (unpack-tells s);
-      nson-write = λ s d. fills s nson (carried (unpack s)) d (carried-tells s);
+      notepack-read = λ b s. told s (λ h. 0) (numbers-given-tells b s);
+      notepack-is-strict = λ b s. told s (λ x. pick x 1 0) (given-tells b strict s strict-tells);
+      notepack-write = λ b s d. fills s pack (given b unpack s) d (unpacks b s);
+      notepack-tag-len = λ b i s. asked s (texts-given-tells b i s);
+      notepack-element = λ b i j s. told s (λ p. 0) (element-given-tells b i j s);
+      notepack-elements = λ b i s d. told s (λ p. length (listed i d p)) (packed-given-tells b s);
+      string-write = λ b s d. fills s (eventString b) (given b unpack s) d (unpacks b s);
+      string-read = λ b t d. fills t itself (readString b t) d (string-tells b t);
+      canonical-write = λ b s d. fills s canonical (given b unpack s) d (unpacks b s);
+      nson-write = λ b s d. fills s nson (carried (given b unpack s)) d (carried-tells b s);
+      versioned-from-bare = λ s d. fills s withVersion (movable s) d (movable-tells s);
+      bare-from-versioned = λ s d. fills s withoutVersion (accepted false s) d (accepted-tells false s);
       nson-read = λ s d. fills s pack (readNson s) d (nson-tells s);
       json-read = λ s d. fills s pack (readJson s) d (json-tells s);
       read-both = both-fills;
-      which-is-kept = rivals-tells;
-      table-offer = λ slots cells s. offer-told outcomeNumber (offer-told (λ (o : Offer). o .outcome) (table-offer-tells s slots cells));
+      which-is-kept = rivals-given-tell;
+      table-offer = λ slots cells b s.
+          offer-told outcomeNumber (offer-told (λ (o : Offer). o .outcome) (table-offer-tells (givenNumbers b) s (given b unpack s) (unpacks b s) slots cells));
       table-slot = λ slots cells n. slot-told (λ (p : Stand). 0) (table-slot-tells slots cells n);
       table-empty = sized-tells;
       sha256-start = λ b. fills [] bytesOfState (shown started) b (some started);
       sha256-add = add-fills;
       sha256-finish = finish-fills;
-      id-belongs = λ s. told s (λ b. pick b 1 0) (belongs-tells s);
+      id-belongs = λ b s. told s (λ x. pick x 1 0) (given-tells b belongs s belongs-tells);
       write-keeps = write-keeps;
-      string-keeps = λ t d. write-keeps itself (readString t) d;
+      string-keeps = λ b t d. write-keeps itself (readString b t) d;
+      version-keeps = λ s d. write-keeps withVersion (movable s) d;
+      bare-keeps = λ s d. write-keeps withoutVersion (accepted false s) d;
       elements-keep = elements-keep;
       both-keeps = both-keeps;
       offer-keeps = offer-keeps;
@@ -240,9 +265,9 @@ entries-refuse =
       add-keeps = λ b p. write-keeps bytesOfState (addIn b p) b;
       finish-keeps = λ b d. write-keeps itself (finishIn b) d;
       hash-not-0 = refl;
-      packed-not-0 = refl;
-      string-not-0 = refl;
-      view-not-0 = refl;
+      packed-not-0 = either-form writerNumbers refl refl;
+      string-not-0 = either-form stringNumbers refl refl;
+      view-not-0 = either-form givenViewNumbers refl refl;
       nson-not-0 = refl;
       json-not-0 = refl;
     }

@@ -1,12 +1,17 @@
 -- What the C entries answer and leave, in the words of the crates below. Assumes nothing.
 use Prim.Native.Nat.{ℕ}
-use mathlib.Core.Bool.{Bool}
+use mathlib.Core.Bool.{Bool, not}
+use lib.Dec.{eqb}
 use Rattle.rivals.specs.declared.Kept.{Kept}
 use Rattle.rivals.specs.declared.Kept.the-variants.{First, Second, NotRivals}
 use Rattle.archive.specs.declared.Outcome.{Outcome}
 use Rattle.archive.specs.declared.Outcome.the-variants.{New, Replaced, Loses, Held, NotKept}
 use Rattle.scan.specs.Choice.{pick, Answer, shown, refused, andThen}
 use Rattle.rivals.specs.Rivals.{Chosen, chosen, first-refused, second-refused}
+
+-- the caller's word whether a packed input is bare: 0 is no, any other number yes
+abbrev pub isBare : ℕ → Bool
+isBare bare = not (eqb bare 0)
 
 -- an answer that says nothing but that it is one
 abbrev pub ok : {A : Type 0} → Answer A → Answer ℕ

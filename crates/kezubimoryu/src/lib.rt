@@ -13,28 +13,34 @@ use strict::StrictRead;
 use tableoffer::Offering;
 use tableslot::SlotRead;
 ghost use mathlib.Core.Path.{_≡_};
+ghost use mathlib.Core.Bool.{true, false};
 ghost use Rattle.scan.specs.Choice.{pick, andThen, shown};
 ghost use Rattle.event.specs.Answers.{twoNumbers};
 ghost use Rattle.event.specs.inner.Told.{writing};
 ghost use Rattle.buffer.specs.Entry.{written, filled, writes, leaves};
 ghost use Rattle.notepack.specs.Strict.{pack};
 ghost use Rattle.notepack.specs.Unpack.{unpack};
-ghost use Rattle.notepack.specs.Views.{numbersOf, textsIn, elementOf};
 ghost use Rattle.elements.specs.Elements.{elementsTold, elementsLeft};
 ghost use Rattle.strict.specs.Strict.{strict};
+ghost use Rattle.strict.specs.inner.Answers.{strictRead};
+ghost use Rattle.versioned.specs.Versioned.{given};
+ghost use Rattle.versioned.specs.Views.{numbersGiven, textsGiven, elementGiven};
+ghost use Rattle.versioned.specs.Moves.{versions, versionLeaves, bares, bareLeaves};
 ghost use Rattle.stringform.specs.StringForm.{eventString, readString, itself};
 ghost use Rattle.canonical.specs.Canonical.{canonical};
-ghost use Rattle.nson.specs.Entries.{nsonReads, nsonLeaves, nsonWrites, writerLeaves};
+ghost use Rattle.nson.specs.Nson.{nson};
+ghost use Rattle.nson.specs.Entries.{nsonReads, nsonLeaves, carried};
 ghost use Rattle.json.specs.Entries.{jsonReads, jsonLeaves};
 ghost use Rattle.bothreaders.specs.Both.{both, bothFirst, bothSecond};
-ghost use Rattle.rivals.specs.Rivals.{rivals};
+ghost use Rattle.versionedrivals.specs.Rivals.{rivalsGiven};
 ghost use Rattle.table.specs.Offer.{outcomeOf, cellsAfter};
 ghost use Rattle.tableoffer.specs.inner.Decision.{offering};
-ghost use Rattle.tablebytes.specs.Entries.{tableOffer, bytesAfter, tableSlot, sized, zeroed};
+ghost use Rattle.tablebytes.specs.Entries.{tableOfferOf, bytesAfter, tableSlot, sized, zeroed};
 ghost use Rattle.sha256.specs.Pieces.{started};
 ghost use Rattle.sha256bytes.specs.StateBytes.{bytesOfState, addIn, finishIn};
 ghost use Rattle.identity.specs.Identity.{belongs};
-ghost use Rattle.kezubimoryu.specs.Entries.{ok, yesNo, lent, keptNumber, keptAnswer, outcomeNumber, outcomeTold};
+ghost use Rattle.identity.specs.inner.Answers.{idRead};
+ghost use Rattle.kezubimoryu.specs.Entries.{isBare, ok, yesNo, lent, keptNumber, keptAnswer, outcomeNumber, outcomeTold};
 
 // `kez_answer` of the header: refusal 0 and a value, or the number of refusal and its place.
 #[repr(C)]
@@ -68,6 +74,13 @@ fn written(w: Writing) -> KezAnswer
     }
 }
 
+// The caller's word whether a packed input is bare: 0 is no, any other number yes.
+fn is_bare(bare: u64) -> bool
+    ensures { λ r. ⌜ r ≡ isBare bare ⌝ }
+{
+    bare != 0
+}
+
 // A yes or no as 1 or 0.
 fn bit(b: bool) -> u64
     ensures { λ r. ⌜ r ≡ pick b 1 0 ⌝ }
@@ -78,20 +91,21 @@ fn bit(b: bool) -> u64
 #[no_mangle]
 pub extern "C" fn kez_notepack_read(
     packed: &[u8],
+    bare: u64,
     created_at: &mut u64,
     kind: &mut u64,
     content_at: &mut u64,
     content_len: &mut u64,
     tag_count: &mut u64,
 ) -> KezAnswer
-    ensures { λ a. ⌜ (a .refusal, a .value) ≡ twoNumbers (ok (numbersOf (now (packed .entry)))) ⌝ }
-    ensures { λ _. ⌜ now («created_at» .exit) ≡ lent (numbersOf (now (packed .entry))) (λ h. h .«created_at») (now («created_at» .entry)) ⌝ }
-    ensures { λ _. ⌜ now (kind .exit) ≡ lent (numbersOf (now (packed .entry))) (λ h. h .kind) (now (kind .entry)) ⌝ }
-    ensures { λ _. ⌜ now («content_at» .exit) ≡ lent (numbersOf (now (packed .entry))) (λ h. h .content .at) (now («content_at» .entry)) ⌝ }
-    ensures { λ _. ⌜ now («content_len» .exit) ≡ lent (numbersOf (now (packed .entry))) (λ h. h .content .len) (now («content_len» .entry)) ⌝ }
-    ensures { λ _. ⌜ now («tag_count» .exit) ≡ lent (numbersOf (now (packed .entry))) (λ h. h .«tag_count») (now («tag_count» .entry)) ⌝ }
+    ensures { λ a. ⌜ (a .refusal, a .value) ≡ twoNumbers (ok (numbersGiven (isBare bare) (now (packed .entry)))) ⌝ }
+    ensures { λ _. ⌜ now («created_at» .exit) ≡ lent (numbersGiven (isBare bare) (now (packed .entry))) (λ h. h .«created_at») (now («created_at» .entry)) ⌝ }
+    ensures { λ _. ⌜ now (kind .exit) ≡ lent (numbersGiven (isBare bare) (now (packed .entry))) (λ h. h .kind) (now (kind .entry)) ⌝ }
+    ensures { λ _. ⌜ now («content_at» .exit) ≡ lent (numbersGiven (isBare bare) (now (packed .entry))) (λ h. h .content .at) (now («content_at» .entry)) ⌝ }
+    ensures { λ _. ⌜ now («content_len» .exit) ≡ lent (numbersGiven (isBare bare) (now (packed .entry))) (λ h. h .content .len) (now («content_len» .entry)) ⌝ }
+    ensures { λ _. ⌜ now («tag_count» .exit) ≡ lent (numbersGiven (isBare bare) (now (packed .entry))) (λ h. h .«tag_count») (now («tag_count» .entry)) ⌝ }
 {
-    let found = notepack::read_packed(packed);
+    let found = versioned::read_packed(packed, is_bare(bare));
     match found {
         HeadRead::Found(h) => {
             let content = h.content;
@@ -106,11 +120,10 @@ pub extern "C" fn kez_notepack_read(
     }
 }
 
-#[no_mangle]
-pub extern "C" fn kez_notepack_is_strict(packed: &[u8]) -> KezAnswer
-    ensures { λ a. ⌜ (a .refusal, a .value) ≡ twoNumbers (yesNo (strict (now (packed .entry)))) ⌝ }
+// The strict question's answer: yes is 1, no is 0.
+fn strict_told(found: StrictRead) -> KezAnswer
+    ensures { λ a. ⌜ (a .refusal, a .value) ≡ twoNumbers (yesNo (strictRead found)) ⌝ }
 {
-    let found = strict::is_strict(packed);
     match found {
         StrictRead::Strict(b) => { shown(bit(b)) }
         StrictRead::Refused(r) => refused(r),
@@ -118,18 +131,25 @@ pub extern "C" fn kez_notepack_is_strict(packed: &[u8]) -> KezAnswer
 }
 
 #[no_mangle]
-pub extern "C" fn kez_notepack_write(packed: &[u8], out: &mut [u8]) -> KezAnswer
-    ensures { λ a. ⌜ (a .refusal, a .value) ≡ twoNumbers (writes pack (unpack (now (packed .entry))) (now (out .entry))) ⌝ }
-    ensures { λ _. ⌜ now (out .exit) ≡ leaves pack (unpack (now (packed .entry))) (now (out .entry)) ⌝ }
+pub extern "C" fn kez_notepack_is_strict(packed: &[u8], bare: u64) -> KezAnswer
+    ensures { λ a. ⌜ (a .refusal, a .value) ≡ twoNumbers (yesNo (given (isBare bare) strict (now (packed .entry)))) ⌝ }
 {
-    written(strict::write_strict(packed, out))
+    strict_told(eitherform::is_strict(packed, is_bare(bare)))
 }
 
 #[no_mangle]
-pub extern "C" fn kez_notepack_tag_len(packed: &[u8], tag: u64) -> KezAnswer
-    ensures { λ a. ⌜ (a .refusal, a .value) ≡ twoNumbers (textsIn tag (now (packed .entry))) ⌝ }
+pub extern "C" fn kez_notepack_write(packed: &[u8], bare: u64, out: &mut [u8]) -> KezAnswer
+    ensures { λ a. ⌜ (a .refusal, a .value) ≡ twoNumbers (writes pack (given (isBare bare) unpack (now (packed .entry))) (now (out .entry))) ⌝ }
+    ensures { λ _. ⌜ now (out .exit) ≡ leaves pack (given (isBare bare) unpack (now (packed .entry))) (now (out .entry)) ⌝ }
 {
-    let found = notepack::texts_in(packed, tag);
+    written(eitherform::write_strict(packed, is_bare(bare), out))
+}
+
+#[no_mangle]
+pub extern "C" fn kez_notepack_tag_len(packed: &[u8], bare: u64, tag: u64) -> KezAnswer
+    ensures { λ a. ⌜ (a .refusal, a .value) ≡ twoNumbers (textsGiven (isBare bare) tag (now (packed .entry))) ⌝ }
+{
+    let found = versioned::texts_in(packed, is_bare(bare), tag);
     match found {
         CountRead::Count(n) => shown(n),
         CountRead::Refused(r) => refused(r),
@@ -139,18 +159,19 @@ pub extern "C" fn kez_notepack_tag_len(packed: &[u8], tag: u64) -> KezAnswer
 #[no_mangle]
 pub extern "C" fn kez_notepack_element(
     packed: &[u8],
+    bare: u64,
     tag: u64,
     element: u64,
     at: &mut u64,
     len: &mut u64,
     is_bytes: &mut u64,
 ) -> KezAnswer
-    ensures { λ a. ⌜ (a .refusal, a .value) ≡ twoNumbers (ok (elementOf tag element (now (packed .entry)))) ⌝ }
-    ensures { λ _. ⌜ now (at .exit) ≡ lent (elementOf tag element (now (packed .entry))) (λ p. p .at) (now (at .entry)) ⌝ }
-    ensures { λ _. ⌜ now (len .exit) ≡ lent (elementOf tag element (now (packed .entry))) (λ p. p .len) (now (len .entry)) ⌝ }
-    ensures { λ _. ⌜ now («is_bytes» .exit) ≡ lent (elementOf tag element (now (packed .entry))) (λ p. pick (p .raw) 1 0) (now («is_bytes» .entry)) ⌝ }
+    ensures { λ a. ⌜ (a .refusal, a .value) ≡ twoNumbers (ok (elementGiven (isBare bare) tag element (now (packed .entry)))) ⌝ }
+    ensures { λ _. ⌜ now (at .exit) ≡ lent (elementGiven (isBare bare) tag element (now (packed .entry))) (λ p. p .at) (now (at .entry)) ⌝ }
+    ensures { λ _. ⌜ now (len .exit) ≡ lent (elementGiven (isBare bare) tag element (now (packed .entry))) (λ p. p .len) (now (len .entry)) ⌝ }
+    ensures { λ _. ⌜ now («is_bytes» .exit) ≡ lent (elementGiven (isBare bare) tag element (now (packed .entry))) (λ p. pick (p .raw) 1 0) (now («is_bytes» .entry)) ⌝ }
 {
-    let found = notepack::find_element(packed, tag, element);
+    let found = versioned::find_element(packed, is_bare(bare), tag, element);
     match found {
         ElementRead::Found(p) => {
             *at = p.at as u64;
@@ -163,35 +184,60 @@ pub extern "C" fn kez_notepack_element(
 }
 
 #[no_mangle]
-pub extern "C" fn kez_notepack_string_write(packed: &[u8], out: &mut [u8]) -> KezAnswer
-    ensures { λ a. ⌜ (a .refusal, a .value) ≡ twoNumbers (writes eventString (unpack (now (packed .entry))) (now (out .entry))) ⌝ }
-    ensures { λ _. ⌜ now (out .exit) ≡ leaves eventString (unpack (now (packed .entry))) (now (out .entry)) ⌝ }
+pub extern "C" fn kez_notepack_string_write(packed: &[u8], bare: u64, out: &mut [u8]) -> KezAnswer
+    ensures { λ a. ⌜ (a .refusal, a .value) ≡ twoNumbers (writes (eventString (isBare bare)) (given (isBare bare) unpack (now (packed .entry))) (now (out .entry))) ⌝ }
+    ensures { λ _. ⌜ now (out .exit) ≡ leaves (eventString (isBare bare)) (given (isBare bare) unpack (now (packed .entry))) (now (out .entry)) ⌝ }
 {
-    written(stringform::write_string(packed, out))
+    written(stringform::write_string(packed, is_bare(bare), out))
 }
 
 #[no_mangle]
 pub extern "C" fn kez_notepack_string_read(text: &[u8], out: &mut [u8]) -> KezAnswer
-    ensures { λ a. ⌜ (a .refusal, a .value) ≡ twoNumbers (writes itself (readString (now (text .entry))) (now (out .entry))) ⌝ }
-    ensures { λ _. ⌜ now (out .exit) ≡ leaves itself (readString (now (text .entry))) (now (out .entry)) ⌝ }
+    ensures { λ a. ⌜ (a .refusal, a .value) ≡ twoNumbers (writes itself (readString true (now (text .entry))) (now (out .entry))) ⌝ }
+    ensures { λ _. ⌜ now (out .exit) ≡ leaves itself (readString true (now (text .entry))) (now (out .entry)) ⌝ }
 {
-    written(stringform::read_string(text, out))
+    written(stringform::read_string(text, true, out))
+}
+
+// The string form of the versioned form.
+#[no_mangle]
+pub extern "C" fn kez_notepack_string_read_versioned(text: &[u8], out: &mut [u8]) -> KezAnswer
+    ensures { λ a. ⌜ (a .refusal, a .value) ≡ twoNumbers (writes itself (readString false (now (text .entry))) (now (out .entry))) ⌝ }
+    ensures { λ _. ⌜ now (out .exit) ≡ leaves itself (readString false (now (text .entry))) (now (out .entry)) ⌝ }
+{
+    written(stringform::read_string(text, false, out))
 }
 
 #[no_mangle]
-pub extern "C" fn kez_canonical_write(packed: &[u8], out: &mut [u8]) -> KezAnswer
-    ensures { λ a. ⌜ (a .refusal, a .value) ≡ twoNumbers (writes canonical (unpack (now (packed .entry))) (now (out .entry))) ⌝ }
-    ensures { λ _. ⌜ now (out .exit) ≡ leaves canonical (unpack (now (packed .entry))) (now (out .entry)) ⌝ }
+pub extern "C" fn kez_versioned_from_bare(packed: &[u8], out: &mut [u8]) -> KezAnswer
+    ensures { λ a. ⌜ (a .refusal, a .value) ≡ twoNumbers (versions (now (packed .entry)) (now (out .entry))) ⌝ }
+    ensures { λ _. ⌜ now (out .exit) ≡ versionLeaves (now (packed .entry)) (now (out .entry)) ⌝ }
 {
-    written(canonical::write_canonical(packed, out))
+    written(versioned::to_versioned(packed, out))
 }
 
 #[no_mangle]
-pub extern "C" fn kez_nson_write(packed: &[u8], out: &mut [u8]) -> KezAnswer
-    ensures { λ a. ⌜ (a .refusal, a .value) ≡ twoNumbers (nsonWrites (now (packed .entry)) (now (out .entry))) ⌝ }
-    ensures { λ _. ⌜ now (out .exit) ≡ writerLeaves (now (packed .entry)) (now (out .entry)) ⌝ }
+pub extern "C" fn kez_bare_from_versioned(packed: &[u8], out: &mut [u8]) -> KezAnswer
+    ensures { λ a. ⌜ (a .refusal, a .value) ≡ twoNumbers (bares (now (packed .entry)) (now (out .entry))) ⌝ }
+    ensures { λ _. ⌜ now (out .exit) ≡ bareLeaves (now (packed .entry)) (now (out .entry)) ⌝ }
 {
-    written(nsonwrite::write_nson(packed, out))
+    written(versioned::to_bare(packed, out))
+}
+
+#[no_mangle]
+pub extern "C" fn kez_canonical_write(packed: &[u8], bare: u64, out: &mut [u8]) -> KezAnswer
+    ensures { λ a. ⌜ (a .refusal, a .value) ≡ twoNumbers (writes canonical (given (isBare bare) unpack (now (packed .entry))) (now (out .entry))) ⌝ }
+    ensures { λ _. ⌜ now (out .exit) ≡ leaves canonical (given (isBare bare) unpack (now (packed .entry))) (now (out .entry)) ⌝ }
+{
+    written(eitherform::write_canonical(packed, is_bare(bare), out))
+}
+
+#[no_mangle]
+pub extern "C" fn kez_nson_write(packed: &[u8], bare: u64, out: &mut [u8]) -> KezAnswer
+    ensures { λ a. ⌜ (a .refusal, a .value) ≡ twoNumbers (writes nson (carried (given (isBare bare) unpack (now (packed .entry)))) (now (out .entry))) ⌝ }
+    ensures { λ _. ⌜ now (out .exit) ≡ leaves nson (carried (given (isBare bare) unpack (now (packed .entry)))) (now (out .entry)) ⌝ }
+{
+    written(eitherform::write_nson(packed, is_bare(bare), out))
 }
 
 #[no_mangle]
@@ -249,18 +295,28 @@ fn kept_number(k: Kept) -> u64
 }
 
 #[no_mangle]
-pub extern "C" fn kez_notepack_elements(packed: &[u8], first: u64, out: &mut [u8]) -> KezAnswer
-    ensures { λ a. ⌜ (a .refusal, a .value) ≡ twoNumbers (elementsTold first (now (packed .entry)) (now (out .entry))) ⌝ }
-    ensures { λ _. ⌜ now (out .exit) ≡ elementsLeft first (now (packed .entry)) (now (out .entry)) ⌝ }
+pub extern "C" fn kez_notepack_elements(
+    packed: &[u8],
+    bare: u64,
+    first: u64,
+    out: &mut [u8],
+) -> KezAnswer
+    ensures { λ a. ⌜ (a .refusal, a .value) ≡ twoNumbers (elementsTold (isBare bare) first (now (packed .entry)) (now (out .entry))) ⌝ }
+    ensures { λ _. ⌜ now (out .exit) ≡ elementsLeft (isBare bare) first (now (packed .entry)) (now (out .entry)) ⌝ }
 {
-    written(elements::list_elements(packed, first, out))
+    written(elements::list_elements(packed, is_bare(bare), first, out))
 }
 
 #[no_mangle]
-pub extern "C" fn kez_rivals(first: &[u8], second: &[u8]) -> KezAnswer
-    ensures { λ a. ⌜ (a .refusal, a .value) ≡ twoNumbers (keptAnswer (rivals (now (first .entry)) (now (second .entry)))) ⌝ }
+pub extern "C" fn kez_rivals(
+    first: &[u8],
+    first_bare: u64,
+    second: &[u8],
+    second_bare: u64,
+) -> KezAnswer
+    ensures { λ a. ⌜ (a .refusal, a .value) ≡ twoNumbers (keptAnswer (rivalsGiven (now (first .entry)) (isBare «first_bare») (now (second .entry)) (isBare «second_bare»))) ⌝ }
 {
-    let found = rivals::compare(first, second);
+    let found = versionedrivals::compare(first, is_bare(first_bare), second, is_bare(second_bare));
     match found {
         RivalsRead::Told(k) => shown(kept_number(k)),
         RivalsRead::FirstRefused(r) => refused(r),
@@ -292,24 +348,30 @@ pub extern "C" fn kez_sha256_finish(state: &[u8], out: &mut [u8]) -> KezAnswer
     written(sha256bytes::finish_in(state, out))
 }
 
-// Whether the id is the SHA-256 of the canonical text.
-#[no_mangle]
-pub extern "C" fn kez_id_belongs(packed: &[u8]) -> KezAnswer
-    ensures { λ a. ⌜ (a .refusal, a .value) ≡ twoNumbers (yesNo (belongs (now (packed .entry)))) ⌝ }
+// The id question's answer: yes is 1, no is 0.
+fn id_told(found: IdRead) -> KezAnswer
+    ensures { λ a. ⌜ (a .refusal, a .value) ≡ twoNumbers (yesNo (idRead found)) ⌝ }
 {
-    let found = identity::id_belongs(packed);
     match found {
         IdRead::Belongs(b) => { shown(bit(b)) }
         IdRead::Refused(r) => refused(r),
     }
 }
 
+// Whether the id is the SHA-256 of the canonical text.
+#[no_mangle]
+pub extern "C" fn kez_id_belongs(packed: &[u8], bare: u64) -> KezAnswer
+    ensures { λ a. ⌜ (a .refusal, a .value) ≡ twoNumbers (yesNo (given (isBare bare) belongs (now (packed .entry)))) ⌝ }
+{
+    id_told(eitherform::id_belongs(packed, is_bare(bare)))
+}
+
 // The version as one number: 10,000 for a major one, 100 for a minor one, 1 for a patch.
 #[no_mangle]
 pub extern "C" fn kez_version() -> u64
-    ensures { λ r. ⌜ r ≡ 1001 ⌝ }
+    ensures { λ r. ⌜ r ≡ 1100 ⌝ }
 {
-    1001
+    1100
 }
 
 fn outcome_number(o: Outcome) -> u64
@@ -344,12 +406,17 @@ pub extern "C" fn kez_table_empty(slots: &mut [u8], cells: &mut [u8]) -> KezAnsw
 }
 
 #[no_mangle]
-pub extern "C" fn kez_table_offer(slots: &mut [u8], cells: &mut [u8], packed: &[u8]) -> KezAnswer
-    ensures { λ a. ⌜ (a .refusal, a .value) ≡ twoNumbers (outcomeTold (outcomeOf (tableOffer (now (slots .entry)) (now (cells .entry)) (now (packed .entry))))) ⌝ }
-    ensures { λ _. ⌜ now (slots .exit) ≡ bytesAfter (tableOffer (now (slots .entry)) (now (cells .entry)) (now (packed .entry))) (now (slots .entry)) ⌝ }
-    ensures { λ _. ⌜ now (cells .exit) ≡ cellsAfter (tableOffer (now (slots .entry)) (now (cells .entry)) (now (packed .entry))) (now (cells .entry)) ⌝ }
+pub extern "C" fn kez_table_offer(
+    slots: &mut [u8],
+    cells: &mut [u8],
+    packed: &[u8],
+    bare: u64,
+) -> KezAnswer
+    ensures { λ a. ⌜ (a .refusal, a .value) ≡ twoNumbers (outcomeTold (outcomeOf (tableOfferOf (now (slots .entry)) (now (cells .entry)) (given (isBare bare) unpack (now (packed .entry)))))) ⌝ }
+    ensures { λ _. ⌜ now (slots .exit) ≡ bytesAfter (tableOfferOf (now (slots .entry)) (now (cells .entry)) (given (isBare bare) unpack (now (packed .entry)))) (now (slots .entry)) ⌝ }
+    ensures { λ _. ⌜ now (cells .exit) ≡ cellsAfter (tableOfferOf (now (slots .entry)) (now (cells .entry)) (given (isBare bare) unpack (now (packed .entry)))) (now (cells .entry)) ⌝ }
 {
-    offered(bytetable::offer(slots, cells, packed))
+    offered(eitherform::offer(slots, cells, packed, is_bare(bare)))
 }
 
 #[no_mangle]

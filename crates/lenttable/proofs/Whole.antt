@@ -11,11 +11,11 @@ use Rattle.slots.specs.declared.Slot.{Slot}
 use Rattle.slots.specs.Slots.{whole}
 use Rattle.slots.proofs.Facts.{whole-64}
 use Rattle.table.specs.Table.{entriesOf}
-use Rattle.table.specs.Offer.{offer}
+use Rattle.table.specs.Offer.{offerOf, offer}
 use Rattle.tableoffer.specs.inner.Decision.{lentOffer}
 
 pub lent-whole : (l t : List Slot) (cells packed : List ℕ) → lentOffer (length l) (whole l t) cells packed ≡ offer l cells packed
-unfolding lentOffer offer entriesOf
+unfolding lentOffer offerOf entriesOf
 lent-whole l t cells packed = by-test (eqb (length l) 64) refl
   where
     by-test : (b : Bool) → eqb (length l) 64 ≡ b → lentOffer (length l) (whole l t) cells packed ≡ offer l cells packed

@@ -1,6 +1,5 @@
 -- What the lister prints is at most 128 bytes long: each number is within its limit, so it has few digits.
 -- By the limits of the event that is shown, and by the numbers and places that the reader refuses with.
-use Prim.{Unit}
 use Prim.Native.Nat.{ℕ, zero, suc, _+_, _≤_, _<_, _^_}
 use mathlib.Core.Path.{_≡_, refl, sym, ap, _∙_}
 use mathlib.Core.Bool.{Bool, true, false}
@@ -31,7 +30,7 @@ use Rattle.notepack.specs.Seen.{Seen}
 use Rattle.notepack.proofs.Sound.{sound}
 use Rattle.notepack.proofs.Seen.{seen}
 use Rattle.notepack.proofs.Viewing.{content-numbers, numbers-event}
-use Rattle.notepack.proofs.Telling.{numbers-tells}
+use Rattle.notepack.proofs.Telling.{HeadIn, numbers-tells}
 use Rattle.lister.specs.Listing.{numbersText, refusalText, listing}
 
 -- ---- the lengths
@@ -85,7 +84,7 @@ pub listing-fits : (s : List ℕ) → IsBytes s → length s < 2 ^ 64 → length
 unfolding listing
 listing-fits s bytes small = go (numbersOf s) refl (numbers-tells s)
   where
-    go : (r : Answer Head) → numbersOf s ≡ r → Tells packedNumbers (length s) (λ (h : Head). Unit {0}) r → length (listing r) ≤ 128
+    go : (r : Answer Head) → numbersOf s ≡ r → Tells packedNumbers (length s) (HeadIn s) r → length (listing r) ≤ 128
     go (shown h) e w =
         let n = numbers-event s h e in
         let q = seen s bytes (n .event) (n .shows) in

@@ -9,3 +9,4 @@ pub mod Viewing
 pub mod Again
 pub mod Seen
 pub mod Telling
+pub mod Further

@@ -1,4 +1,5 @@
--- A refusal of the notepack reader has one of its numbers, and its place is in the input or at its end.
+-- A refusal of the notepack reader has one of its numbers, and its place is in the input or at its end; so is every
+-- part that is found.
 -- Along the definitions of the reading: each read ends in the input, and refuses at a place that was reached.
 use Prim.{Unit, tt}
 use Prim.Native.Nat.{ℕ, zero, suc, _+_, _-_, _/_, _%_, _≤_}
@@ -10,12 +11,13 @@ use lib.ListN.{length}
 use lib.Dec.{leb, eqb}
 use borrow.Author.Tests.{leb-true, eqb-true}
 use Rattle.scan.specs.Choice.{pick, Answer, shown, refused, Read, read, andThen, many}
+use Rattle.scan.specs.Bytes.{All, none, also}
 use Rattle.utf8.specs.inner.Width.{isUtf8}
 use Rattle.varint.specs.Varint.{varintAt}
 use Rattle.varint.proofs.VarintLaws.{Refuses, truncated, overflow, unterminated, longer, refusal as refuses, consumes-some}
 use Rattle.event.specs.Event.{Event}
 use Rattle.event.specs.inner.Tells.{among, Tells, value, refusal}
-use Rattle.event.proofs.TellsLaws.{Inside, then-tells, pick-tells, less-tells, many-tells, wider}
+use Rattle.event.proofs.TellsLaws.{Inside, then-tells, pick-tells, less-tells, many-all-tells, wider}
 use Rattle.notepack.specs.declared.Part.{Part}
 use Rattle.notepack.specs.declared.Head.{Head}
 use Rattle.notepack.specs.Unpack.{bytesOf, payloadAt, textAt, numberAt, contentAt, elementAt, elementsAt, tagCountAt, tagAt, tagsAt, numbersAt, headAt, Packed, packedAt, unpack}
@@ -26,6 +28,14 @@ module _ (s : List ℕ) where
   -- a read that ends in the input
   abbrev In : {A : Type 0} → Answer (Read A) → Type 0
   In {A} = Inside packedNumbers (length s)
+
+  -- a part that starts in the input, or at its end
+  abbrev pub PartIn : Part → Type 0
+  PartIn p = p .at ≤ length s
+
+  -- a read of one, which ends in the input too
+  abbrev ReadIn : Answer (Read Part) → Type 0
+  ReadIn = Tells packedNumbers (length s) (λ (r : Read Part). (r .next ≤ length s) × PartIn (r .value))
 
   varint-tells : (at : ℕ) → at ≤ length s → In (varintAt s at)
   varint-tells at h = go (varintAt s at) refl
@@ -40,12 +50,12 @@ module _ (s : List ℕ) where
       go (shown r) e = value (consumes-some s at e .2)
       go (refused n p) e = let q = refuses s at e in refusal {p = p} (number (q .0)) (omega (arith, q .1))
 
-  payload-tells : (place : ℕ) (raw : Bool) (n at : ℕ) → place ≤ length s → at ≤ length s → In (payloadAt place raw n s at)
+  payload-tells : (place : ℕ) (raw : Bool) (n at : ℕ) → place ≤ length s → at ≤ length s → ReadIn (payloadAt place raw n s at)
   unfolding payloadAt
   payload-tells place raw n at h k =
-      pick-tells (leb n (length s - at)) (λ t. value (omega (arith, leb-true n (length s - at) t))) (λ f. refusal refl h)
+      pick-tells (leb n (length s - at)) (λ t. value (omega (arith, leb-true n (length s - at) t), k)) (λ f. refusal refl h)
 
-  text-tells : (place n at : ℕ) → place ≤ length s → at ≤ length s → In (textAt place n s at)
+  text-tells : (place n at : ℕ) → place ≤ length s → at ≤ length s → ReadIn (textAt place n s at)
   unfolding textAt
   text-tells place n at h k =
       then-tells _ (payload-tells place false n at h k)
@@ -56,11 +66,11 @@ module _ (s : List ℕ) where
   number-tells max number at o h =
       then-tells _ (varint-tells at h) (λ n e. pick-tells (leb (n .value) max) (λ t. value e) (λ f. refusal o h))
 
-  content-tells : (at : ℕ) → at ≤ length s → In (contentAt s at)
+  content-tells : (at : ℕ) → at ≤ length s → ReadIn (contentAt s at)
   unfolding contentAt
   content-tells at h = then-tells _ (varint-tells at h) (λ n e. text-tells at (n .value) (n .next) h e)
 
-  element-tells : (at : ℕ) → at ≤ length s → In (elementAt s at)
+  element-tells : (at : ℕ) → at ≤ length s → ReadIn (elementAt s at)
   unfolding elementAt
   element-tells at h =
       then-tells _ (varint-tells at h)
@@ -74,9 +84,9 @@ module _ (s : List ℕ) where
   count-tells at h =
       then-tells _ (number-tells 255 8 at refl h) (λ n e. pick-tells (eqb (n .value) 0) (λ t. refusal refl h) (λ f. value e))
 
-  tag-tells : (at : ℕ) → at ≤ length s → In (tagAt s at)
+  tag-tells : (at : ℕ) → at ≤ length s → Tells packedNumbers (length s) (λ (r : Read (List Part)). (r .next ≤ length s) × All PartIn (r .value)) (tagAt s at)
   unfolding tagAt
-  tag-tells at h = then-tells _ (count-tells at h) (λ n e. many-tells _ element-tells (n .value) (n .next) e)
+  tag-tells at h = then-tells _ (count-tells at h) (λ n e. many-all-tells _ element-tells (n .value) (n .next) e)
 
   -- a field of fixed width, and the place behind it
   fixed-tells : (at n : ℕ) → at ≤ length s → Tells packedNumbers (length s) (λ (r : Read Part). at + n ≤ length s) (payloadAt at true n s at)
@@ -84,7 +94,11 @@ module _ (s : List ℕ) where
   fixed-tells at n h =
       pick-tells (leb n (length s - at)) (λ t. value (omega (arith, leb-true n (length s - at) t))) (λ f. refusal refl h)
 
-  head-tells : Tells packedNumbers (length s) (λ (h : Head). h .«tags_at» ≤ length s) (headAt s)
+  -- where the content stands, and the tags
+  abbrev pub HeadIn : Head → Type 0
+  HeadIn h = PartIn (h .content) × (h .«tags_at» ≤ length s)
+
+  head-tells : Tells packedNumbers (length s) HeadIn (headAt s)
   unfolding headAt numbersAt
   head-tells =
       then-tells _ (fixed-tells 0 32 (omega arith))
@@ -99,19 +113,19 @@ module _ (s : List ℕ) where
       (λ k f.
       then-tells _ (content-tells (k .next) f)
       (λ c h.
-      then-tells _ (number-tells 1_000 8 (c .next) refl h)
-      (λ n j. value j)))))))
+      then-tells _ (number-tells 1_000 8 (c .next) refl (h .0))
+      (λ n j. value (h .1, j))))))))
 
   -- the reader of places
-  pub packed-tells : Tells packedNumbers (length s) (λ (p : Packed). Unit {0}) (packedAt s)
+  pub packed-tells : Tells packedNumbers (length s) (λ (p : Packed). HeadIn (p .head) × All (All PartIn) (p .tags)) (packedAt s)
   unfolding packedAt
   packed-tells =
       pick-tells (leb (length s) 65_536)
       (λ _.
       then-tells _ head-tells
       (λ h e.
-      then-tells _ (many-tells _ tag-tells (h .«tag_count») (h .«tags_at») e)
-      (λ t f. pick-tells (eqb (t .next) (length s)) (λ _. value tt) (λ _. refusal refl f))))
+      then-tells _ (many-all-tells _ tag-tells (h .«tag_count») (h .«tags_at») (e .1))
+      (λ t f. pick-tells (eqb (t .next) (length s)) (λ _. value (e, f .1)) (λ _. refusal refl (f .0)))))
       (λ _. refusal refl (omega arith))
 
   -- the reader of the event
@@ -120,19 +134,19 @@ module _ (s : List ℕ) where
   unpack-tells = then-tells _ packed-tells (λ p _. value tt)
 
   -- the numbers
-  pub numbers-tells : Tells packedNumbers (length s) (λ (h : Head). Unit {0}) (numbersOf s)
+  pub numbers-tells : Tells packedNumbers (length s) HeadIn (numbersOf s)
   unfolding numbersOf
-  numbers-tells = then-tells _ packed-tells (λ p _. value tt)
+  numbers-tells = then-tells _ packed-tells (λ p h. value (h .0))
 
   -- number i of a list is 19 at 0 where there is none
-  nth-tells : {A : Type 0} (i : ℕ) (l : List A) → Tells viewNumbers (length s) (λ (a : A). Unit {0}) (nth i l)
-  nth-tells i [] = refusal {p = 0} refl (omega arith)
-  nth-tells zero (x ∷ l) = value tt
-  nth-tells (suc i) (x ∷ l) = nth-tells i l
+  nth-tells : {A : Type 0} {Q : A → Type 0} (i : ℕ) (l : List A) → All Q l → Tells viewNumbers (length s) Q (nth i l)
+  nth-tells i [] h = refusal {p = 0} refl (omega arith)
+  nth-tells zero (x ∷ l) (also h a) = value h
+  nth-tells (suc i) (x ∷ l) (also h a) = nth-tells i l a
 
-  tag-of-tells : (i : ℕ) → Tells viewNumbers (length s) (λ (t : List Part). Unit {0}) (tagOf i s)
+  tag-of-tells : (i : ℕ) → Tells viewNumbers (length s) (All PartIn) (tagOf i s)
   unfolding tagOf
-  tag-of-tells i = then-tells _ (wider refl (omega arith) packed-tells) (λ p _. nth-tells i (p .tags))
+  tag-of-tells i = then-tells _ (wider refl (omega arith) packed-tells) (λ p h. nth-tells i (p .tags) (h .1))
 
   -- the number of texts in tag i: the reader's numbers, and 19
   pub texts-tells : (i : ℕ) → Tells viewNumbers (length s) (λ (n : ℕ). Unit {0}) (textsIn i s)
@@ -140,6 +154,6 @@ module _ (s : List ℕ) where
   texts-tells i = then-tells _ (tag-of-tells i) (λ t _. value tt)
 
   -- element j of tag i: the reader's numbers, and 19
-  pub element-of-tells : (i j : ℕ) → Tells viewNumbers (length s) (λ (p : Part). Unit {0}) (elementOf i j s)
+  pub element-of-tells : (i j : ℕ) → Tells viewNumbers (length s) PartIn (elementOf i j s)
   unfolding elementOf
-  element-of-tells i j = then-tells _ (tag-of-tells i) (λ t _. nth-tells j t)
+  element-of-tells i j = then-tells _ (tag-of-tells i) (λ t h. nth-tells j t h)

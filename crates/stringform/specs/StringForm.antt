@@ -1,7 +1,8 @@
--- The string form of a packed event (rules 14): a fixed prefix, and the base64 of packed bytes behind it.
--- Assumes nothing.
+-- The string form of a packed event (rules 14 and 17): a fixed prefix, and the base64 of packed bytes behind it. There
+-- is one for each form: behind `notepack_` stand bare bytes, behind `notepack1_` versioned ones. Assumes nothing.
 use Prim.Native.Nat.{ℕ}
-use mathlib.Core.List.{List, _++_}
+use mathlib.Core.Bool.{Bool, true, false}
+use mathlib.Core.List.{List, [], _∷_, _++_}
 use lib.ListN.{length, drop}
 use lib.Dec.{ltb}
 use Rattle.scan.specs.Ascii.{ascii}
@@ -10,37 +11,37 @@ use Rattle.scan.specs.Place.{standsAt, runAt}
 use Rattle.base64.specs.Base64.{inAlphabet, encoded, decoded, endsWhole}
 use Rattle.event.specs.Event.{Event}
 use Rattle.notepack.specs.Strict.{pack}
-use Rattle.notepack.specs.Unpack.{unpack}
+use Rattle.versioned.specs.Moves.{accepted}
 
 -- what each string form starts with
-unfoldable pub prefix : List ℕ
-prefix = ascii "notepack_"
+unfoldable pub prefix : Bool → List ℕ
+prefix bare = pick bare (ascii "notepack_") (ascii "notepack1_")
+
+-- what stands in front of the bare bytes
+unfoldable pub front : Bool → List ℕ
+front bare = pick bare [] (1 ∷ [])
 
 -- the string form of packed bytes
-unfoldable pub stringForm : List ℕ → List ℕ
-stringForm b = prefix ++ encoded b
+unfoldable pub stringForm : Bool → List ℕ → List ℕ
+stringForm bare b = prefix bare ++ encoded b
 
 -- the string form of an event: that of its strict bytes
-unfoldable pub eventString : Event → List ℕ
-eventString e = stringForm (pack e)
+unfoldable pub eventString : Bool → Event → List ℕ
+eventString bare e = stringForm bare (front bare ++ pack e)
 
 -- The bytes that a string form holds: 20 where it starts otherwise; 21 at the first byte behind the prefix that is
 -- outside the alphabet, and else at the text's length where its end is none of base64.
-unfoldable pub heldBytes : List ℕ → Answer (List ℕ)
-heldBytes t =
-    pick (standsAt prefix t 0)
-    (pick (ltb (runAt inAlphabet t 9) (length t)) (refused 21 (runAt inAlphabet t 9))
-    (pick (endsWhole (drop 9 t)) (shown (decoded (drop 9 t))) (refused 21 (length t))))
+unfoldable pub heldBytes : Bool → List ℕ → Answer (List ℕ)
+heldBytes bare t =
+    pick (standsAt (prefix bare) t 0)
+    (pick (ltb (runAt inAlphabet t (length (prefix bare))) (length t)) (refused 21 (runAt inAlphabet t (length (prefix bare))))
+    (pick (endsWhole (drop (length (prefix bare)) t)) (shown (decoded (drop (length (prefix bare)) t))) (refused 21 (length t))))
     (refused 20 0)
 
--- bytes, where the notepack reader accepts them
-unfoldable pub accepted : List ℕ → Answer (List ℕ)
-accepted b = andThen (unpack b) λ e. shown b
-
--- The reading: the bytes held, where they are accepted. So the reader's limit of 65,536 counts these bytes, and its
--- places are places in them.
-unfoldable pub readString : List ℕ → Answer (List ℕ)
-readString t = andThen (heldBytes t) accepted
+-- The reading: the bytes held, where they are accepted. So the reader's limit of 65,536 counts these bytes, the version
+-- byte too, and its places are places in them.
+unfoldable pub readString : Bool → List ℕ → Answer (List ℕ)
+readString bare t = andThen (heldBytes bare t) (accepted bare)
 
 -- what the reader leaves in the buffer: the bytes as they are
 abbrev pub itself : List ℕ → List ℕ

@@ -8,7 +8,7 @@ use native.Mathlib.Omega.{arith}
 use lib.ListN.{length, set}
 use lib.Dec.{leb}
 use borrow.Author.Tests.{leb-true}
-use Rattle.scan.specs.Choice.{shown}
+use Rattle.scan.specs.Choice.{Answer, shown}
 use Rattle.scan.specs.Bytes.{IsBytes}
 use Rattle.scan.proofs.Many.{after, pick-shown, shown-same}
 use Rattle.event.specs.Event.{Event}
@@ -26,7 +26,7 @@ use Rattle.archive.proofs.Places.{firstFree-within, fill-set, placeOf-within, s
 use Rattle.archive.proofs.Distinct.{act-distinct}
 use Rattle.table.specs.Cells.{cellStart, laidOver}
 use Rattle.table.specs.Table.{entriesOf}
-use Rattle.table.specs.Offer.{offeredEvent, Offer, offer, Place, nowhere, slot, placeBy, placeIn, slotsWith, cellsWith, slotsAfter, cellsAfter}
+use Rattle.table.specs.Offer.{offeredEvent, Offer, offerOf, offer, Place, nowhere, slot, placeBy, placeIn, slotsWith, cellsWith, slotsAfter, cellsAfter}
 use Rattle.table.proofs.Good.{Good, table-good, good-shown, good-many, laid-good}
 
 -- ---- an offer, taken apart
@@ -38,25 +38,25 @@ pub record Offered (slots : List Slot) (cells packed : List ℕ) (o : Offer) : T
   pub small : length (pack (o .event)) ≤ 1_024
   pub outcome : offered (o .entries) (o .event) ≡ shown (o .outcome)
 
-event-offered : (packed : List ℕ) (e : Event) → offeredEvent packed ≡ shown e → (unpack packed ≡ shown e) × (length (pack e) ≤ 1_024)
+event-offered : (a : Answer Event) (e : Event) → offeredEvent a ≡ shown e → (a ≡ shown e) × (length (pack e) ≤ 1_024)
 unfolding offeredEvent
-event-offered packed e q =
-    after (unpack packed) _ e q
+event-offered a e q =
+    after a _ e q
     (λ d p r.
     let t = pick-shown (leb (length (pack d)) 1_024) _ 22 0 e r in
     let f : d ≡ e = shown-same (t .1) in
     (p ∙ ap shown f, rw f at (leb-true (length (pack d)) 1_024 (t .0))))
 
 pub offer-apart : (slots : List Slot) (cells packed : List ℕ) (o : Offer) → offer slots cells packed ≡ shown o → Offered slots cells packed o
-unfolding offer
+unfolding offerOf
 offer-apart slots cells packed o q =
     after (entriesOf slots cells) _ o q
     (λ s p q₁.
-    after (offeredEvent packed) _ o q₁
+    after (offeredEvent (unpack packed)) _ o q₁
     (λ e f q₂.
     after (offered s e) _ o q₂
     (λ r h q₃.
-    let u = event-offered packed e f in
+    let u = event-offered (unpack packed) e f in
     let k : record { entries = s; event = e; outcome = r } ≡ o = shown-same q₃ in
     subst (Offered slots cells packed) k (record { entries = p; event = u .0; small = u .1; outcome = h }))))
 

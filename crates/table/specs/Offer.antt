@@ -15,9 +15,9 @@ use Rattle.archive.specs.Archive.{nameOf, Entry, firstFree, placeOf, offered}
 use Rattle.table.specs.Cells.{cellStart, laidOver}
 use Rattle.table.specs.Table.{entriesOf}
 
--- the event that is offered: the reader's refusals, then 22 for a strict form that passes a cell
-unfoldable pub offeredEvent : List ℕ → Answer Event
-offeredEvent packed = andThen (unpack packed) λ e. pick (leb (length (pack e)) 1_024) (shown e) (refused 22 0)
+-- the event that is offered: the refusals of what was read, then 22 for a strict form that passes a cell
+unfoldable pub offeredEvent : Answer Event → Answer Event
+offeredEvent a = andThen a λ e. pick (leb (length (pack e)) 1_024) (shown e) (refused 22 0)
 
 -- an offer that is not refused: the entries of the table, the event, and what the offer comes to
 pub record Offer : Type 0 where
@@ -25,13 +25,17 @@ pub record Offer : Type 0 where
   pub event : Event
   pub outcome : Outcome
 
--- the entries, or 34; the event, or its refusal; the outcome, or 23
-unfoldable pub offer : List Slot → List ℕ → List ℕ → Answer Offer
-offer slots cells packed =
+-- the entries, or 34; the event that was read, or its refusal; the outcome, or 23
+unfoldable pub offerOf : List Slot → List ℕ → Answer Event → Answer Offer
+offerOf slots cells a =
     andThen (entriesOf slots cells) λ s.
-    andThen (offeredEvent packed) λ e.
+    andThen (offeredEvent a) λ e.
     andThen (offered s e) λ r.
     shown (record { entries = s; event = e; outcome = r })
+
+-- an offer of bare packed bytes
+abbrev pub offer : List Slot → List ℕ → List ℕ → Answer Offer
+offer slots cells packed = offerOf slots cells (unpack packed)
 
 abbrev pub outcomeOf : Answer Offer → Answer Outcome
 outcomeOf a = andThen a λ o. shown (o .outcome)

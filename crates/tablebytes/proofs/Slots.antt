@@ -20,11 +20,11 @@ use Rattle.table.specs.Cells.{laidOver}
 use Rattle.table.specs.Offer.{Offer, offer, Place, slotsWith}
 use Rattle.table.proofs.Cells.{laid-length}
 use Rattle.table.proofs.Offers.{Within, untouched, touched}
-use Rattle.tablebytes.specs.Entries.{tableOffer, bytesWith}
+use Rattle.tablebytes.specs.Entries.{tableOfferOf, tableOffer, bytesWith}
 
 -- an offer's sizes, and the offer to its slots
 pub offer-bytes : (slots cells p : List ℕ) (o : Offer) → tableOffer slots cells p ≡ shown o → (length slots ≡ 1_024) × (offer (slotsIn 64 slots) cells p ≡ shown o)
-unfolding tableOffer
+unfolding tableOfferOf
 offer-bytes slots cells p o q = let t = pick-shown (eqb (length slots) 1_024) _ 34 0 o q in (eqb-true (length slots) 1_024 (t .0), t .1)
 
 -- one slot's bytes laid over are one slot changed, and the length stays

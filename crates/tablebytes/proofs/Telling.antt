@@ -1,5 +1,7 @@
--- A table's entries refuse with their own numbers: 34 at one of 64 slots, the notepack reader's, 22, 23; 34 or 19.
+-- A table's entries refuse with their own numbers: 34 at one of 64 slots, those of who read the event, 22, 23; 34 or
+-- 19.
 -- Step by step along the definitions.
+use Prim.{Unit}
 use Prim.Native.Nat.{ℕ, zero, suc, _+_, _<_}
 use mathlib.Core.Path.{_≡_, refl, sym, ap, _∙_}
 use mathlib.Core.Bool.{Bool, true, false}
@@ -13,10 +15,7 @@ use Rattle.scan.proofs.Step.{pick-by}
 use Rattle.event.specs.Event.{Event}
 use Rattle.event.specs.inner.Tells.{Tells, value, refusal}
 use Rattle.notepack.specs.Strict.{pack}
-use Rattle.notepack.specs.Unpack.{unpack}
 use Rattle.notepack.specs.Views.{nth}
-use Rattle.notepack.specs.inner.Numbers.{packedNumbers}
-use Rattle.notepack.proofs.Telling.{unpack-tells}
 use Rattle.slots.specs.declared.Slot.{Slot}
 use Rattle.slotbytes.specs.SlotBytes.{slotsIn}
 use Rattle.archive.specs.declared.Outcome.{Outcome}
@@ -24,13 +23,13 @@ use Rattle.archive.specs.Archive.{nameOf, Entry, free, held, wanted, fits, offe
 use Rattle.table.specs.Cells.{Cell, cellsFrom}
 use Rattle.table.specs.Table.{Holds, nothing, bad, good, holds, hasName, entriesFrom, slotsHold, entriesOf}
 use Rattle.table.specs.Standing.{Stand, standing, standOf}
-use Rattle.table.specs.Offer.{offeredEvent, Offer, offer}
-use Rattle.tablebytes.specs.Entries.{tableOffer, tableSlot}
+use Rattle.table.specs.Offer.{offeredEvent, Offer, offerOf}
+use Rattle.tablebytes.specs.Entries.{tableOfferOf, tableSlot}
 use Rattle.tablebytes.specs.inner.Telling.{OfferTells, outcome, of-event, over-a-cell, full, SlotTells, found, no-event}
 use Rattle.tablebytes.specs.inner.Telling as telling
 
 -- 34 at a slot below n
-data At34 (n : ℕ) {A : Type 0} : Answer A → Type 0 where
+pub data At34 (n : ℕ) {A : Type 0} : Answer A → Type 0 where
   fine : {a : A} → At34 n (shown a)
   at : {i : ℕ} → i < n → At34 n (refused 34 i)
 
@@ -54,7 +53,7 @@ cells-long : (cells : List ℕ) (i : ℕ) (l : List Slot) → length (cellsFrom 
 cells-long cells i [] = refl
 cells-long cells i (s ∷ l) = ap suc (cells-long cells (suc i) l)
 
-entries-34 : (slots : List Slot) (cells : List ℕ) → At34 64 (entriesOf slots cells)
+pub entries-34 : (slots : List Slot) (cells : List ℕ) → At34 64 (entriesOf slots cells)
 unfolding entriesOf slotsHold
 entries-34 slots cells =
     pick-by (λ (a : Answer (List Entry)). At34 64 a) (eqb (length slots) 64)
@@ -65,44 +64,48 @@ entries-34 slots cells =
 
 -- ---- an offer
 
-module _ (packed : List ℕ) where
-  event-tells : {A : Type 0} (f : Event → Answer A) → ((e : Event) → OfferTells packed (f e)) → OfferTells packed (andThen (offeredEvent packed) f)
+module _ (numbers packed : List ℕ) (a : Answer Event) (reads : Tells numbers (length packed) (λ (e : Event). Unit {0}) a) where
+  abbrev Tell : {A : Type 0} → Answer A → Type 0
+  Tell {A} = OfferTells numbers packed
+
+  event-tells : {A : Type 0} (f : Event → Answer A) → ((e : Event) → Tell (f e)) → Tell (andThen (offeredEvent a) f)
   unfolding offeredEvent
-  event-tells f g = go (unpack packed) (unpack-tells packed)
+  event-tells f g = go a reads
     where
-      fitting : (t : Bool) (e : Event) → OfferTells packed (andThen (pick t (shown e) (refused 22 0)) f)
+      fitting : (t : Bool) (e : Event) → Tell (andThen (pick t (shown e) (refused 22 0)) f)
       fitting true e = g e
       fitting false e = over-a-cell
 
-      go : (a : Answer Event) → Tells packedNumbers (length packed) (λ (e : Event). Unit {0}) a
-          → OfferTells packed (andThen (andThen a (λ (e : Event). pick (leb (length (pack e)) 1_024) (shown e) (refused 22 0))) f)
+      go : (x : Answer Event) → Tells numbers (length packed) (λ (e : Event). Unit {0}) x
+          → Tell (andThen (andThen x (λ (e : Event). pick (leb (length (pack e)) 1_024) (shown e) (refused 22 0))) f)
       go (shown e) t = fitting (leb (length (pack e)) 1_024) e
       go (refused n p) (refusal h k) = of-event h k
 
   -- the offer behind the entries
   abbrev behind : List Entry → Answer Offer
-  behind s = andThen (offeredEvent packed) λ e. andThen (offered s e) λ r. shown (record { entries = s; event = e; outcome = r })
+  behind s = andThen (offeredEvent a) λ e. andThen (offered s e) λ r. shown (record { entries = s; event = e; outcome = r })
 
-  behind-tells : (s : List Entry) → OfferTells packed (behind s)
+  behind-tells : (s : List Entry) → Tell (behind s)
   unfolding offered
   behind-tells s = event-tells _ (λ e. last (fits s (wanted s e)) (wanted s e) (λ r. record { entries = s; event = e; outcome = r }))
     where
-      last : (t : Bool) (r : Outcome) (f : Outcome → Offer) → OfferTells packed (andThen (pick t (shown r) (refused 23 0)) (λ (x : Outcome). shown (f x)))
+      last : (t : Bool) (r : Outcome) (f : Outcome → Offer) → Tell (andThen (pick t (shown r) (refused 23 0)) (λ (x : Outcome). shown (f x)))
       last true r f = outcome
       last false r f = full
 
-  entries-offer : (a : Answer (List Entry)) → At34 64 a → OfferTells packed (andThen a behind)
+  entries-offer : (x : Answer (List Entry)) → At34 64 x → Tell (andThen x behind)
   entries-offer (shown s) fine = behind-tells s
   entries-offer (refused n i) (at h) = telling.OfferTells.bad-table h
 
-  offer-tells : (slots : List Slot) (cells : List ℕ) → OfferTells packed (offer slots cells packed)
-  unfolding offer
+  offer-tells : (slots : List Slot) (cells : List ℕ) → Tell (offerOf slots cells a)
+  unfolding offerOf
   offer-tells slots cells = entries-offer (entriesOf slots cells) (entries-34 slots cells)
 
-  pub table-offer-tells : (slots cells : List ℕ) → OfferTells packed (tableOffer slots cells packed)
-  unfolding tableOffer
+  -- an offer of what was read with these numbers
+  pub table-offer-tells : (slots cells : List ℕ) → Tell (tableOfferOf slots cells a)
+  unfolding tableOfferOf
   table-offer-tells slots cells =
-      pick-by (λ (a : Answer Offer). OfferTells packed a) (eqb (length slots) 1_024) (λ _. offer-tells (slotsIn 64 slots) cells)
+      pick-by (λ (x : Answer Offer). Tell x) (eqb (length slots) 1_024) (λ _. offer-tells (slotsIn 64 slots) cells)
       (λ _. telling.OfferTells.bad-table {i = 0} (omega arith))
 
 -- ---- the event of a slot

@@ -16,8 +16,8 @@ use Rattle.notepack.proofs.StrictLaws.{pack-bytes, reads-back}
 use Rattle.archive.specs.declared.Outcome.{Outcome}
 use Rattle.archive.specs.declared.Outcome.the-variants.{New, Replaced, Loses, Held, NotKept}
 use Rattle.archive.specs.Archive.{nameOf, sameName, Entry, free, held, hasFree, fill, swap, wanted, fits, offered, act}
-use Rattle.table.specs.Offer.{offeredEvent, Offer, offer}
-use Rattle.tablebytes.specs.Entries.{tableOffer}
+use Rattle.table.specs.Offer.{offeredEvent, Offer, offerOf}
+use Rattle.tablebytes.specs.Entries.{tableOfferOf, tableOffer}
 use Rattle.tablebytes.specs.Runs.{Lent, emptied, after, Ran, stop, next, NeverRefused}
 use Rattle.tablebytes.proofs.Runs.{Stands, stands-emptied, after-stands}
 
@@ -68,7 +68,7 @@ madeOffer s e = record { entries = s; event = e; outcome = wanted s e }
 
 offer-made : (t : Lent) (s : List Entry) (e : Event) → Stands t s → Valid e → length (pack e) ≤ 1_024 → 0 < freeSlots s
     → tableOffer (t .slots) (t .cells) (pack e) ≡ shown (madeOffer s e)
-unfolding tableOffer offer offeredEvent offered
+unfolding tableOfferOf offerOf offeredEvent offered
 offer-made t s e w v l h =
     rw (eq-eqb (length (t .slots)) 1_024 (w .many), w .entries, reads-back e v (omega (arith, l)), le-leb (length (pack e)) 1_024 l, has-room s h (wanted s e))
 

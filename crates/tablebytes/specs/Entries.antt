@@ -7,21 +7,26 @@ use lib.Dec.{eqb}
 use Rattle.scan.specs.Choice.{pick, Answer, shown, refused}
 use Rattle.event.specs.Event.{Event}
 use Rattle.notepack.specs.Strict.{pack}
+use Rattle.notepack.specs.Unpack.{unpack}
 use Rattle.slots.specs.Slots.{usedSlot}
 use Rattle.archive.specs.Archive.{Entry}
 use Rattle.table.specs.Cells.{laidOver}
 use Rattle.table.specs.Table.{entriesOf}
 use Rattle.table.specs.Standing.{Stand, standOf}
-use Rattle.table.specs.Offer.{Offer, offer, Place, nowhere, slot, placeIn}
+use Rattle.table.specs.Offer.{Offer, offerOf, Place, nowhere, slot, placeIn}
 use Rattle.slotbytes.specs.SlotBytes.{slotsIn, slotBytes}
 
 -- the entries of a lent table
 unfoldable pub tableEntries : List ℕ → List ℕ → Answer (List Entry)
 tableEntries slots cells = pick (eqb (length slots) 1_024) (entriesOf (slotsIn 64 slots) cells) (refused 34 0)
 
--- an offer
-unfoldable pub tableOffer : List ℕ → List ℕ → List ℕ → Answer Offer
-tableOffer slots cells packed = pick (eqb (length slots) 1_024) (offer (slotsIn 64 slots) cells packed) (refused 34 0)
+-- an offer of an event that was read, or refused
+unfoldable pub tableOfferOf : List ℕ → List ℕ → Answer Event → Answer Offer
+tableOfferOf slots cells a = pick (eqb (length slots) 1_024) (offerOf (slotsIn 64 slots) cells a) (refused 34 0)
+
+-- an offer of bare packed bytes
+abbrev pub tableOffer : List ℕ → List ℕ → List ℕ → Answer Offer
+tableOffer slots cells packed = tableOfferOf slots cells (unpack packed)
 
 -- the slots after an offer: the one that takes the event has 16 new bytes, every other keeps its own
 abbrev pub bytesWith : Place → Event → List ℕ → List ℕ

@@ -36,7 +36,7 @@ use Rattle.archive.specs.declared.Outcome.the-variants.{New, Replaced, Loses, H
 use Rattle.archive.specs.Archive.{Name, nameBy, nameOf, isEphemeral, isSecond, sameEvent, Entry, Found, none, one, lookup, hasFree, firstFree, placeOf, beside, versus, wanted, fits, offered}
 use Rattle.table.specs.Cells.{cellStart, laidOver}
 use Rattle.table.specs.Table.{entriesOf}
-use Rattle.table.specs.Offer.{offeredEvent, Offer, offer, Place, nowhere, slot, placeBy, cellsWith, cellsAfter}
+use Rattle.table.specs.Offer.{offeredEvent, Offer, offerOf, offer, Place, nowhere, slot, placeBy, cellsWith, cellsAfter}
 use Rattle.tableread.specs.declared.Stored.{Stored}
 use Rattle.tableread.specs.declared.Known.{Known}
 use Rattle.tableread.specs.declared.Lowest.{Lowest}
@@ -154,23 +154,23 @@ module _ (cells : List ℕ) (room : length cells ≡ 65_536) (l : List Entry) (e
 
 module _ (t : List Slot) (cells : List ℕ) (room : length cells ≡ 65_536) (ks : List Known) (many : length ks ≡ 64) (l : List Entry) (u : Alike cells ks l)
     (shows : entriesOf t cells ≡ shown l) (s : List ℕ) (bytes : IsBytes s) where
-  offer-refused : {n q : ℕ} → offeredEvent s ≡ refused n q → offer t cells s ≡ refused n q
-  unfolding offer
+  offer-refused : {n q : ℕ} → offeredEvent (unpack s) ≡ refused n q → offer t cells s ≡ refused n q
+  unfolding offerOf
   offer-refused e = rw (shows, e)
 
-  offer-event : {e : Event} → offeredEvent s ≡ shown e → offer t cells s ≡ offerBy l e (offered l e)
-  unfolding offer
+  offer-event : {e : Event} → offeredEvent (unpack s) ≡ shown e → offer t cells s ≡ offerBy l e (offered l e)
+  unfolding offerOf
   offer-event e = rw (shows, e)
 
-  no-event : {n q : ℕ} → unpack s ≡ refused n q → offeredEvent s ≡ refused n q
+  no-event : {n q : ℕ} → unpack s ≡ refused n q → offeredEvent (unpack s) ≡ refused n q
   unfolding offeredEvent
   no-event e = rw e
 
-  long-event : {e : Event} → unpack s ≡ shown e → 1_024 < length (pack e) → offeredEvent s ≡ refused 22 0
+  long-event : {e : Event} → unpack s ≡ shown e → 1_024 < length (pack e) → offeredEvent (unpack s) ≡ refused 22 0
   unfolding offeredEvent
   long-event {e} q k = rw (q, lt-leb (length (pack e)) 1_024 k)
 
-  short-event : {e : Event} → unpack s ≡ shown e → length (pack e) ≤ 1_024 → offeredEvent s ≡ shown e
+  short-event : {e : Event} → unpack s ≡ shown e → length (pack e) ≤ 1_024 → offeredEvent (unpack s) ≡ shown e
   unfolding offeredEvent
   short-event {e} q k = rw (q, le-leb (length (pack e)) 1_024 k)
 

@@ -9,7 +9,7 @@ use Rattle.scan.proofs.AllLaws.{all-places}
 use Rattle.slots.specs.declared.Slot.{Slot}
 use Rattle.archive.specs.Archive.{Entry}
 use Rattle.table.specs.Table.{entriesFrom, slotsHold, entriesOf}
-use Rattle.table.specs.Offer.{Offer, offer, cellsAfter}
+use Rattle.table.specs.Offer.{Offer, offerOf, cellsAfter}
 use Rattle.tableread.specs.declared.Known.{Known}
 use Rattle.tableread.specs.declared.Lowest.{Lowest}
 use Rattle.tableread.specs.declared.Lowest.the-variants as lowest
@@ -31,7 +31,7 @@ module _ (n : ℕ) (t : List Slot) (cells packed : List ℕ) where
 
   module _ (e : n ≡ 64) (m : length t ≡ 64) where
     pub other-size : {r : Decision} → (length cells ≡ 65_536 → ⊥) → r ≡ decision n (refused 34 0) → Decides r cells
-    unfolding lentOffer offer entriesOf
+    unfolding lentOffer offerOf entriesOf
     other-size h g = rw (eq-eqb n 64 e, eq-eqb (length t) 64 m, ne-eqb (length cells) 65_536 h) (g, refl)
 
     module _ (room : length cells ≡ 65_536) (b : (i : ℕ) → getD cells i 0 < 256) {ks : List Known} (k : ks ≡ knownFrom cells 0 t) {f : Lowest} (l : f ≡ lowestFrom cells 0 ks) where
@@ -40,7 +40,7 @@ module _ (n : ℕ) (t : List Slot) (cells packed : List ℕ) where
       shows s z = rw (eq-eqb (length t) 64 m, eq-eqb (length cells) 65_536 room) z
 
       pub bad-slot : {i : ℕ} {r : Decision} → f ≡ lowest.At i → r ≡ decision n (refused 34 i) → Decides r cells
-      unfolding lentOffer offer entriesOf
+      unfolding lentOffer offerOf entriesOf
       bad-slot q g =
           let z = lowest-bad-is cells (all-places cells b) t (ap (lowestFrom cells 0) (sym k) ∙ sym l ∙ q) in
           rw (eq-eqb n 64 e, eq-eqb (length t) 64 m, eq-eqb (length cells) 65_536 room, z) (g, refl)

@@ -1,5 +1,6 @@
 // Two packed records of one length on standard input: what is seen of the first, which is kept, and what a table holds
 // after both were offered.
+use event::Writing;
 use libc::STDIN_FILENO;
 use libc::STDOUT_FILENO;
 use slots::Slot;
@@ -34,6 +35,29 @@ fn kept<'a>(label: &[u8], s: &'a [u8], t: &'a [u8]) {
     content(label, rivals::choose(s, t));
 }
 
+// How many bytes a move wrote.
+fn moved(w: Writing) -> usize {
+    match w {
+        Writing::Written(n) => n,
+        Writing::Refused(_) => 0,
+    }
+}
+
+// What is seen of the versioned form of a record: its content, an element, and the first byte of what is kept beside a
+// bare one, which is handed back as it was lent.
+fn other_form(label: &[u8], s: &[u8], t: &[u8]) {
+    let mut form = [0u8; 65537];
+    let n = moved(versioned::to_versioned(s, &mut form));
+    let v = scan::part(&form, 0, n);
+    say(label);
+    say(versioned::content(v, false));
+    say(b", ");
+    say_hex(versioned::element(v, false, 0, 1));
+    say(b", ");
+    say_hex(scan::part(versionedrivals::choose(v, false, t, true), 0, 1));
+    say(b"\n");
+}
+
 // The content of what slot 0 of a table holds after two records were offered to it.
 fn tabled(label: &[u8], s: &[u8], t: &[u8]) {
     let mut cells = [0u8; 65536];
@@ -64,6 +88,8 @@ fn main() {
     kept(b"second and first: ", second, first);
     kept(b"first and itself: ", first, first);
     kept(b"cut short and second: ", scan::part(first, 0, 127), second);
+    other_form(b"the first versioned: ", first, second);
+    other_form(b"the second versioned: ", second, first);
     tabled(b"a table, first and second: ", first, second);
     tabled(b"a table, second and first: ", second, first);
 }

@@ -7,13 +7,13 @@ use Rattle.kezubimoryu.proofs.kez_notepack_read.Tie as tie
 
 some : tie.Need-returns
 some c =
-    let told = c .before .before .before in
-    rw (c .shown .ensures, ← told .before .before .read-packed .ensures, told .found .given .1) (refl, (refl, (refl, (refl, (refl, refl)))))
+    let told = rw (c .before .before .before .before .before .before .is-bare .ensures) at (c .before .before .before .before .before .read-packed .ensures) in
+    rw (c .shown .ensures, ← told, c .before .before .before .found .given .1) (refl, (refl, (refl, (refl, (refl, refl)))))
 
 none : tie.Need-returns-2
 none c =
-    let told = c .before .before in
-    rw (c .refused .ensures, ← told .before .before .read-packed .ensures, told .found2 .given .1) (refl, (refl, (refl, (refl, (refl, refl)))))
+    let told = rw (c .before .before .before .before .before .is-bare .ensures) at (c .before .before .before .before .read-packed .ensures) in
+    rw (c .refused .ensures, ← told, c .before .before .found2 .given .1) (refl, (refl, (refl, (refl, (refl, refl)))))
 
 pub kez-notepack-read-spec : {M : Type 1} → statement M
-kez-notepack-read-spec = tie.close (tie.spec (λ c κs. search needs) (λ c. search needs) (λ c κs. search needs) (λ c. search needs) (λ c κs. search needs) some none)
+kez-notepack-read-spec = tie.close (tie.spec (λ c κs. search needs) (λ c κs. search needs) (λ c. search needs) (λ c κs. search needs) (λ c. search needs) (λ c κs. search needs) some none)

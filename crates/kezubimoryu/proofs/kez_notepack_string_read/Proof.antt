@@ -1,8 +1,8 @@
 -- The entry answers the two numbers of the reader of string forms and leaves the buffer as that does.
 -- By the one law of a writer's answer.
 use mathlib.Core.Path.{ap, _∙_}
-use borrow.Author.Needs.{needs}
 use Rattle.event.specs.Answers.{twoNumbers}
+use borrow.Author.Needs.{needs}
 use Rattle.kezubimoryu.proofs.kez_notepack_string_read.Statement.{statement}
 use Rattle.kezubimoryu.proofs.kez_notepack_string_read.Tie as tie
 

@@ -3,7 +3,7 @@
 use Prim.{Unit}
 use Prim.Native.Nat.{ℕ, _≤_, _<_}
 use mathlib.Core.Path.{_≡_}
-use mathlib.Core.Bool.{true, false}
+use mathlib.Core.Bool.{Bool, true, false}
 use mathlib.Core.List.{List, [], _∷_}
 use lib.ListN.{length}
 use Rattle.scan.specs.Choice.{Answer, shown, refused, andThen}
@@ -11,23 +11,27 @@ use Rattle.buffer.specs.Entry.{writes, leaves}
 use Rattle.event.specs.Event.{Event}
 use Rattle.event.specs.inner.Tells.{among, Tells}
 use Rattle.notepack.specs.Unpack.{unpack}
-use Rattle.notepack.specs.inner.Numbers.{packedNumbers, viewNumbers}
 use Rattle.notepack.specs.Strict.{pack}
-use Rattle.notepack.specs.Views.{numbersOf, textsIn, elementOf}
 use Rattle.elements.specs.Elements.{elementsTold, elementsLeft}
 use Rattle.strict.specs.Strict.{strict}
+use Rattle.versioned.specs.Versioned.{given}
+use Rattle.versioned.specs.Views.{numbersGiven, textsGiven, elementGiven}
+use Rattle.versioned.specs.Moves.{versions, versionLeaves, bares, bareLeaves}
+use Rattle.notepack.specs.inner.Numbers.{packedNumbers}
+use Rattle.versioned.specs.inner.Numbers.{givenNumbers, givenViewNumbers}
 use Rattle.stringform.specs.StringForm.{eventString, readString, itself}
 use Rattle.stringform.specs.inner.Numbers.{stringNumbers}
 use Rattle.canonical.specs.Canonical.{canonical}
 use Rattle.nson.specs.inner.Numbers.{nsonNumbers}
-use Rattle.nson.specs.Entries.{nsonReads, nsonWrites}
+use Rattle.nson.specs.Nson.{nson}
+use Rattle.nson.specs.Entries.{nsonReads, carried}
 use Rattle.json.specs.inner.Numbers.{jsonNumbers}
 use Rattle.json.specs.Entries.{jsonReads}
 use Rattle.bothreaders.specs.Both.{both, bothFirst, bothSecond}
-use Rattle.rivals.specs.Rivals.{rivals}
-use Rattle.rivals.specs.inner.Telling.{RivalsTell}
+use Rattle.versionedrivals.specs.Rivals.{rivalsGiven}
+use Rattle.versionedrivals.specs.inner.Telling.{GivenTell}
 use Rattle.table.specs.Offer.{outcomeOf, cellsAfter}
-use Rattle.tablebytes.specs.Entries.{tableOffer, bytesAfter, tableSlot, sized, zeroed}
+use Rattle.tablebytes.specs.Entries.{tableOfferOf, bytesAfter, tableSlot, sized, zeroed}
 use Rattle.tablebytes.specs.inner.Telling.{OfferTells, SlotTells}
 use Rattle.sha256.specs.Pieces.{started}
 use Rattle.sha256bytes.specs.StateBytes.{bytesOfState, addIn, finishIn}
@@ -56,42 +60,48 @@ abbrev pub hashNumbers : List ℕ
 hashNumbers = 35 ∷ []
 
 -- what the NSON writer adds to the reader's numbers: 17, and 0 is a place of every input
-abbrev pub writerNumbers : List ℕ
-writerNumbers = 17 ∷ packedNumbers
+abbrev pub writerNumbers : Bool → List ℕ
+writerNumbers b = 17 ∷ givenNumbers b
 
 pub record Refusals : Type 0 where
-  pub notepack-read : (s : List ℕ) → Asks packedNumbers s (ok (numbersOf s))
-  pub notepack-is-strict : (s : List ℕ) → Asks packedNumbers s (yesNo (strict s))
-  pub notepack-write : (s d : List ℕ) → Fills packedNumbers s d (writes pack (unpack s) d)
-  pub notepack-tag-len : (i : ℕ) (s : List ℕ) → Asks viewNumbers s (textsIn i s)
-  pub notepack-element : (i j : ℕ) (s : List ℕ) → Asks viewNumbers s (ok (elementOf i j s))
-  pub notepack-elements : (i : ℕ) (s d : List ℕ) → Asks packedNumbers s (elementsTold i s d)
-  pub string-write : (s d : List ℕ) → Fills packedNumbers s d (writes eventString (unpack s) d)
-  pub string-read : (t d : List ℕ) → Fills stringNumbers t d (writes itself (readString t) d)
-  pub canonical-write : (s d : List ℕ) → Fills packedNumbers s d (writes canonical (unpack s) d)
-  pub nson-write : (s d : List ℕ) → Fills writerNumbers s d (nsonWrites s d)
+  -- b says whether a packed input is bare: places count in the bytes given, and 25 is of a versioned one alone
+  pub notepack-read : (b : Bool) (s : List ℕ) → Asks (givenNumbers b) s (ok (numbersGiven b s))
+  pub notepack-is-strict : (b : Bool) (s : List ℕ) → Asks (givenNumbers b) s (yesNo (given b strict s))
+  pub notepack-write : (b : Bool) (s d : List ℕ) → Fills (givenNumbers b) s d (writes pack (given b unpack s) d)
+  pub notepack-tag-len : (b : Bool) (i : ℕ) (s : List ℕ) → Asks (givenViewNumbers b) s (textsGiven b i s)
+  pub notepack-element : (b : Bool) (i j : ℕ) (s : List ℕ) → Asks (givenViewNumbers b) s (ok (elementGiven b i j s))
+  pub notepack-elements : (b : Bool) (i : ℕ) (s d : List ℕ) → Asks (givenNumbers b) s (elementsTold b i s d)
+  pub string-write : (b : Bool) (s d : List ℕ) → Fills (givenNumbers b) s d (writes (eventString b) (given b unpack s) d)
+  pub string-read : (b : Bool) (t d : List ℕ) → Fills (stringNumbers b) t d (writes itself (readString b t) d)
+  pub canonical-write : (b : Bool) (s d : List ℕ) → Fills (givenNumbers b) s d (writes canonical (given b unpack s) d)
+  pub nson-write : (b : Bool) (s d : List ℕ) → Fills (writerNumbers b) s d (writes nson (carried (given b unpack s)) d)
+  -- the moves
+  pub versioned-from-bare : (s d : List ℕ) → Fills packedNumbers s d (versions s d)
+  pub bare-from-versioned : (s d : List ℕ) → Fills (givenNumbers false) s d (bares s d)
   pub nson-read : (s d : List ℕ) → Fills nsonNumbers s d (nsonReads s d)
   pub json-read : (s d : List ℕ) → Fills jsonNumbers s d (jsonReads s d)
   pub read-both : (s d₁ d₂ : List ℕ) → FillsBoth jsonNumbers s d₁ d₂ (andThen (both s d₁ d₂) (λ c. shown (c .which)))
-  -- of two inputs: whose refusal it is stands in `RivalsTell`
-  pub which-is-kept : (s t : List ℕ) → RivalsTell s t (rivals s t)
+  -- of two inputs: whose refusal it is stands in `GivenTell`
+  pub which-is-kept : (s : List ℕ) (b : Bool) (t : List ℕ) (c : Bool) → GivenTell s b t c (rivalsGiven s b t c)
   -- a table: its numbers and places stand in `OfferTells` and `SlotTells`; emptying refuses with 34 at 0
-  pub table-offer : (slots cells s : List ℕ) → OfferTells s (outcomeTold (outcomeOf (tableOffer slots cells s)))
+  pub table-offer : (slots cells : List ℕ) (b : Bool) (s : List ℕ) → OfferTells (givenNumbers b) s (outcomeTold (outcomeOf (tableOfferOf slots cells (given b unpack s))))
   pub table-slot : (slots cells : List ℕ) (n : ℕ) → SlotTells (ok (tableSlot slots cells n))
   pub table-empty : (slots cells : List ℕ) → Tells (34 ∷ []) 0 (λ (v : ℕ). Unit {0}) (sized slots cells)
   -- SHA-256: 11 with a length that the state, or the digest's buffer, does not have; the id question
   pub sha256-start : (b : List ℕ) → Fills [] [] b (writes bytesOfState (shown started) b)
   pub sha256-add : (b p : List ℕ) → Fills hashNumbers [] b (writes bytesOfState (addIn b p) b)
   pub sha256-finish : (b d : List ℕ) → FillsBoth hashNumbers [] b d (writes itself (finishIn b) d)
-  pub id-belongs : (s : List ℕ) → Asks packedNumbers s (yesNo (belongs s))
+  pub id-belongs : (b : Bool) (s : List ℕ) → Asks (givenNumbers b) s (yesNo (given b belongs s))
   -- after a refusal a lent buffer is as it was (rule 12.1.5): of an entry that writes the text of an event, and of both
   -- readers over one text
   pub write-keeps : (text : Event → List ℕ) (a : Answer Event) (d : List ℕ) (n p : ℕ) → writes text a d ≡ refused n p → leaves text a d ≡ d
-  pub string-keeps : (t d : List ℕ) (n p : ℕ) → writes itself (readString t) d ≡ refused n p → leaves itself (readString t) d ≡ d
-  pub elements-keep : (i : ℕ) (s d : List ℕ) (n p : ℕ) → elementsTold i s d ≡ refused n p → elementsLeft i s d ≡ d
+  pub string-keeps : (b : Bool) (t d : List ℕ) (n p : ℕ) → writes itself (readString b t) d ≡ refused n p → leaves itself (readString b t) d ≡ d
+  pub version-keeps : (s d : List ℕ) (n p : ℕ) → versions s d ≡ refused n p → versionLeaves s d ≡ d
+  pub bare-keeps : (s d : List ℕ) (n p : ℕ) → bares s d ≡ refused n p → bareLeaves s d ≡ d
+  pub elements-keep : (b : Bool) (i : ℕ) (s d : List ℕ) (n p : ℕ) → elementsTold b i s d ≡ refused n p → elementsLeft b i s d ≡ d
   pub both-keeps : (s d₁ d₂ : List ℕ) (n p : ℕ) → both s d₁ d₂ ≡ refused n p → (bothFirst s d₁ d₂ ≡ d₁) × (bothSecond s d₁ d₂ ≡ d₂)
-  pub offer-keeps : (slots cells s : List ℕ) (n p : ℕ) → tableOffer slots cells s ≡ refused n p
-      → (bytesAfter (tableOffer slots cells s) slots ≡ slots) × (cellsAfter (tableOffer slots cells s) cells ≡ cells)
+  pub offer-keeps : (slots cells : List ℕ) (a : Answer Event) (n p : ℕ) → tableOfferOf slots cells a ≡ refused n p
+      → (bytesAfter (tableOfferOf slots cells a) slots ≡ slots) × (cellsAfter (tableOfferOf slots cells a) cells ≡ cells)
   pub empty-keeps : (slots cells : List ℕ) (n p : ℕ) → sized slots cells ≡ refused n p
       → (zeroed (sized slots cells) slots ≡ slots) × (zeroed (sized slots cells) cells ≡ cells)
   pub start-keeps : (b : List ℕ) (n p : ℕ) → writes bytesOfState (shown started) b ≡ refused n p → leaves bytesOfState (shown started) b ≡ b
@@ -99,8 +109,8 @@ pub record Refusals : Type 0 where
   pub finish-keeps : (b d : List ℕ) (n p : ℕ) → writes itself (finishIn b) d ≡ refused n p → leaves itself (finishIn b) d ≡ d
   -- no number is 0
   pub hash-not-0 : among hashNumbers 0 ≡ false
-  pub packed-not-0 : among writerNumbers 0 ≡ false
-  pub string-not-0 : among stringNumbers 0 ≡ false
-  pub view-not-0 : among viewNumbers 0 ≡ false
+  pub packed-not-0 : (b : Bool) → among (writerNumbers b) 0 ≡ false
+  pub string-not-0 : (b : Bool) → among (stringNumbers b) 0 ≡ false
+  pub view-not-0 : (b : Bool) → among (givenViewNumbers b) 0 ≡ false
   pub nson-not-0 : among nsonNumbers 0 ≡ false
   pub json-not-0 : among jsonNumbers 0 ≡ false

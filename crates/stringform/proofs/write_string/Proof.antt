@@ -1,62 +1,32 @@
--- `write_string` tells the reader's refusal; else it writes the string form of the strict bytes: of the input itself
--- where that is strict, or through a scratch that has room for them.
-use mathlib.Core.Path.{ap}
-use native.Mathlib.Omega.{arith}
+-- `write_string` tells why there is no start, or writes the string form of the bare bytes' event.
+-- By the start, and what is told of the bare bytes, moved.
+use mathlib.Core.Path.{_≡_, sym, ap, _∙_}
+use Rattle.notepack.specs.Unpack.{unpack}
+use Rattle.notepack.proofs.Telling.{unpack-tells}
+use Rattle.versioned.specs.inner.Answers.{startRead}
+use Rattle.versioned.proofs.Moving.{given-start, given-none}
+use Rattle.stringform.specs.StringForm.{eventString}
+use Rattle.stringform.proofs.Steps.{front-whole, tells}
 use borrow.Author.Needs.{needs}
-use borrow.Author.Tests.{not-true}
-use Rattle.notepack.specs.inner.Answers.{walk}
-use Rattle.stringform.proofs.Steps.{walked-event, strict-already, wrote-event, pieces-fit, pieces-most, wrote-pieces, refusal-told}
 use Rattle.stringform.proofs.write_string.Statement.{statement}
 use Rattle.stringform.proofs.write_string.Tie as tie
 
-already : tie.Need-returns
-already c =
-    let a = c .before .before .before .before .before .before .before .before .before .before .before .before .before .before .args in
-    let g = walked-event (a .s .now) (λ i. c .before .before .before .before .before .before .before .before .before .before .before .before .before .shared-slice-known .given i .fits) _ (c .before .before .before .before .before .before .before .before .before .before .before .walk-packed .ensures) (c .before .before .before .before .before .before .before .before .before .walked2 .given .1) in
-    wrote-event (a .s .now) _ g (a .out .now) (strict-already (a .s .now) _ g (c .before .before .before .before .before .before .if1 .taken) (not-true _ (c .before .before .before .before .if2 .taken))) (c .before .before .put-string .ensures)
+whole : tie.Need-write-bare-requires
+whole c κs =
+    let a = c .before .before .before .before .before .before .before .before .args in
+    let e = sym (c .before .before .before .before .before .start .ensures) ∙ ap startRead (c .before .before .before .first2 .given .1) in
+    rw (c .before .from .ensures) (front-whole (a .bare) (a .s .now) e)
 
--- ---- the strict bytes have room in the scratch
+none : tie.Need-returns
+none c =
+    let a = c .before .before .before .before .before .before .args in
+    tells (eventString (a .bare)) (a .out .now) (given-none (a .bare) unpack (a .s .now) (sym (c .before .before .before .start .ensures) ∙ ap startRead (c .before .first .given .1)))
 
-few-fit : tie.Need-put-event-string-requires
-few-fit c κs =
-    let a = c .before .before .before .before .before .before .before .before .before .before .before .before .args in
-    let g = walked-event (a .s .now) (λ i. c .before .before .before .before .before .before .before .before .before .before .before .shared-slice-known .given i .fits) _ (c .before .before .before .before .before .before .before .before .before .walk-packed .ensures) (c .before .before .before .before .before .before .before .walked2 .given .1) in
-    pieces-fit (a .s .now) _ g 512 (c .before .before .if3 .taken)
-
-some-fit : tie.Need-put-event-string-requires-2
-some-fit c κs =
-    let a = c .before .before .before .before .before .before .before .before .before .before .before .before .before .before .args in
-    let g = walked-event (a .s .now) (λ i. c .before .before .before .before .before .before .before .before .before .before .before .before .before .shared-slice-known .given i .fits) _ (c .before .before .before .before .before .before .before .before .before .before .before .walk-packed .ensures) (c .before .before .before .before .before .before .before .before .before .walked2 .given .1) in
-    pieces-fit (a .s .now) _ g 8192 (c .before .before .if4 .taken)
-
-many-fit : tie.Need-put-event-string-requires-3
-many-fit c κs =
-    let a = c .before .before .before .before .before .before .before .before .before .before .before .before .before .before .args in
-    let g = walked-event (a .s .now) (λ i. c .before .before .before .before .before .before .before .before .before .before .before .before .before .shared-slice-known .given i .fits) _ (c .before .before .before .before .before .before .before .before .before .before .before .walk-packed .ensures) (c .before .before .before .before .before .before .before .before .before .walked2 .given .1) in
-    pieces-most (a .s .now) _ g
-
--- ---- and their string form is the event's
-
-few : tie.Need-returns-2
-few c =
-    let a = c .before .before .before .before .before .before .before .before .before .before .before .before .before .before .before .before .args in
-    let g = walked-event (a .s .now) (λ i. c .before .before .before .before .before .before .before .before .before .before .before .before .before .before .before .shared-slice-known .given i .fits) _ (c .before .before .before .before .before .before .before .before .before .before .before .before .before .walk-packed .ensures) (c .before .before .before .before .before .before .before .before .before .before .before .walked2 .given .1) in
-    wrote-pieces (a .s .now) _ g (a .out .now) (c .before .before .before .put-event-string .ensures)
-
-some : tie.Need-returns-3
-some c =
-    let a = c .before .before .before .before .before .before .before .before .before .before .before .before .before .before .before .before .before .before .args in
-    let g = walked-event (a .s .now) (λ i. c .before .before .before .before .before .before .before .before .before .before .before .before .before .before .before .before .before .shared-slice-known .given i .fits) _ (c .before .before .before .before .before .before .before .before .before .before .before .before .before .before .before .walk-packed .ensures) (c .before .before .before .before .before .before .before .before .before .before .before .before .before .walked2 .given .1) in
-    wrote-pieces (a .s .now) _ g (a .out .now) (c .before .before .before .put-event-string2 .ensures)
-
-many : tie.Need-returns-5
-many c =
-    let a = c .before .before .before .before .before .before .before .before .before .before .before .before .before .before .before .before .before .before .args in
-    let g = walked-event (a .s .now) (λ i. c .before .before .before .before .before .before .before .before .before .before .before .before .before .before .before .before .before .shared-slice-known .given i .fits) _ (c .before .before .before .before .before .before .before .before .before .before .before .before .before .before .before .walk-packed .ensures) (c .before .before .before .before .before .before .before .before .before .before .before .before .before .walked2 .given .1) in
-    wrote-pieces (a .s .now) _ g (a .out .now) (c .before .before .before .put-event-string3 .ensures)
-
-refuses : tie.Need-returns-4
-refuses c = let a = c .before .before .before .before .before .before .args in refusal-told (a .s .now) (a .out .now) (c .before .before .before .walk-packed .ensures) (ap walk (c .before .walked .given .1))
+written : tie.Need-returns-2
+written c =
+    let a = c .before .before .before .before .before .before .before .before .before .before .before .args in
+    let e = sym (c .before .before .before .before .before .before .before .before .start .ensures) ∙ ap startRead (c .before .before .before .before .before .before .first2 .given .1) in
+    rw (given-start (a .s .now) (a .bare) unpack e (unpack-tells _)) (rw (c .before .before .before .before .from .ensures) at (c .before .before .write-bare .ensures))
 
 pub write-string-spec : {M : Type 1} → statement M
 write-string-spec =
@@ -66,18 +36,7 @@ write-string-spec =
     (λ c. search needs)
     (λ c. search needs)
     (λ c κs. search needs)
+    whole
+    none
     (λ c. search needs)
-    already
-    (λ c. search needs)
-    few-fit
-    (λ c. search needs)
-    few
-    (λ c. search needs)
-    some-fit
-    (λ c. search needs)
-    some
-    (λ c. search needs)
-    many-fit
-    refuses
-    (λ c. search needs)
-    many)
+    written)

@@ -4,8 +4,8 @@ use native.Mathlib.Omega.{arith}
 use borrow.Author.Needs.{needs}
 use lib.ListN.{length}
 use Rattle.buffer.proofs.EntryLaws.{short, fitted}
-use Rattle.stringform.proofs.put_all.Statement.{statement}
-use Rattle.stringform.proofs.put_all.Tie as tie
+use Rattle.versioned.proofs.put_all.Statement.{statement}
+use Rattle.versioned.proofs.put_all.Tie as tie
 
 few : tie.Need-returns
 few c = let a = c .before .before .before .args in short (a .b .now) (a .out .now) refl (c .if1 .taken)
