@@ -1,0 +1,6 @@
+pub mod Pointer
+pub mod Layout
+pub mod Entries
+pub mod Written
+pub mod Theorems
+pub mod inner
