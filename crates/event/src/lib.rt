@@ -67,7 +67,7 @@ pub const VARINT_PADDED: u8 = 24;
 pub const NOT_VERSIONED: u8 = 25;
 // pointer form: its header or length; converting a v1
 pub const BAD_HEADER: u8 = 26;
-// pointer form: a pointer outside the data, at no multiple of 8, or to a table of another length than one
+// pointer form: a pointer past the data or to no multiple of 8; a table whose length is not divisible by 8
 pub const BAD_POINTER: u8 = 27;
 // pointer form: a v0's time is negative or no whole second
 pub const SPLIT_SECOND: u8 = 28;

@@ -3,9 +3,9 @@ use event::Refusal;
 use event::Writing;
 use moment::Seconds;
 use moment::SecondsRead;
+use pointfields::VersionRead;
 use pointread::Outline;
 use pointread::OutlineRead;
-use pointread::VersionRead;
 ghost use Prim.Native.Nat.{_+_, _≤_};
 ghost use mathlib.Core.Path.{_≡_};
 ghost use lib.ListN.{length};
@@ -35,7 +35,7 @@ fn measure_texts(s: &[u8], at: usize, n: usize, sum: usize) -> usize
         if 65_536 < total {
             return total;
         }
-        let p = pointread::named_at(s, i);
+        let p = pointfields::named_at(s, i);
         total += notepack::packed_text_len(scan::part(s, p.at, p.len));
         i += 8;
         left -= 1;
@@ -55,7 +55,7 @@ fn measure_tags(s: &[u8], at: usize, n: u64, sum: usize) -> usize
         if 65_536 < total {
             return total;
         }
-        let p = pointread::named_at(s, i);
+        let p = pointfields::named_at(s, i);
         let k = p.len / 8;
         total = measure_texts(s, p.at, k, total + varint::varint_len(k as u64));
         i += 8;
@@ -89,7 +89,7 @@ fn put_texts(out: &mut [u8], at: usize, s: &[u8], from: usize, n: usize) -> usiz
     let mut i = from;
     let mut left = n;
     while 0 < left {
-        let p = pointread::named_at(s, i);
+        let p = pointfields::named_at(s, i);
         o = strict::put_packed_text(out, o, scan::part(s, p.at, p.len));
         i += 8;
         left -= 1;
@@ -106,7 +106,7 @@ fn put_tags(out: &mut [u8], at: usize, s: &[u8], from: usize, n: u64) -> usize
     let mut i = from;
     let mut left = n;
     while 0 < left {
-        let p = pointread::named_at(s, i);
+        let p = pointfields::named_at(s, i);
         let k = p.len / 8;
         o = varint::put_varint(out, o, k as u64);
         o = put_texts(out, o, s, p.at, k);
@@ -139,7 +139,7 @@ fn write_event(s: &[u8], f: Outline, seconds: Seconds, out: &mut [u8]) -> Writin
     ensures { λ r. ⌜ writing r ≡ writes pack (within65536 pack (shown (formEvent (now (s .entry)) f (seconds .0)))) (now (out .entry)) ⌝ }
     ensures { λ _. ⌜ now (out .exit) ≡ leaves pack (within65536 pack (shown (formEvent (now (s .entry)) f (seconds .0)))) (now (out .entry)) ⌝ }
 {
-    let tags = pointread::named_at(s, 64);
+    let tags = pointfields::named_at(s, 64);
     let n = measure_tags(s, tags.at, f.tag_count, front_len(s, f, seconds));
     if event::MAX_INPUT < n {
         return Writing::Refused(Refusal {
@@ -186,7 +186,7 @@ pub fn convert(s: &[u8], out: &mut [u8]) -> Writing
     ensures { λ r. ⌜ writing r ≡ writes pack (convertible (now (s .entry))) (now (out .entry)) ⌝ }
     ensures { λ _. ⌜ now (out .exit) ≡ leaves pack (convertible (now (s .entry))) (now (out .entry)) ⌝ }
 {
-    let read = pointread::version(s);
+    let read = pointfields::version(s);
     match read {
         VersionRead::Refused(r) => Writing::Refused(r),
         VersionRead::Version(v) => {

@@ -18,7 +18,7 @@ use Rattle.pointer.proofs.Pieces.{tag-table-gives}
 use Rattle.pointer.proofs.Again.{text-read}
 use Rattle.pointread.specs.inner.Tables.{Lies, isShown, isGood, badFrom, Filled}
 use Rattle.pointread.specs.inner.Walk.{pointedTag}
-use Rattle.pointread.proofs.Texts.{inside-lies, text-alike}
+use Rattle.pointread.proofs.Texts.{inside-lies, as-read}
 use Rattle.pointread.proofs.Bad.{bad-least, bad-from, bad-first}
 
 -- an answer is shown, or it is not
@@ -31,21 +31,17 @@ shown-not (shown x) e = absurd (false-true (sym e))
 shown-not (refused n p) e = (n, p, refl)
 
 module _ (version : ℕ) (s : List ℕ) where
-  -- a text is read as it is named
-  as-read : (at : ℕ) {a : Answer Part} → pointedText version s at ≡ a → pointedTextAt version s at ≡ andThen a λ p. read p (at + 8)
-  as-read at e = text-alike version s at ∙ ap (λ (a : Answer Part). andThen a (λ (p : Part). read p (at + 8))) e
-
   -- a word that is good, and one that is not
   word-good : (i : ℕ) → isGood version s i ≡ true → Good (pointedTextAt version s) (72 + 8 * i)
   unfolding isGood
-  word-good i e = let x = shown-so (pointedText version s (72 + 8 * i)) e in good (x .0) (as-read (72 + 8 * i) (x .1))
+  word-good i e = let x = shown-so (pointedText version s (72 + 8 * i)) e in good (x .0) (as-read version s (72 + 8 * i) (x .1))
 
   word-bad : (i : ℕ) → isGood version s i ≡ false
       → (n p : ℕ) × (pointedText version s (72 + 8 * i) ≡ refused n p) × (pointedTextAt version s (72 + 8 * i) ≡ refused n p)
   unfolding isGood
   word-bad i e =
       let x = shown-not (pointedText version s (72 + 8 * i)) e in
-      (x .0, x .1, x .2, as-read (72 + 8 * i) (x .2))
+      (x .0, x .1, x .2, as-read version s (72 + 8 * i) (x .2))
 
   -- a good text is the part that its pointer names
   good-read : (at : ℕ) → Good (pointedTextAt version s) at → pointedTextAt version s at ≡ read (partNamed s at) (at + 8)

@@ -9,7 +9,7 @@ use lib.ListN.{length, getD, take, drop}
 use lib.Seq.{take-take, drop-drop}
 use lib.Dec.{eqb}
 use borrow.Author.Tests.{ne-eqb}
-use Rattle.scan.specs.Choice.{shown, read, andThen}
+use Rattle.scan.specs.Choice.{pick, Answer, shown, refused, read, andThen}
 use Rattle.scan.proofs.Reading.{part-length, shown-gives}
 use Rattle.utf8.specs.Utf8 as utf8
 use Rattle.utf8.specs.inner.Width.{isUtf8}
@@ -22,7 +22,7 @@ use Rattle.notepack.specs.Unpack.{bytesOf}
 use Rattle.pointer.specs.Pointer.{wordAt, upper, dataSize, named, asked, pieceAt, pointedText, pointedTextAt}
 use Rattle.pointer.specs.inner.Data.{dataIn}
 use Rattle.pointer.proofs.Pieces.{Inside, piece-gives}
-use Rattle.pointread.specs.inner.Tables.{Lies, Stopped}
+use Rattle.pointread.specs.inner.Tables.{Lies, Stopped, isShown, isGood}
 
 -- a part of a part
 inner-part : {A : Type 0} (n u m : ℕ) (l : List A) → u + m ≤ n → take m (drop u (take n l)) ≡ take m (drop u l)
@@ -89,3 +89,19 @@ empty-text version s p e =
 pub text-alike : (version : ℕ) (s : List ℕ) (at : ℕ) → pointedTextAt version s at ≡ andThen (pointedText version s at) λ p. read p (at + 8)
 unfolding pointedTextAt
 text-alike version s at = refl
+
+pub as-read : (version : ℕ) (s : List ℕ) (at : ℕ) {a : Answer Part} → pointedText version s at ≡ a → pointedTextAt version s at ≡ andThen a λ p. read p (at + 8)
+as-read version s at e = text-alike version s at ∙ ap (λ (a : Answer Part). andThen a (λ (p : Part). read p (at + 8))) e
+
+-- a word is good where it names a piece that is a text
+pub good-piece : (version : ℕ) (s : List ℕ) (i : ℕ) {p : Part} → pieceAt s (72 + 8 * i) ≡ shown p → asked version (isUtf8 (bytesOf s p)) ≡ isGood version s i
+unfolding isGood pointedText
+good-piece version s i {p} e = rw e (go (asked version (isUtf8 (bytesOf s p))))
+  where
+    go : (x : Bool) → x ≡ isShown (pick x (shown p) (refused 5 (p .at)))
+    go true = refl
+    go false = refl
+
+pub bad-piece : (version : ℕ) (s : List ℕ) (i : ℕ) {n q : ℕ} → pieceAt s (72 + 8 * i) ≡ refused n q → false ≡ isGood version s i
+unfolding isGood pointedText
+bad-piece version s i e = rw e

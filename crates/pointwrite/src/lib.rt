@@ -141,7 +141,7 @@ fn data_len(s: &[u8], h: Head) -> usize
 fn put_word(out: &mut [u8], at: usize, w: u64) -> usize
     ensures { λ r. ⌜ Wrote (now (out .entry)) at (word w) (now (out .exit)) r ⌝ }
 {
-    littleendian::put_number(out, at, w, 8)
+    littleendian::put_eight(out, at, w)
 }
 
 // A pointer to len bytes of the data from an offset on.

@@ -3,7 +3,7 @@
 use mathlib.Core.Path.{sym, ap, _∙_}
 use borrow.Author.Needs.{needs}
 use Rattle.scan.specs.Choice.{shown}
-use Rattle.pointread.specs.inner.Answers.{versionRead}
+use Rattle.pointfields.specs.inner.Answers.{versionRead}
 use Rattle.pointconvert.proofs.Converting.{no-header, not-first}
 use Rattle.pointconvert.proofs.convert.Statement.{statement}
 use Rattle.pointconvert.proofs.convert.Tie as tie

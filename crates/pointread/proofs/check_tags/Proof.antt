@@ -12,15 +12,15 @@ use Rattle.pointread.proofs.check_tags.Statement.{statement}
 use Rattle.pointread.proofs.check_tags.Tie as tie
 
 abbrev Inv-loop : tie.InvT-loop
-Inv-loop bad stops version s at n left₀ i₀ left i =
+Inv-loop bad version s at n left₀ i₀ left i =
     (tagsFault version s n at ≡ tagsFault version s left i) × (i + 8 * left ≤ length s)
 
 abbrev μ-loop : tie.MeasureT-loop
-μ-loop bad stops version s at n left₀ i₀ left i = left
+μ-loop bad version s at n left₀ i₀ left i = left
 
 loop-again : tie.Need-loop-again Inv-loop μ-loop
 loop-again c =
-    let a = c .before .before .before .before .before .before .before .before .args in
+    let a = c .before .before .before .before .before .before .before .args in
     let v = c .before .before .before .before .loop .inv in
     let l = c .before .before .before .loop-test .taken in
     let e = sym (c .before .before .tag-at .ensures) ∙ ap elementRead (c .enum-told .given .1) in
@@ -28,14 +28,14 @@ loop-again c =
 
 returns : tie.Need-returns Inv-loop μ-loop
 returns c =
-    let a = c .before .before .before .before .before .before .before .before .before .args in
+    let a = c .before .before .before .before .before .before .before .before .args in
     let v = c .before .before .before .before .before .loop .inv in
     let e = sym (c .before .before .before .tag-at .ensures) ∙ ap elementRead (c .before .found .given .1) in
     sym (tags-bad (a .version) (a .s .now) _ _ (v .0) (c .before .before .before .before .loop-test .taken) e)
 
 returns-2 : tie.Need-returns-2 Inv-loop μ-loop
 returns-2 c =
-    let a = c .before .before .before .before .before .args in
+    let a = c .before .before .before .before .args in
     let v = c .before .loop .inv in
     sym (tags-done (a .version) (a .s .now) _ _ (v .0) (c .loop-test .left))
 
@@ -45,8 +45,8 @@ check-tags-spec =
     (tie.spec
     Inv-loop
     μ-loop
-    (λ c. (refl, c .before .before .before .pre .2))
-    (λ c κs. (c .before .before .before .before .before .pre .0, c .before .before .before .before .before .pre .1))
+    (λ c. (refl, c .before .before .pre .1))
+    (λ c κs. c .before .before .before .before .pre .0)
     (λ c. search needs)
     (λ c. omega (arith, c .before .before .before .before .loop .inv .1, c .before .before .before .loop-test .taken))
     (λ c. omega (arith, c .before .before .before .loop-test .taken))

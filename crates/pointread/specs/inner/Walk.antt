@@ -16,9 +16,19 @@ pointedTag version s at =
     andThen (many (pointedTextAt version s) (entriesIn p) (p .at)) λ _.
     shown p
 
--- whether n tags are good
+-- the fault of what is read, if it has one
+abbrev pub fault : {A : Type 0} → Answer A → Answer (Unit {0})
+fault a = andThen a λ _. shown tt
+
+-- the first fault of n texts, of a tag, of n tags
+unfoldable pub textsFault : ℕ → List ℕ → ℕ → ℕ → Answer (Unit {0})
+textsFault version s n at = fault (many (pointedTextAt version s) n at)
+
+unfoldable pub tagFault : ℕ → List ℕ → ℕ → Answer (Unit {0})
+tagFault version s at = fault (pointedTag version s at)
+
 unfoldable pub tagsFault : ℕ → List ℕ → ℕ → ℕ → Answer (Unit {0})
-tagsFault version s n at = andThen (many (pointedTagAt version s) n at) λ _. shown tt
+tagsFault version s n at = fault (many (pointedTagAt version s) n at)
 
 -- all fields behind the header, and of the tags how many they are
 unfoldable pub frontAt : ℕ → List ℕ → Answer Outline
