@@ -649,7 +649,7 @@ def kez_notepack_string_read_versioned(text: Bytes) -> bytes:
 
 def kez_pointer_read(form: Bytes) -> PointerNumbers:
     """Six numbers of a pointer form, of version 0 or 1: the version, the kind, the time in milliseconds, the content's
-    place and length, the number of tags. Of version 1 the time may be negative, and nothing else has a limit either.
+    place and length, the number of tags. Of version 1 the time may be negative, and kind, tags and texts have no limit of their own.
 
     >>> event = bytes(128) + bytes.fromhex("8094ebdc03 01 02 6869 00")
     >>> form = kez_pointer_write(event, bare=True)
@@ -711,7 +711,7 @@ def kez_pointer_convert(form: Bytes) -> bytes:
 
 
 def kez_pointer_write(packed: Bytes, *, bare: bool) -> bytes:
-    """A packed event as a pointer form of version 0. An event has exactly one.
+    """A packed event as a pointer form of version 0. Of an event always the same one is written.
 
     >>> kez_pointer_write(bytes(132), bare=True) == bytes([72]) + bytes(167)
     True

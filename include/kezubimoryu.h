@@ -273,8 +273,8 @@ kez_answer kez_notepack_string_read_versioned(const uint8_t *text, size_t text_l
  * shown and it is not converted, because its id is taken of other bytes: of all that stands in front of the id, and not
  * of the canonical text.
  *
- * One text may be named many times over, so that a form of 65,536 bytes names up to 14 * 10^9 bytes of text, and a v1 up
- * to 4 * 10^12. A host that goes through the tags of a v1, or copies out their texts, sets its own limit.
+ * One text may be named many times over, so that a form of 65,536 bytes names up to 17 * 10^9 bytes of text, and a v1 up
+ * to 4.4 * 10^12. A host that goes through the tags of a v1, or copies out their texts, sets its own limit.
  * Rules 12.9, 18. */
 
 /* Where the three fixed fields of a pointer form are: the pubkey so many bytes from its start on, the id and the sig so

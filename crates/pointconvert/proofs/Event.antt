@@ -17,7 +17,8 @@ use Rattle.notepack.specs.declared.Part.{Part}
 use Rattle.notepack.specs.Strict.{packTags, pack}
 use Rattle.pointer.specs.Pointer.{wordAt, named}
 use Rattle.pointer.specs.Entries.{within65536}
-use Rattle.pointer.specs.inner.Again.{partNamed, tagsFrom}
+use Rattle.pointer.specs.Named.{partNamed}
+use Rattle.pointer.specs.inner.Again.{tagsFrom}
 use Rattle.pointer.proofs.Again.{tags-count}
 use Rattle.pointread.specs.declared.Outline.{Outline}
 use Rattle.pointconvert.specs.inner.Measured.{Measured}

@@ -14,7 +14,8 @@ use Rattle.notepack.specs.declared.Part.{Part}
 use Rattle.notepack.specs.Unpack.{bytesOf}
 use Rattle.notepack.specs.Views.{nth}
 use Rattle.pointer.specs.Pointer.{wordAt, named, entriesIn, pointedTextAt, tagTableAt, pointedTagAt}
-use Rattle.pointer.specs.inner.Again.{eachFrom, partNamed, partsFrom, tagNamed, textsFrom, tagsFrom}
+use Rattle.pointer.specs.Named.{eachFrom, partNamed, partsFrom, tagNamed}
+use Rattle.pointer.specs.inner.Again.{textsFrom, tagsFrom}
 use Rattle.pointer.proofs.Items.{Good, many-each, many-good-each, each-count, each-nth, each-none}
 use Rattle.pointer.proofs.Pieces.{text-gives, tag-table-gives}
 
@@ -23,34 +24,32 @@ module _ (s : List ℕ) where
 
   pub texts-count : (n at : ℕ) → length (textsFrom n s at) ≡ n
   unfolding textsFrom
-  texts-count zero at = refl
-  texts-count (suc n) at = ap suc (texts-count n (at + 8))
+  texts-count = each-count (λ (i : ℕ). bytesOf s (partNamed s i))
 
   pub tags-count : (n at : ℕ) → length (tagsFrom n s at) ≡ n
   unfolding tagsFrom
-  tags-count zero at = refl
-  tags-count (suc n) at = ap suc (tags-count n (at + 8))
+  tags-count = each-count (λ (i : ℕ). textsFrom (entriesIn (partNamed s i)) s (partNamed s i .at))
 
   -- ---- the turns of the loops
 
   pub texts-turn : (left at : ℕ) {p : Part} → 0 < left → p ≡ named (wordAt s at) → textsFrom left s at ≡ bytesOf s p ∷ textsFrom (left - 1) s (at + 8)
-  unfolding textsFrom
+  unfolding textsFrom eachFrom
   texts-turn zero at h e = absurd (omega arith)
   texts-turn (suc left) at h e = rw (e, sub-one)
 
   pub texts-left : (left at : ℕ) → left ≤ 0 → textsFrom left s at ≡ []
-  unfolding textsFrom
+  unfolding textsFrom eachFrom
   texts-left zero at h = refl
   texts-left (suc left) at h = absurd (omega arith)
 
   pub tags-turn : (left at : ℕ) {p : Part} → 0 < left → p ≡ named (wordAt s at)
       → tagsFrom left s at ≡ textsFrom (entriesIn p) s (p .at) ∷ tagsFrom (left - 1) s (at + 8)
-  unfolding tagsFrom
+  unfolding tagsFrom eachFrom
   tags-turn zero at h e = absurd (omega arith)
   tags-turn (suc left) at h e = rw (e, sub-one)
 
   pub tags-left : (left at : ℕ) → left ≤ 0 → tagsFrom left s at ≡ []
-  unfolding tagsFrom
+  unfolding tagsFrom eachFrom
   tags-left zero at h = refl
   tags-left (suc left) at h = absurd (omega arith)
 

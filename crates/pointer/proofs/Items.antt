@@ -12,7 +12,7 @@ use Rattle.scan.proofs.Many.{many-apart}
 use Rattle.event.specs.inner.Tells.{Tells, value}
 use Rattle.event.proofs.TellsLaws.{then-tells}
 use Rattle.notepack.specs.Views.{nth}
-use Rattle.pointer.specs.inner.Again.{eachFrom}
+use Rattle.pointer.specs.Named.{eachFrom}
 
 -- the place of entry i + 1 of a table, from its first entry or from its second
 later : (at i : ℕ) → at + 8 * suc i ≡ at + 8 + 8 * i

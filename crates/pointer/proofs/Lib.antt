@@ -13,4 +13,5 @@ pub mod Shows
 pub mod Filled
 pub mod Writing
 pub mod Points
+pub mod Seen
 pub mod Theorems

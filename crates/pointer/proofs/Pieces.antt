@@ -14,7 +14,7 @@ use Rattle.utf8.specs.inner.Width.{isUtf8}
 use Rattle.notepack.specs.declared.Part.{Part}
 use Rattle.notepack.specs.Unpack.{bytesOf}
 use Rattle.pointer.specs.Pointer.{wordAt, lower, upper, versionIn, reservedIn, isHeader, headerAt, asked, dataSize, pieceAt, tableAt, entriesIn, pointedText, pointedTextAt, tagTableAt}
-use Rattle.pointer.specs.inner.Again.{partNamed}
+use Rattle.pointer.specs.Named.{partNamed}
 
 -- two tests, both passed
 pub both : (a b : Bool) → (a && b) ≡ true → (a ≡ true) × (b ≡ true)

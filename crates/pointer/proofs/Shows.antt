@@ -30,7 +30,7 @@ use Rattle.pointer.proofs.Naming.{data-length}
 use Rattle.pointer.proofs.Sound.{pointed-names, AllTags, all-tags-give}
 
 -- the second that was told is the one that the word says
-second-told : (x : Second) (t : ℕ) → secondTold x ≡ shown t → x ≡ whole t
+pub second-told : (x : Second) (t : ℕ) → secondTold x ≡ shown t → x ≡ whole t
 second-told (whole n) t e = ap whole (shown-same e)
 second-told split t e = let z : _≡_ {A = ℕ} 0 1 = cc in absurd (omega arith)
 

@@ -1,6 +1,6 @@
 -- The promises of the pointer form (`specs/Theorems`), each by the law that has it.
 -- Reading is sound and complete; what is written lays out the event, and a packed event's strict form is no longer than
--- its bytes; of a v1 all is shown or 27.
+-- its bytes; of a v1 all is shown or 27; what is shown stands at its places.
 use Prim.Native.Nat.{ℕ, _≤_}
 use mathlib.Core.Path.{_≡_}
 use mathlib.Core.List.{List}
@@ -21,6 +21,7 @@ use Rattle.pointer.proofs.Accepts.{complete}
 use Rattle.pointer.proofs.Shows.{sound}
 use Rattle.pointer.proofs.Writing.{form-lays}
 use Rattle.pointer.proofs.Points.{v1-asks}
+use Rattle.pointer.proofs.Seen.{form-stands, event-seen}
 
 back : (s : List ℕ) → IsBytes s → (e : Event) → unpack s ≡ shown e → length (pointerForm e) ≤ 65_536 → convertible (pointerForm e) ≡ shown e
 back s bytes e h short =
@@ -41,4 +42,6 @@ pointer-form =
       there-and-back = back;
       v1-refused = v1;
       v1-asks = v1-asks;
+      shows = form-stands;
+      seen = event-seen;
     }

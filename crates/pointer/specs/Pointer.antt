@@ -11,7 +11,7 @@ use Rattle.scan.specs.Choice.{pick, Answer, shown, refused, Read, read, andThen
 use Rattle.utf8.specs.inner.Width.{isUtf8}
 use Rattle.littleendian.specs.LittleEndian.{numberOf}
 use Rattle.moment.specs.Moment.{Second, whole, split, signedOf, secondsOf}
-use Rattle.event.specs.Event.{Event}
+use Rattle.event.specs.Event.{Text, Tag, Event}
 use Rattle.notepack.specs.declared.Part.{Part}
 use Rattle.notepack.specs.Unpack.{partOf, bytesOf}
 
@@ -149,18 +149,22 @@ formAt s =
     andThen (pointedTagsAt v s) λ ts.
     shown (record { version = v; kind = k; time = t; content = c .value; tags = ts })
 
--- the event of a v0 whose fields were read and whose second is t: pubkey behind the header, id and sig at the end
-unfoldable pub pointedEvent : List ℕ → ℕ → Form → Event
-pointedEvent s t f =
+-- an event by the fields that were read: the pubkey stands behind the header, id and sig at the end
+abbrev pub eventWith : List ℕ → ℕ → ℕ → List Tag → Text → Event
+eventWith s time kind tags content =
     record {
       id = take 32 (drop (length s - 96) s);
       pubkey = take 32 (drop 8 s);
       sig = drop (length s - 64) s;
-      createdAt = t;
-      kind = f .kind;
-      tags = map (map (bytesOf s)) (f .tags);
-      content = bytesOf s (f .content);
+      createdAt = time;
+      kind = kind;
+      tags = tags;
+      content = content;
     }
+
+-- the event of a v0 whose fields were read and whose second is t
+unfoldable pub pointedEvent : List ℕ → ℕ → Form → Event
+pointedEvent s t f = eventWith s t (f .kind) (map (map (bytesOf s)) (f .tags)) (bytesOf s (f .content))
 
 -- the event that a v0 shows; a v1 is 26 before any field
 unfoldable pub pointerEvent : List ℕ → Answer Event

@@ -10,7 +10,7 @@ use Rattle.scan.proofs.Reading.{shown-gives}
 use Rattle.scan.proofs.Many.{after, shown-same}
 use Rattle.notepack.specs.declared.Part.{Part}
 use Rattle.pointer.specs.Pointer.{entriesIn, headerAt, kindAt, timeAt, pointedTextAt, tagsTableAt, pointedTagAt, pointedTagsAt, Form, formAt}
-use Rattle.pointer.specs.inner.Again.{eachFrom, partNamed, tagNamed}
+use Rattle.pointer.specs.Named.{eachFrom, partNamed, tagNamed}
 use Rattle.pointer.proofs.Items.{each-count}
 use Rattle.pointer.proofs.Again.{tags-read}
 use Rattle.pointread.specs.declared.Outline.{Outline}

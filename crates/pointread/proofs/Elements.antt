@@ -14,7 +14,7 @@ use Rattle.notepack.specs.declared.Part.{Part}
 use Rattle.notepack.specs.Views.{nth}
 use Rattle.pointer.specs.Pointer.{entriesIn, Form, formAt}
 use Rattle.pointer.specs.Entries.{pointerTexts, pointerElement}
-use Rattle.pointer.specs.inner.Again.{partNamed, partsFrom, tagNamed}
+use Rattle.pointer.specs.Named.{partNamed, partsFrom, tagNamed}
 use Rattle.pointer.proofs.Items.{each-count, each-nth, each-none}
 use Rattle.pointer.proofs.Words.{word-below}
 use Rattle.pointread.specs.declared.Outline.{Outline}

@@ -13,7 +13,7 @@ use Rattle.scan.proofs.Reading.{Gives, gives, lacks, shown-gives, pick-gives, t
 use Rattle.scan.proofs.Many.{many-count}
 use Rattle.notepack.specs.declared.Part.{Part}
 use Rattle.pointer.specs.Pointer.{asked, entriesIn, headerAt, pointedText, kindAt, timeAt, tagsTableAt, pointedTagAt, pointedTagsAt, Form, formAt}
-use Rattle.pointer.specs.inner.Again.{partNamed}
+use Rattle.pointer.specs.Named.{partNamed}
 use Rattle.pointer.proofs.Pieces.{Tabled, header-gives, table-gives}
 use Rattle.pointread.specs.declared.Outline.{Outline}
 use Rattle.pointread.specs.inner.Answers.{outlineOf}

@@ -12,7 +12,7 @@ use Rattle.scan.proofs.Step.{false-true}
 use Rattle.scan.proofs.Reading.{shown-gives}
 use Rattle.notepack.specs.declared.Part.{Part}
 use Rattle.pointer.specs.Pointer.{wordAt, dataSize, entriesIn, pointedText, pointedTextAt, tagTableAt}
-use Rattle.pointer.specs.inner.Again.{partNamed}
+use Rattle.pointer.specs.Named.{partNamed}
 use Rattle.pointer.proofs.Items.{Good, good, many-bad, many-good}
 use Rattle.pointer.proofs.Pieces.{tag-table-gives}
 use Rattle.pointer.proofs.Again.{text-read}

@@ -6,21 +6,14 @@ use lib.ListN.{length, take, drop}
 use Rattle.varint.specs.Uleb.{uleb}
 use Rattle.event.specs.Event.{Event}
 use Rattle.notepack.specs.Unpack.{bytesOf}
-use Rattle.pointer.specs.inner.Again.{partNamed, tagsFrom}
+use Rattle.pointer.specs.Pointer.{eventWith}
+use Rattle.pointer.specs.Named.{partNamed}
+use Rattle.pointer.specs.inner.Again.{tagsFrom}
 use Rattle.pointread.specs.declared.Outline.{Outline}
 
 -- the event of a v0 by its outline and its second
 unfoldable pub formEvent : List ℕ → Outline → ℕ → Event
-formEvent s o t =
-    record {
-      id = take 32 (drop (length s - 96) s);
-      pubkey = take 32 (drop 8 s);
-      sig = drop (length s - 64) s;
-      createdAt = t;
-      kind = o .kind;
-      tags = tagsFrom (o .«tag_count») s (partNamed s 64 .at);
-      content = bytesOf s (o .content);
-    }
+formEvent s o t = eventWith s t (o .kind) (tagsFrom (o .«tag_count») s (partNamed s 64 .at)) (bytesOf s (o .content))
 
 -- all in front of the tags
 unfoldable pub packedFront : List ℕ → Outline → ℕ → List ℕ

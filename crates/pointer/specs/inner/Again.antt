@@ -1,35 +1,15 @@
--- Going over the texts and tags of a pointer form again, behind the reader: what n pointers name, from place to place.
+-- Going over the texts and tags of a pointer form again, behind the reader: the bytes that n pointers name.
 -- Total: n texts are n texts and n tags are n tags, whatever stands there. Assumes nothing.
-use Prim.Native.Nat.{ℕ, zero, suc, _+_}
-use mathlib.Core.List.{List, [], _∷_}
-use Rattle.notepack.specs.declared.Part.{Part}
+use Prim.Native.Nat.{ℕ}
+use mathlib.Core.List.{List}
 use Rattle.notepack.specs.Unpack.{bytesOf}
-use Rattle.pointer.specs.Pointer.{wordAt, named, entriesIn}
-
--- one for each of n places, eight bytes apart
-unfoldable pub eachFrom : {A : Type 0} → (ℕ → A) → ℕ → ℕ → List A
-eachFrom f zero at = []
-eachFrom f (suc n) at = f at ∷ eachFrom f n (at + 8)
-
--- the part that the pointer at a place names, and the parts that n name
-abbrev pub partNamed : List ℕ → ℕ → Part
-partNamed s at = named (wordAt s at)
-
-abbrev pub partsFrom : ℕ → List ℕ → ℕ → List Part
-partsFrom n s at = eachFrom (partNamed s) n at
-
--- the parts of the tag whose table the pointer at a place names
-abbrev pub tagNamed : List ℕ → ℕ → List Part
-tagNamed s at = partsFrom (entriesIn (partNamed s at)) s (partNamed s at .at)
+use Rattle.pointer.specs.Pointer.{entriesIn}
+use Rattle.pointer.specs.Named.{eachFrom, partNamed}
 
 -- n texts
 unfoldable pub textsFrom : ℕ → List ℕ → ℕ → List (List ℕ)
-textsFrom zero s at = []
-textsFrom (suc n) s at = bytesOf s (named (wordAt s at)) ∷ textsFrom n s (at + 8)
+textsFrom n s at = eachFrom (λ (i : ℕ). bytesOf s (partNamed s i)) n at
 
 -- n tags
 unfoldable pub tagsFrom : ℕ → List ℕ → ℕ → List (List (List ℕ))
-tagsFrom zero s at = []
-tagsFrom (suc n) s at =
-    textsFrom (entriesIn (named (wordAt s at))) s (named (wordAt s at) .at)
-    ∷ tagsFrom n s (at + 8)
+tagsFrom n s at = eachFrom (λ (i : ℕ). textsFrom (entriesIn (partNamed s i)) s (partNamed s i .at)) n at

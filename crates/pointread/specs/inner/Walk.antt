@@ -6,7 +6,7 @@ use Rattle.scan.specs.Choice.{Answer, shown, andThen, many}
 use Rattle.notepack.specs.declared.Part.{Part}
 use Rattle.notepack.specs.Views.{nth}
 use Rattle.pointer.specs.Pointer.{entriesIn, pointedText, pointedTextAt, tagTableAt, pointedTagAt, kindAt, timeAt, tagsTableAt, formAt}
-use Rattle.pointer.specs.inner.Again.{partNamed}
+use Rattle.pointer.specs.Named.{partNamed}
 use Rattle.pointread.specs.declared.Outline.{Outline}
 
 -- the table of a tag all of whose texts are good
