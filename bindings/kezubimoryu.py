@@ -36,23 +36,26 @@ import os
 import struct
 from typing import Any, Dict, Iterator, List, NamedTuple, Optional, Tuple, Union
 
-__version__ = "0.11.0"
+__version__ = "0.12.0"
 
 __all__ = [
     "KEZ_MOST", "KEZ_CANONICAL_MOST", "KEZ_NOTEPACK_STRING_MOST", "KEZ_ELEMENT_BYTES", "KEZ_ELEMENTS_MOST",
     "KEZ_SLOTS", "KEZ_SLOT_BYTES", "KEZ_CELL_BYTES", "KEZ_SLOTS_BYTES", "KEZ_CELLS_BYTES", "KEZ_SHA256_STATE",
-    "KEZ_SHA256_DIGEST", "SENTENCES", "Bytes", "Numbers", "Payload", "Element", "Both", "Outcome", "Kept", "Table",
-    "Sha256", "Refused", "kez_refusal_text",
+    "KEZ_SHA256_DIGEST", "KEZ_POINTER_PUBKEY_AT", "KEZ_POINTER_ID_FROM_END", "KEZ_POINTER_SIG_FROM_END",
+    "KEZ_POINTER_LEAST", "KEZ_POINTER_MOST", "SENTENCES", "Bytes", "Numbers", "Payload", "Element", "PointerNumbers",
+    "Piece", "Both", "Outcome", "Kept", "Table", "Sha256", "Refused", "kez_refusal_text",
     "kez_notepack_read", "kez_notepack_is_strict", "kez_notepack_write", "kez_versioned_from_bare",
     "kez_bare_from_versioned", "kez_notepack_tag_len", "kez_notepack_element", "kez_notepack_elements",
     "kez_notepack_string_write", "kez_notepack_string_read", "kez_notepack_string_read_versioned",
+    "kez_pointer_read", "kez_pointer_tag_len", "kez_pointer_element", "kez_pointer_convert", "kez_pointer_write",
     "kez_canonical_write", "kez_nson_write", "kez_nson_read", "kez_json_read",
     "kez_read_both", "kez_rivals", "kez_table_empty", "kez_table_offer", "kez_table_slot", "kez_sha256_start",
     "kez_sha256_add", "kez_sha256_finish", "kez_id_belongs", "kez_version",
 ]
 
 #: No accepted input is longer, but for a string form, of which the bytes that it holds are counted, and a piece of a
-#: message that is hashed; nor is an event in strict form, nor NSON. The 01 counts. Rules 1.9, 14.3, 16.8 and 17.3.
+#: message that is hashed; nor is an event in strict form, nor NSON, nor a pointer form. The 01 counts. Rules 1.9, 14.3,
+#: 16.8, 17.3 and 18.3.
 KEZ_MOST: int = 65536
 #: No canonical text is longer. Rule 5.8.
 KEZ_CANONICAL_MOST: int = 3 * KEZ_MOST
@@ -74,6 +77,15 @@ KEZ_CELLS_BYTES: int = KEZ_SLOTS * KEZ_CELL_BYTES
 #: So many bytes the state of a hash has, and a digest. Rules 16.1 and 16.3.
 KEZ_SHA256_STATE: int = 104
 KEZ_SHA256_DIGEST: int = 32
+
+#: Where a pointer form has the pubkey (32 bytes) from its start on, and the id (32) and the sig (64) before its end.
+#: Rule 18.1.
+KEZ_POINTER_PUBKEY_AT: int = 8
+KEZ_POINTER_ID_FROM_END: int = 96
+KEZ_POINTER_SIG_FROM_END: int = 64
+#: No pointer form is shorter, and no one that is written or accepted is longer. Rules 18.2, 18.3 and 18.15.
+KEZ_POINTER_LEAST: int = 168
+KEZ_POINTER_MOST: int = KEZ_MOST
 
 #: What is taken as input; so is anything else that shows contiguous bytes.
 Bytes = Union[bytes, bytearray, memoryview]
@@ -117,6 +129,34 @@ class Element(NamedTuple):
     at: int
     len: int
     is_bytes: bool
+
+
+class PointerNumbers(NamedTuple):
+    """Six numbers of a pointer form. The time is in milliseconds, signed, and not in seconds as in Numbers. The content
+    is form[content_at:content_at + content_len].
+
+    >>> kez_pointer_read(kez_pointer_write(bytes(132), bare=True)).content_at
+    72
+    """
+
+    version: int
+    kind: int
+    milliseconds: int
+    content_at: int
+    content_len: int
+    tag_count: int
+
+
+class Piece(NamedTuple):
+    """Where a text of a pointer form stands: form[at:at + len]. Of version 1 it may be any bytes.
+
+    >>> form = kez_pointer_write(bytes(131) + bytes.fromhex("01 01 0264"), bare=True)
+    >>> kez_pointer_element(form, 0, 0)
+    Piece(at=88, len=1)
+    """
+
+    at: int
+    len: int
 
 
 class Both(NamedTuple):
@@ -193,7 +233,13 @@ SENTENCES: Tuple[str, ...] = (
     "The table has no free slot for another event.",
     "A varint is longer than its number needs.",
     "The packed event is said to be versioned, and does not start with 01.",
-    *8 * ("There is no refusal with this number.",),
+    "The header of the pointer form, or the length that it names, is not as it must be, "
+    "or version 1 is to be converted.",
+    "A pointer's offset is no multiple of 8, it leads out of the data, "
+    "or it names a table whose length is not divisible by 8.",
+    "The time of a pointer form is negative, or is no whole second.",
+    "What is to be written would be longer than 65,536 bytes.",
+    *4 * ("There is no refusal with this number.",),
     "The table is not as it must be: not of 64 slots and cells, "
     "or a used slot without a strict event to be kept, or with the name of another.",
     "The message has 2^61 bytes or more, or would have with this piece.",
@@ -252,6 +298,11 @@ _types: Dict[str, Tuple[Any, ...]] = {
     "kez_notepack_string_write": _packed + _room,
     "kez_notepack_string_read": _bytes + _room,
     "kez_notepack_string_read_versioned": _bytes + _room,
+    "kez_pointer_read": _bytes + _number * 6,
+    "kez_pointer_tag_len": _bytes + _index,
+    "kez_pointer_element": _bytes + _index * 2 + _number * 2,
+    "kez_pointer_convert": _bytes + _room,
+    "kez_pointer_write": _packed + _room,
     "kez_rivals": _packed + _packed,
     "kez_table_empty": _room + _room,
     "kez_table_offer": _room + _room + _packed,
@@ -594,6 +645,79 @@ def kez_notepack_string_read_versioned(text: Bytes) -> bytes:
 
     Rules 14.1, 14.4, 14.7, 17.12, 17.14 to 17.16."""
     return _write("kez_notepack_string_read_versioned", *_lend(text))
+
+
+def kez_pointer_read(form: Bytes) -> PointerNumbers:
+    """Six numbers of a pointer form, of version 0 or 1: the version, the kind, the time in milliseconds, the content's
+    place and length, the number of tags. Of version 1 the time may be negative, and kind, tags and texts have no limit of their own.
+
+    >>> event = bytes(128) + bytes.fromhex("8094ebdc03 01 02 6869 00")
+    >>> form = kez_pointer_write(event, bare=True)
+    >>> numbers = kez_pointer_read(form)
+    >>> numbers
+    PointerNumbers(version=0, kind=1, milliseconds=1000000000000, content_at=72, content_len=2, tag_count=0)
+    >>> form[numbers.content_at:numbers.content_at + numbers.content_len]
+    b'hi'
+
+    Rules 18.1 to 18.11, 12.9.1."""
+    numbers = _numbers(6)
+    _call("kez_pointer_read", *_lend(form), *numbers)
+    version, kind, milliseconds, *rest = (n.value for n in numbers)
+    return PointerNumbers(version, kind, ctypes.c_int64(milliseconds).value, *rest)
+
+
+def kez_pointer_tag_len(form: Bytes, tag: int) -> int:
+    """The number of texts in this tag of a pointer form. Of version 1 it may be 0.
+
+    >>> form = kez_pointer_write(bytes(131) + bytes.fromhex("01 02 0264 03ab"), bare=True)
+    >>> kez_pointer_tag_len(form, 0)
+    2
+
+    Rules 18.1 to 18.11."""
+    return _call("kez_pointer_tag_len", *_lend(form), _checked(tag))
+
+
+def kez_pointer_element(form: Bytes, tag: int, element: int) -> Piece:
+    """The place and length of this text of a tag of a pointer form. Each call reads the whole form; tags may share
+    texts, so they can name far more bytes than there are.
+
+    >>> form = kez_pointer_write(bytes(131) + bytes.fromhex("01 02 0264 03ab"), bare=True)
+    >>> at, length = kez_pointer_element(form, 0, 1)
+    >>> form[at:at + length]
+    b'ab'
+
+    Rules 18.1 to 18.11."""
+    numbers = _numbers(2)
+    _call("kez_pointer_element", *_lend(form), _checked(tag), _checked(element), *numbers)
+    return Piece(*(n.value for n in numbers))
+
+
+def kez_pointer_convert(form: Bytes) -> bytes:
+    """The event of a pointer form of version 0 as a packed event, bare and in strict form. Version 1 is refused with
+    26, since its id is taken of other bytes; kez_pointer_read and the two above show what it says.
+
+    >>> event = bytes(131) + bytes.fromhex("01 02 0264 03ab")
+    >>> form = kez_pointer_write(event, bare=True)
+    >>> kez_pointer_convert(form) == event
+    True
+    >>> try:
+    ...     kez_pointer_convert(form[:4] + bytes([1]) + form[5:])
+    ... except Refused as refused:
+    ...     print(refused.number, refused.place)
+    26 0
+
+    Rules 18.1 to 18.9, 18.12, 18.13, 12.9.1, 12.9.4, 12.9.5."""
+    return _write("kez_pointer_convert", *_lend(form))
+
+
+def kez_pointer_write(packed: Bytes, *, bare: bool) -> bytes:
+    """A packed event as a pointer form of version 0. Of an event always the same one is written.
+
+    >>> kez_pointer_write(bytes(132), bare=True) == bytes([72]) + bytes(167)
+    True
+
+    Rules 18.1, 18.12, 18.14, 18.15, 12.9.2, 12.9.3, 12.9.5."""
+    return _write("kez_pointer_write", *_said(packed, bare))
 
 
 def kez_canonical_write(packed: Bytes, *, bare: bool) -> bytes:

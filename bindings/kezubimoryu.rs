@@ -29,18 +29,18 @@
 use std::fmt;
 
 /// The version of the library, as in the header.
-pub const KEZ_VERSION: &str = "0.11.0";
+pub const KEZ_VERSION: &str = "0.12.0";
 /// The same as a number: 10,000 for a major version, 100 for a minor one, 1 for a patch.
-pub const KEZ_VERSION_NUMBER: u64 = 1100;
+pub const KEZ_VERSION_NUMBER: u64 = 1200;
 /// What the declarations take of a packed event, behind its length: it is versioned (rule 17.2). The safe functions
 /// take a [Form].
 pub const KEZ_VERSIONED: u64 = 0;
 /// It is bare; so it is with any number but 0.
 pub const KEZ_BARE: u64 = 1;
 /// No accepted input is longer, but for a string form, of which the bytes that it holds are counted, and a piece of a
-/// message that is hashed; nor is an event in strict form, nor NSON. Of a versioned event the 01 is counted (rules 1.9,
-/// 14.3, 16.8 and 17.3). A strict form is never longer than what it was read from, so a buffer as long as the packed
-/// bytes or the text is always enough (rules 3.7 and 12.3.6).
+/// message that is hashed; nor is an event in strict form, nor NSON, nor a pointer form. Of a versioned event the 01 is
+/// counted (rules 1.9, 14.3, 16.8, 17.3 and 18.3). A strict form is never longer than the packed bytes or the text that
+/// it was read from, so a buffer as long as these is always enough (rules 3.7 and 12.3.6).
 pub const KEZ_MOST: usize = 65536;
 /// No canonical text is longer: three bytes for each byte that was packed (rule 5.8).
 pub const KEZ_CANONICAL_MOST: usize = 3 * KEZ_MOST;
@@ -65,7 +65,15 @@ pub const KEZ_CELLS_BYTES: usize = KEZ_SLOTS * KEZ_CELL_BYTES;
 pub const KEZ_SHA256_STATE: usize = 104;
 pub const KEZ_SHA256_DIGEST: usize = 32;
 
-/// Refusal 0 and a value, or a refusal from 1 to 25, or 34 or 35, and its place (rules 12.1.2 to 12.1.4). Rule 10.N is
+/// Where a pointer form has the pubkey from its start on, and the id and the sig before its end (rule 18.1).
+pub const KEZ_POINTER_PUBKEY_AT: usize = 8;
+pub const KEZ_POINTER_ID_FROM_END: usize = 96;
+pub const KEZ_POINTER_SIG_FROM_END: usize = 64;
+/// No pointer form is shorter, and no one that is written or accepted is longer (rules 18.2, 18.3 and 18.15).
+pub const KEZ_POINTER_LEAST: usize = 168;
+pub const KEZ_POINTER_MOST: usize = KEZ_MOST;
+
+/// Refusal 0 and a value, or a refusal from 1 to 29, or 34 or 35, and its place (rules 12.1.2 to 12.1.4). Rule 10.N is
 /// refusal N.
 #[repr(C)]
 #[derive(Clone, Copy, Debug, PartialEq, Eq)]
@@ -137,6 +145,38 @@ unsafe extern "C" {
     pub fn kez_notepack_string_read_versioned(
         text: *const u8,
         text_len: usize,
+        out: *mut u8,
+        out_len: usize,
+    ) -> kez_answer;
+    /// Rules 18.1 to 18.11, 12.9.1. The time is two's complement: `milliseconds as i64`.
+    pub fn kez_pointer_read(
+        bytes: *const u8,
+        bytes_len: usize,
+        version: *mut u64,
+        kind: *mut u64,
+        milliseconds: *mut u64,
+        content_at: *mut u64,
+        content_len: *mut u64,
+        tag_count: *mut u64,
+    ) -> kez_answer;
+    /// Rules 18.1 to 18.11.
+    pub fn kez_pointer_tag_len(bytes: *const u8, bytes_len: usize, tag: u64) -> kez_answer;
+    /// Rules 18.1 to 18.11.
+    pub fn kez_pointer_element(
+        bytes: *const u8,
+        bytes_len: usize,
+        tag: u64,
+        element: u64,
+        at: *mut u64,
+        len: *mut u64,
+    ) -> kez_answer;
+    /// Rules 18.1 to 18.9, 18.12, 18.13, 12.9.1, 12.9.4, 12.9.5.
+    pub fn kez_pointer_convert(bytes: *const u8, bytes_len: usize, out: *mut u8, out_len: usize) -> kez_answer;
+    /// Rules 18.1, 18.12, 18.14, 18.15, 12.9.2, 12.9.3, 12.9.5.
+    pub fn kez_pointer_write(
+        packed: *const u8,
+        packed_len: usize,
+        bare: u64,
         out: *mut u8,
         out_len: usize,
     ) -> kez_answer;
@@ -248,6 +288,16 @@ pub fn kez_refusal_text(number: u64) -> &'static str {
         23 => "The table has no free slot for another event.",
         24 => "A varint is longer than its number needs.",
         25 => "The packed event is said to be versioned, and does not start with 01.",
+        26 => {
+            "The header of the pointer form, or the length that it names, is not as it must be, \
+             or version 1 is to be converted."
+        }
+        27 => {
+            "A pointer's offset is no multiple of 8, it leads out of the data, \
+             or it names a table whose length is not divisible by 8."
+        }
+        28 => "The time of a pointer form is negative, or is no whole second.",
+        29 => "What is to be written would be longer than 65,536 bytes.",
         34 => {
             "The table is not as it must be: not of 64 slots and cells, \
              or a used slot without a strict event to be kept, or with the name of another."
@@ -257,7 +307,7 @@ pub fn kez_refusal_text(number: u64) -> &'static str {
     }
 }
 
-/// A refusal from 1 to 25, or 34 or 35: its number, and the place in the input where the fault was found; with 11 the
+/// A refusal from 1 to 29, or 34 or 35: its number, and the place in the input where the fault was found; with 11 the
 /// length needed, with 34 the number of a slot. Where a reader of string forms tells one from 2 to 10, or 24, the place
 /// is in the bytes that its text holds.
 #[derive(Clone, Copy, Debug, PartialEq, Eq)]
@@ -310,6 +360,18 @@ pub struct Element {
     pub at: usize,
     pub len: usize,
     pub is_bytes: bool,
+}
+
+/// Six numbers of a pointer form. The time is in milliseconds, signed, and not in seconds as in [Numbers]. The content
+/// is `form[content_at..][..content_len]`.
+#[derive(Clone, Copy, Debug, Default, PartialEq, Eq)]
+pub struct PointerNumbers {
+    pub version: u64,
+    pub kind: u64,
+    pub milliseconds: i64,
+    pub content_at: usize,
+    pub content_len: usize,
+    pub tag_count: u64,
 }
 
 /// Which of two packed events is kept.
@@ -510,6 +572,47 @@ pub fn notepack_string_read(text: &[u8], out: &mut [u8]) -> Result<usize, Refuse
 /// with `notepack_` is refused with 20.
 pub fn notepack_string_read_versioned(text: &[u8], out: &mut [u8]) -> Result<usize, Refused> {
     write(kez_notepack_string_read_versioned, text, out)
+}
+
+/// Six numbers of a pointer form, of version 0 or 1.
+pub fn pointer_read(form: &[u8]) -> Result<PointerNumbers, Refused> {
+    linked();
+    let mut numbers = [0; 6];
+    let [version, kind, milliseconds, content_at, content_len, tag_count] = &mut numbers;
+    told(unsafe {
+        let (at, len) = (form.as_ptr(), form.len());
+        kez_pointer_read(at, len, version, kind, milliseconds, content_at, content_len, tag_count)
+    })?;
+    let [version, kind, milliseconds, content_at, content_len, tag_count] = numbers;
+    let (content_at, content_len) = (content_at as usize, content_len as usize);
+    Ok(PointerNumbers { version, kind, milliseconds: milliseconds as i64, content_at, content_len, tag_count })
+}
+
+/// How many texts this tag of a pointer form has. Of version 1 it may be 0.
+pub fn pointer_tag_len(form: &[u8], tag: u64) -> Result<u64, Refused> {
+    linked();
+    told(unsafe { kez_pointer_tag_len(form.as_ptr(), form.len(), tag) })
+}
+
+/// One text of a tag of a pointer form, a part of the bytes that are lent. Of version 1 it may be any bytes. Each call
+/// reads the whole form; tags may share texts, so they can name far more bytes than there are.
+pub fn pointer_element(form: &[u8], tag: u64, element: u64) -> Result<&[u8], Refused> {
+    linked();
+    let (mut at, mut len) = (0, 0);
+    told(unsafe { kez_pointer_element(form.as_ptr(), form.len(), tag, element, &mut at, &mut len) })?;
+    Ok(&form[at as usize..][..len as usize])
+}
+
+/// Writes the event of a pointer form of version 0 in bare strict form; its length. Version 1 is refused with 26, since
+/// its id is taken of other bytes. An `out` of KEZ_MOST bytes is always enough; one as long as `form` need not be.
+pub fn pointer_convert(form: &[u8], out: &mut [u8]) -> Result<usize, Refused> {
+    write(kez_pointer_convert, form, out)
+}
+
+/// Writes a packed event as a pointer form of version 0; its length. An `out` of KEZ_POINTER_MOST bytes is always
+/// enough.
+pub fn pointer_write(packed: &[u8], form: Form, out: &mut [u8]) -> Result<usize, Refused> {
+    write_packed(kez_pointer_write, packed, form, out)
 }
 
 /// The version of the library that is linked: 10,000 for a major one, 100 for a minor one, 1 for a patch.

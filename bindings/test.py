@@ -30,7 +30,7 @@ passed = failed = 0
 # Which entries ask of a packed event whether it is bare; here they are told that it is
 PACKED = ("kez_notepack_read", "kez_notepack_is_strict", "kez_notepack_write", "kez_notepack_tag_len",
           "kez_notepack_element", "kez_notepack_elements", "kez_notepack_string_write", "kez_canonical_write",
-          "kez_nson_write", "kez_table_offer", "kez_id_belongs")
+          "kez_nson_write", "kez_table_offer", "kez_id_belongs", "kez_pointer_write")
 bare = types.SimpleNamespace(**{name: functools.partial(getattr(kez, name), bare=True) for name in PACKED})
 bare.kez_rivals = functools.partial(kez.kez_rivals, first_bare=True, second_bare=True)
 offer = bare.kez_table_offer
@@ -199,7 +199,8 @@ check("65,536 bytes moved", refusal(kez.kez_versioned_from_bare, most), (1, 0))
 check("65,536 bad bytes moved", refusal(kez.kez_versioned_from_bare, bytes(65536)), (1, 0))
 check("a cut one moved", refusal(kez.kez_versioned_from_bare, form[:-1]), (2, form.index(b"wss:") - 1))
 check("a cut one moved back", refusal(kez.kez_bare_from_versioned, versioned[:-1]), (2, form.index(b"wss:")))
-for name in ("kez_notepack_is_strict", "kez_notepack_write", "kez_canonical_write", "kez_nson_write", "kez_id_belongs"):
+for name in ("kez_notepack_is_strict", "kez_notepack_write", "kez_canonical_write", "kez_nson_write", "kez_id_belongs",
+             "kez_pointer_write"):
     check("%s, versioned" % name, said(name, versioned), getattr(bare, name)(form))
 check("numbers, versioned", said("kez_notepack_read", versioned), numbers._replace(content_at=numbers.content_at + 1))
 check("a tag's length, versioned", said("kez_notepack_tag_len", versioned, 1), 4)
@@ -245,6 +246,89 @@ for name in PACKED:
         check("%s, said %r" % (name, wrong), raised(call, *first, form, *words), "TypeError")
 check("kez_rivals, nothing said", raised(kez.kez_rivals, form, form), "TypeError")
 check("offer, nothing said", raised(kez.Table().offer, form), "TypeError")
+
+# The pointer form, laid out by this file's own means
+def pointer_form(event, version=0, milliseconds=None):
+    """The data is the content, the table of the tags, then for each tag its table and its texts, each filled with
+    zeros to a multiple of 8."""
+    data = bytearray()
+
+    def add(piece):
+        at = len(data)
+        data.extend(piece + bytes(-len(piece) % 8))
+        return at << 32 | len(piece)
+
+    def point(at, pointer):
+        data[at:at + 8] = struct.pack("<Q", pointer)
+
+    content, tags = add(event["content"].encode()), add(bytes(8 * len(event["tags"])))
+    for i, tag in enumerate(event["tags"]):
+        texts = add(bytes(8 * len(tag)))
+        point((tags >> 32) + 8 * i, texts)
+        for j, text in enumerate(tag):
+            point((texts >> 32) + 8 * j, add(text.encode()))
+    if milliseconds is None:
+        milliseconds = 1000 * event["created_at"]
+    return (struct.pack("<Q", version << 32 | 72 + len(data)) + bytes.fromhex(event["pubkey"])
+            + struct.pack("<QqQQ", event["kind"], milliseconds, content, tags) + bytes(data)
+            + bytes.fromhex(event["id"] + event["sig"]))
+
+
+v0, v1 = pointer_form(event), pointer_form(event, 1)
+check("a v0", bare.kez_pointer_write(form), v0)
+check("a v0, converted", kez.kez_pointer_convert(v0), form)
+check("a v0 of loose bytes", bare.kez_pointer_write(loose), bare.kez_pointer_write(bytes(131) + b"\1\1\0"))
+check("the shortest v0", len(bare.kez_pointer_write(bytes(132))), kez.KEZ_POINTER_LEAST)
+for version, shown in ((0, v0), (1, v1)):
+    told = kez.kez_pointer_read(shown)
+    check("v%d, numbers" % version, (told.version, told.kind, told.milliseconds, told.tag_count),
+          (version, event["kind"], 1000 * event["created_at"], len(event["tags"])))
+    check("v%d, content" % version, shown[told.content_at:told.content_at + told.content_len].decode(),
+          event["content"])
+    for i, tag in enumerate(event["tags"]):
+        check("v%d, length of tag %d" % (version, i), kez.kez_pointer_tag_len(shown, i), len(tag))
+        for j, wanted in enumerate(tag):
+            at, length = kez.kez_pointer_element(shown, i, j)
+            check("v%d, text %d of tag %d" % (version, j, i), shown[at:at + length].decode(), wanted)
+    check("v%d, no such tag" % version, refusal(kez.kez_pointer_tag_len, shown, 2), (19, 0))
+    check("v%d, no such text" % version, refusal(kez.kez_pointer_element, shown, 1, (1 << 64) - 1), (19, 0))
+    check("v%d, the fixed fields" % version, tuple(part.hex() for part in (
+        shown[kez.KEZ_POINTER_PUBKEY_AT:][:32], shown[-kez.KEZ_POINTER_ID_FROM_END:][:32],
+        shown[-kez.KEZ_POINTER_SIG_FROM_END:])), (event["pubkey"], event["id"], event["sig"]))
+check("a v1, converted", refusal(kez.kez_pointer_convert, v1), (26, 0))
+for milliseconds in (-1, -1000, 999, -(1 << 63), (1 << 63) - 1):
+    check("v1, %d milliseconds" % milliseconds,
+          kez.kez_pointer_read(pointer_form(event, 1, milliseconds)).milliseconds, milliseconds)
+    check("v0, %d milliseconds" % milliseconds, refusal(kez.kez_pointer_read, pointer_form(event, 0, milliseconds)),
+          (28, 48))
+latest = dict(event, created_at=9223372036854775)
+check("the last second", kez.kez_pointer_convert(pointer_form(latest)), packed(latest))
+
+
+def changed(place, data):
+    return v0[:place] + data + v0[place + len(data):]
+
+
+for what, data, wanted in (("nothing", b"", (26, 0)), ("too short", v0[:167], (26, 0)), ("cut", v0[:-1], (26, 0)),
+                           ("too long", bytes(65537), (1, 0)), ("version 2", changed(4, b"\2"), (26, 0)),
+                           ("a reserved bit", changed(6, b"\1"), (26, 0)), ("a kind", changed(42, b"\1"), (6, 40)),
+                           ("a content elsewhere", changed(60, b"\4"), (27, 56)),
+                           ("tags that are no table", changed(64, b"\11"), (27, 64)),
+                           ("a content that is no UTF-8", changed(72, b"\xff"), (5, 72)),
+                           ("a tag without texts", changed(88, b"\0"), (9, 88))):
+    for call in (kez.kez_pointer_read, kez.kez_pointer_convert, functools.partial(kez.kez_pointer_tag_len, tag=9),
+                 functools.partial(kez.kez_pointer_element, tag=9, element=9)):
+        check("a pointer form: %s" % what, refusal(call, data), wanted)
+# texts that are shared: 29 by converting alone, however many bytes they name
+shared = struct.pack("<1000Q", *1000 * (8000 << 32 | 2040,)) + struct.pack("<255Q", *255 * (10040 << 32 | 55000,))
+shared = (struct.pack("<Q", 72 + 65040) + bytes(56) + struct.pack("<Q", 8000) + shared + b"x" * 55000 + bytes(96))
+check("10^10 bytes, shown", kez.kez_pointer_read(shared), (0, 0, 0, 72, 0, 1000))
+check("10^10 bytes, the last text", kez.kez_pointer_element(shared, 999, 254), (10112, 55000))
+check("10^10 bytes, converted", refusal(kez.kez_pointer_convert, shared), (29, 0))
+largest = bytes(130) + varint(65368) + bytes(65369)
+check("the longest v0", len(bare.kez_pointer_write(largest)), kez.KEZ_POINTER_MOST)
+check("the longest v0, converted", kez.kez_pointer_convert(bare.kez_pointer_write(largest)), largest)
+check("one longer", refusal(bare.kez_pointer_write, bytes(130) + varint(65369) + bytes(65370)), (29, 0))
 
 # A table of current records: the five outcomes, what is kept and where, refusals that change nothing
 def offered(number, time, kind, rest=b"\0\0"):
@@ -357,8 +441,9 @@ for what, data, wanted in (("nothing", b"", (2, 0)), ("too much", bytes(65537), 
 apart = ("kez_refusal_text", "kez_version", "kez_table_empty", "kez_table_slot", "kez_sha256_start",
          "kez_sha256_finish")
 inputs = [name for name in dir(kez) if name.startswith("kez_") and name not in apart]
-check("there are twenty entries", len(inputs), 20)
-indices = {"kez_notepack_tag_len": (0,), "kez_notepack_element": (0, 0)}
+check("there are twenty-five entries", len(inputs), 25)
+indices = {"kez_notepack_tag_len": (0,), "kez_notepack_element": (0, 0), "kez_pointer_tag_len": (0,),
+           "kez_pointer_element": (0, 0)}
 
 
 class Lying(bytes):
@@ -392,7 +477,8 @@ def mapped(data):
 wide = bytes(b for byte in form for b in (byte, 0))
 for name in inputs:
     texts = {"kez_nson_read": text, "kez_json_read": text, "kez_read_both": text, "kez_notepack_string_read": string,
-             "kez_notepack_string_read_versioned": string1, "kez_bare_from_versioned": b"\1" + form}
+             "kez_notepack_string_read_versioned": string1, "kez_bare_from_versioned": b"\1" + form,
+             "kez_pointer_read": v0, "kez_pointer_tag_len": v0, "kez_pointer_element": v0, "kez_pointer_convert": v0}
     data = texts.get(name, form)
     wanted = ask(name, data)
     for same in (bytearray(data), memoryview(data), mapped(data), array.array("B", data), Lying(data),
@@ -417,6 +503,9 @@ for wrong, wanted in ((-1, "OverflowError"), (-(1 << 64), "OverflowError"), (1 <
     check("tag %r" % (wrong,), raised(bare.kez_notepack_tag_len, form, wrong), wanted)
     check("element of tag %r" % (wrong,), raised(bare.kez_notepack_element, form, wrong, 0), wanted)
     check("element %r" % (wrong,), raised(bare.kez_notepack_element, form, 0, wrong), wanted)
+    check("tag %r of a pointer form" % (wrong,), raised(kez.kez_pointer_tag_len, v0, wrong), wanted)
+    check("text %r of a pointer form" % (wrong,), raised(kez.kez_pointer_element, v0, 0, wrong), wanted)
+    check("text of tag %r of a pointer form" % (wrong,), raised(kez.kez_pointer_element, v0, wrong, 0), wanted)
 
 
 # Refusals, out of a pickle and out of another process
@@ -451,6 +540,8 @@ for name, data, rooms in (("kez_notepack_write", form, [len(form)]), ("kez_canon
                           ("kez_versioned_from_bare", form, [len(form) + 1]),
                           ("kez_bare_from_versioned", b"\1" + form, [len(form)]),
                           ("kez_notepack_string_read_versioned", string1, [len(form) + 1]),
+                          ("kez_pointer_write", form, [len(v0)]), ("kez_pointer_convert", v0, [len(form)]),
+                          ("kez_pointer_convert", v1, []), ("kez_pointer_convert", shared, []),
                           ("kez_nson_write", bytes(132), []), ("kez_canonical_write", b"", [])):
     made.clear()
     raised(getattr(bare, name, getattr(kez, name)), data)
@@ -538,12 +629,13 @@ with tempfile.TemporaryDirectory() as alone, tempfile.TemporaryDirectory() as be
     shutil.copy(library, os.path.join(alone, "lib", "libkezubimoryu.so.1"))
     check("by LD_LIBRARY_PATH", imported(alone, LD_LIBRARY_PATH=os.path.join(alone, "lib")), "0")
     # a library of another version is not taken: its entries have other arguments
-    for number, told in ((1000, "0.10.0"), (1200, "0.12.0"), (10000, "1.0.0"), (None, "older than 0.5"), (1107, "")):
+    for number, told in ((1000, "0.10.0"), (1100, "0.11.0"), (1300, "0.13.0"), (10000, "1.0.0"),
+                         (None, "older than 0.5"), (1207, "")):
         other = os.path.join(alone, "other-%s.so" % number)
         source = "unsigned long kez_version(void) { return %s; }" % number if number else "int nothing;"
         subprocess.run(["gcc", "-shared", "-x", "c", "-o", other, "-"], input=source.encode(), check=True)
         said = imported(alone, KEZUBIMORYU_LIBRARY=other)
-        wanted = "this library is %s, and kezubimoryu.py is for 0.11" % told if told else "NotImplementedError"
+        wanted = "this library is %s, and kezubimoryu.py is for 0.12" % told if told else "NotImplementedError"
         check("version %s" % number, wanted in said, True)
     os.mkdir(os.path.join(alone, "old"))
     shutil.copy(os.path.join(alone, "other-1000.so"), os.path.join(alone, "old", "libkezubimoryu.so"))

@@ -49,12 +49,15 @@ fn main() {
     all_elements(&record).expect("nothing here is refused");
     string_form(&record).expect("nothing here is refused");
     versioned(&record).expect("nothing here is refused");
+    pointer_forms(&record).expect("nothing here is refused");
     table(&record).expect("nothing here is refused");
     hashes(&record, &text).expect("nothing here is refused");
     print!("{KEZ_VERSION} {KEZ_MOST} {KEZ_CANONICAL_MOST} {KEZ_NOTEPACK_STRING_MOST} ");
     print!("{KEZ_ELEMENT_BYTES} {KEZ_ELEMENTS_MOST} ");
     print!("{KEZ_SLOTS} {KEZ_SLOT_BYTES} {KEZ_CELL_BYTES} {KEZ_SLOTS_BYTES} {KEZ_CELLS_BYTES} ");
-    println!("{KEZ_SHA256_STATE} {KEZ_SHA256_DIGEST}");
+    print!("{KEZ_SHA256_STATE} {KEZ_SHA256_DIGEST} ");
+    print!("{KEZ_POINTER_PUBKEY_AT} {KEZ_POINTER_ID_FROM_END} {KEZ_POINTER_SIG_FROM_END} ");
+    println!("{KEZ_POINTER_LEAST} {KEZ_POINTER_MOST}");
     for number in 0..40 {
         println!("{}", kez_refusal_text(number));
     }
@@ -211,6 +214,73 @@ fn versioned(record: &[u8]) -> Result<(), Refused> {
     // 01 and an event of kind 1, said to be bare, is an event of kind 0
     let twofold = [&[1][..], &[0; 129], &[1, 0, 0]].concat();
     assert_eq!((notepack_read(&twofold, Versioned)?.kind, notepack_read(&twofold, Bare)?.kind), (1, 0));
+    Ok(())
+}
+
+/// The pointer form: there and back, what is shown of both versions, refusals, and texts that are shared.
+fn pointer_forms(record: &[u8]) -> Result<(), Refused> {
+    let loose = [&[0; 131][..], &[1, 1, 1]].concat();
+    let largest = [&[0; 130][..], &[0xd8, 0xfe, 3], &[0; 65369]].concat();
+    for packed in [record, &[0; 132], &loose, &largest] {
+        let v0 = written_of(pointer_write, Form::Bare, packed)?;
+        if packed.len() < KEZ_MOST {
+            assert_eq!(written_of(pointer_write, Form::Versioned, &[&[1], packed].concat())?, v0);
+        }
+        assert_eq!(written(pointer_convert, &v0)?, written_of(notepack_write, Form::Bare, packed)?);
+    }
+    assert_eq!(written_of(pointer_write, Form::Bare, &[0; 132])?.len(), KEZ_POINTER_LEAST);
+    assert_eq!(written_of(pointer_write, Form::Bare, &largest)?.len(), KEZ_POINTER_MOST);
+    let larger = [&[0; 130][..], &[0xd9, 0xfe, 3], &[0; 65370]].concat();
+    assert_eq!(pointer_write(&larger, Form::Bare, &mut []), Err(Refused { number: 29, place: 0 }));
+    assert_eq!(pointer_write(record, Form::Versioned, &mut []), Err(Refused { number: 25, place: 0 }));
+
+    let v0 = written_of(pointer_write, Form::Bare, record)?;
+    for version in [0, 1] {
+        let mut form = v0.clone();
+        form[4] = version;
+        let milliseconds = 1720000000000;
+        let (version, kind, content_at, content_len, tag_count) = (version.into(), 0, 72, 5, 2);
+        let numbers = PointerNumbers { version, kind, milliseconds, content_at, content_len, tag_count };
+        assert_eq!(pointer_read(&form)?, numbers);
+        assert_eq!(&form[numbers.content_at..][..numbers.content_len], b"hello");
+        assert_eq!((pointer_tag_len(&form, 0)?, pointer_tag_len(&form, 1)?), (3, 2));
+        assert_eq!(pointer_element(&form, 0, 2)?, b"wss://relay.example.com");
+        assert_eq!(pointer_element(&form, 1, 1)?, [b'b'; 64]);
+        for (tag, element) in [(0, 3), (2, 0), (u64::MAX, u64::MAX)] {
+            assert_eq!(pointer_element(&form, tag, element), Err(Refused { number: 19, place: 0 }));
+        }
+        let end = form.len();
+        assert_eq!(form[KEZ_POINTER_PUBKEY_AT..][..32], record[32..64]);
+        assert_eq!(form[end - KEZ_POINTER_ID_FROM_END..][..32], record[..32]);
+        assert_eq!(form[end - KEZ_POINTER_SIG_FROM_END..], record[64..128]);
+        form[48..56].fill(0xff);
+        match version {
+            0 => assert_eq!(pointer_read(&form), Err(Refused { number: 28, place: 48 })),
+            _ => assert_eq!(pointer_read(&form)?, PointerNumbers { milliseconds: -1, ..numbers }),
+        }
+        let number = if version == 0 { 28 } else { 26 };
+        let place = if version == 0 { 48 } else { 0 };
+        assert_eq!(pointer_convert(&form, &mut []), Err(Refused { number, place }));
+    }
+    for (at, byte, number, place) in
+        [(0, 1, 26, 0), (4, 2, 26, 0), (42, 1, 6, 40), (60, 4, 27, 56), (72, 0xff, 5, 72)]
+    {
+        let mut form = v0.clone();
+        form[at] = byte;
+        let refused = Refused { number, place };
+        assert_eq!((pointer_read(&form), pointer_convert(&form, &mut [])), (Err(refused), Err(refused)));
+        assert_eq!((pointer_tag_len(&form, 9), pointer_element(&form, 9, 9)), (Err(refused), Err(refused)));
+    }
+    assert_eq!(pointer_read(&[]), Err(Refused { number: 26, place: 0 }));
+    assert_eq!(pointer_read(&[0; 65537]), Err(Refused { number: 1, place: 0 }));
+    // 1,000 tags, each the same 255 texts of 55,000 bytes
+    let pointers = [vec![8000u64 << 32 | 2040; 1000], vec![10040 << 32 | 55000; 255]].concat();
+    let data: Vec<u8> = pointers.iter().flat_map(|pointer| pointer.to_le_bytes()).chain([b'x'; 55000]).collect();
+    let header = (72 + data.len() as u64).to_le_bytes();
+    let shared = [&header[..], &[0; 56], &8000u64.to_le_bytes(), &data, &[0; 96]].concat();
+    assert_eq!(pointer_read(&shared)?.tag_count, 1000);
+    assert_eq!(pointer_element(&shared, 999, 254)?, [b'x'; 55000]);
+    assert_eq!(pointer_convert(&shared, &mut [0; KEZ_MOST]), Err(Refused { number: 29, place: 0 }));
     Ok(())
 }
 

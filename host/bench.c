@@ -22,7 +22,7 @@ enum { PASSES = 12, ROUNDS = 3, ROUND_NS = 1500000, ROOM = KEZ_ELEMENTS_MOST };
 /* Records */
 
 /* The forms that an entry can take. */
-typedef enum { PACKED, VERSIONED, NSON, STRING, CONTENT, FORMS } form;
+typedef enum { PACKED, VERSIONED, NSON, STRING, CONTENT, POINTER, FORMS } form;
 
 /* A table of records. */
 typedef struct {
@@ -35,11 +35,11 @@ typedef struct {
     uint64_t refusal; /* what they refuse it with */
     table *table;     /* that it is offered to, if it is one for those */
     uint64_t value;   /* what that offer is answered */
-    uint8_t packed[69632], versioned[69632], text[69632], string[94208];
-    size_t packed_len, text_len, string_len, content_at, content_len;
+    uint8_t packed[69632], versioned[69632], text[69632], string[94208], pointer[69632];
+    size_t packed_len, text_len, string_len, content_at, content_len, pointer_len;
 } __attribute__((aligned(4096))) record;
 
-static record records[31];
+static record records[35];
 
 static void put(record *r, const void *part, size_t len)
 {
@@ -198,8 +198,8 @@ static void make_tables(void)
 /* Entries */
 
 typedef enum {
-    READS, ASKS, PACKS, WRITES, COUNTS, SHOWS, LISTS, BOTH, RIVALS, OFFERS, VIEWS, EMPTIES, HASHES, PLAIN, PARSES,
-    COPIES
+    READS, ASKS, PACKS, WRITES, COUNTS, SHOWS, LISTS, BOTH, RIVALS, OPENS, OFFERS, VIEWS, EMPTIES, HASHES, PLAIN,
+    PARSES, COPIES
 } shape;
 
 typedef kez_answer reads(const uint8_t *, size_t, uint64_t, uint64_t *, uint64_t *, uint64_t *, uint64_t *,
@@ -212,6 +212,8 @@ typedef kez_answer shows(const uint8_t *, size_t, uint64_t, uint64_t, uint64_t, 
 typedef kez_answer lists(const uint8_t *, size_t, uint64_t, uint64_t, uint8_t *, size_t);
 typedef kez_answer both(const uint8_t *, size_t, uint8_t *, size_t, uint8_t *, size_t, uint64_t *);
 typedef kez_answer rivals(const uint8_t *, size_t, uint64_t, const uint8_t *, size_t, uint64_t);
+typedef kez_answer opens(const uint8_t *, size_t, uint64_t *, uint64_t *, uint64_t *, uint64_t *, uint64_t *,
+                         uint64_t *);
 typedef kez_answer offers(uint8_t *, size_t, uint8_t *, size_t, const uint8_t *, size_t, uint64_t);
 typedef kez_answer views(const uint8_t *, size_t, const uint8_t *, size_t, uint64_t, uint64_t *, uint64_t *);
 typedef kez_answer empties(uint8_t *, size_t, uint8_t *, size_t);
@@ -256,6 +258,9 @@ static const entry entries[] = {
     {"id_belongs", "kez_id_belongs", ASKS, kez_id_belongs, PACKED},
     {"to_versioned", "kez_versioned_from_bare", WRITES, kez_versioned_from_bare, PACKED},
     {"to_bare", "kez_bare_from_versioned", WRITES, kez_bare_from_versioned, VERSIONED},
+    {"pointer_read", "kez_pointer_read", OPENS, kez_pointer_read, POINTER},
+    {"pointer_convert", "kez_pointer_convert", WRITES, kez_pointer_convert, POINTER},
+    {"pointer_write", "kez_pointer_write", PACKS, kez_pointer_write, PACKED},
     {"utf8", "kez_notepack_read", READS, kez_notepack_read, PACKED},
     {"utf8_json", "kez_json_read", WRITES, kez_json_read, NSON},
 };
@@ -313,7 +318,7 @@ static entry by(const entry *e, int who, void *reference, void *peers)
 /* not at the place in a page where the records stand, which would slow a copy down */
 static uint8_t area[ROOM + 4096] __attribute__((aligned(4096)));
 static uint8_t *const out = area + 2112;
-static uint64_t numbers[5];
+static uint64_t numbers[6];
 
 /* The table that is lent, and the record that it is lent with. */
 static table lent;
@@ -363,6 +368,7 @@ static uint64_t call(const entry *e, const uint8_t *in, size_t len)
     case BOTH:
         return ((both *)e->function)(in, len, out, (size_t)ROOM / 2, out + ROOM / 2, (size_t)ROOM / 2, n).refusal;
     case RIVALS: return ((rivals *)e->function)(in, len, KEZ_BARE, in, len, KEZ_BARE).refusal;
+    case OPENS: return ((opens *)e->function)(in, len, n, n + 1, n + 2, n + 3, n + 4, n + 5).refusal;
     case OFFERS: return offer((offers *)e->function, in, len);
     case VIEWS:
         return ((views *)e->function)(lent.slots, sizeof lent.slots, lent.cells, sizeof lent.cells, 63, n, n + 1)
@@ -476,9 +482,11 @@ static void keep_figure(double *best, double ns)
 
 static void measure(row *best, const entry *e, const record *r, void *reference, void *peers, const char *program)
 {
-    const uint8_t *const forms[FORMS] = {r->packed, r->versioned, r->text, r->string, r->packed + r->content_at};
+    const uint8_t *const forms[FORMS] = {r->packed, r->versioned, r->text, r->string, r->packed + r->content_at,
+                                         r->pointer};
     const uint8_t *const in = forms[e->takes];
-    const size_t lengths[FORMS] = {r->packed_len, r->packed_len + 1, r->text_len, r->string_len, r->content_len};
+    const size_t lengths[FORMS] = {r->packed_len, r->packed_len + 1, r->text_len, r->string_len, r->content_len,
+                                   r->pointer_len};
     uint64_t calls = 16;
     best->len = lengths[e->takes];
     offered = r;
@@ -517,7 +525,7 @@ static void print(row rows[ENTRIES][RECORDS])
         for (int j = 0; j < RECORDS; j++)
             for (int who = 0; who < ALL; who++)
                 shown[who] |= rows[i][j].ns[who] > 0;
-    printf("nanoseconds for a call\n%-12s  %-12s %6s", "entry", "record", "bytes");
+    printf("nanoseconds for a call\n%-15s  %-12s %6s", "entry", "record", "bytes");
     for (int who = 0; who < ALL; who++)
         if (shown[who])
             printf("  %10s", others[who].name);
@@ -529,7 +537,7 @@ static void print(row rows[ENTRIES][RECORDS])
             const row *b = &rows[i][j];
             if (!b->len)
                 continue;
-            printf("%-12s  %-12s %6zu", entries[i].name, records[j].name, b->len);
+            printf("%-15s  %-12s %6zu", entries[i].name, records[j].name, b->len);
             for (int who = 0; who < ALL; who++) {
                 if (b->ns[who] > 0)
                     printf("  %10.1f", b->ns[who]);
@@ -640,6 +648,57 @@ static void make_texts(int first)
     }
 }
 
+/* Eight bytes of a pointer form, the lowest first: so many bytes from an offset on. */
+static void point(record *r, size_t at, uint64_t offset, uint64_t len)
+{
+    for (int i = 0; i < 8; i++)
+        r->pointer[at + (size_t)i] = (uint8_t)((offset << 32 | len) >> 8 * i);
+}
+
+/* A pointer form of a second in 1970 with data of this length. */
+static void start_pointer(record *r, const char *name, uint64_t version, size_t data)
+{
+    r->name = name;
+    r->pointer_len = KEZ_POINTER_LEAST + data;
+    memset(r->pointer, 0, r->pointer_len);
+    point(r, 0, version, 72 + data);
+    point(r, 48, 0, 1000);
+}
+
+/* Pointer forms, from records[first] on: many small pieces, each by itself; then as much shared as can be: 1,000 tags
+ * of 255 texts of 55,000 bytes, which is read, and refused where it is to be converted; and a v1 whose one table is
+ * every tag. */
+static void make_pointers(int first)
+{
+    record *r = &records[first];
+    start(r, "empty texts", 31);
+    for (size_t i = 0; i < 31; i++) {
+        put_varint(r, 255);
+        memset(r->packed + r->packed_len, 0, 255);
+        r->packed_len += 255;
+    }
+    r->only = "pointer_";
+    for (int j = 1; j < 3; j++) {
+        r = &records[first + j];
+        start_pointer(r, "shared texts", 0, 65040);
+        point(r, 64, 0, 8000);
+        for (size_t i = 0; i < 1000; i++)
+            point(r, 72 + 8 * i, 8000, 2040);
+        for (size_t i = 0; i < 255; i++)
+            point(r, 8072 + 8 * i, 10040, 55000);
+        for (size_t i = 0; i < 55000; i++)
+            r->pointer[10112 + i] = (uint8_t)"A map for the left ear. "[i % 24];
+        r->only = j == 1 ? "pointer_read" : "pointer_convert";
+        r->refusal = j == 1 ? 0 : 29;
+    }
+    r = &records[first + 3];
+    start_pointer(r, "one table", 1, 65368);
+    point(r, 64, 0, 65368);
+    for (size_t i = 0; i < 8171; i++)
+        point(r, 72 + 8 * i, 0, 65368);
+    r->only = "pointer_read";
+}
+
 /* The last byte that is not ASCII becomes one that no character has. */
 static void spoil(uint8_t *text, size_t len)
 {
@@ -649,7 +708,7 @@ static void spoil(uint8_t *text, size_t len)
 }
 
 /* The other forms of each record. */
-static void make_forms(packs *nson_write)
+static void make_forms(packs *nson_write, packs *pointer_write)
 {
     for (int j = 0; j < RECORDS; j++) {
         record *r = &records[j];
@@ -657,6 +716,10 @@ static void make_forms(packs *nson_write)
         r->versioned[0] = 1;
         memcpy(r->versioned + 1, r->packed, r->packed_len);
         spell(r);
+        if (!r->pointer_len) {
+            kez_answer a = pointer_write(r->packed, r->packed_len, KEZ_BARE, r->pointer, sizeof r->pointer);
+            r->pointer_len = a.refusal ? 0 : a.value;
+        }
         if (r->refusal == 5) {
             spoil(r->packed, r->packed_len);
             spoil(r->text, r->text_len);
@@ -676,7 +739,8 @@ int main(int count, char **words)
     self = words[0];
     peers_file = count > 2 ? words[2] : NULL;
     packs *nson_write = reference ? (packs *)dlsym(reference, "kez_nson_write") : NULL;
-    if (!nson_write) {
+    packs *pointer_write = reference ? (packs *)dlsym(reference, "kez_pointer_write") : NULL;
+    if (!nson_write || !pointer_write) {
         fprintf(stderr, "usage: bench libreference.so [libpeers.so | -] [PROGRAM]\n");
         return 2;
     }
@@ -689,7 +753,8 @@ int main(int count, char **words)
     make_offered(13);
     make_messages(22);
     make_texts(24);
-    make_forms(nson_write);
+    make_pointers(31);
+    make_forms(nson_write, pointer_write);
     for (int pass = 0; pass < PASSES; pass++)
         for (int i = 0; i < ENTRIES; i++)
             for (int j = 0; j < RECORDS; j++)

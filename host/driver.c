@@ -17,7 +17,7 @@
 #include <sys/mman.h>
 #include <unistd.h>
 
-enum { MOST = 1 << 21, GUARD = 64, NUMBERS = 5 };
+enum { MOST = 1 << 21, GUARD = 64, NUMBERS = 6 };
 
 static uint64_t line_number;
 static const char *broken; /* what went wrong in this request, if anything */
@@ -166,7 +166,7 @@ static void check_numbers(int lent, kez_answer a)
 
 static void check_answer(kez_answer a)
 {
-    if (a.refusal > 25 && a.refusal != 34 && a.refusal != 35)
+    if (a.refusal > 29 && a.refusal != 34 && a.refusal != 35)
         wrong("has a refusal that does not exist");
 }
 
@@ -329,6 +329,66 @@ static int do_elements(const kind *k, char **words)
         return 1;
     printf("ok %" PRIu64, a.value);
     print_bytes(area + GUARD, written);
+    return 1;
+}
+
+/* The pointer form */
+
+static kez_answer read_pointer(const input *in)
+{
+    lend_numbers();
+    kez_answer a = kez_pointer_read(in->at, in->len, number(0), number(1), number(2), number(3), number(4), number(5));
+    check_numbers(6, a);
+    check_input(in);
+    if (!a.refusal && a.value)
+        wrong("has a value that is not 0");
+    return a;
+}
+
+static int do_pointer_read(const kind *k, char **words)
+{
+    (void)k;
+    if (!lend(&first, words[0]))
+        return 0;
+    kez_answer a = read_pointer(&first);
+    if (!told_refusal(a))
+        printf("ok %" PRIu64 " %" PRIu64 " %" PRId64 " %" PRIu64 " %" PRIu64 " %" PRIu64, *number(0), *number(1),
+               (int64_t)*number(2), *number(3), *number(4), *number(5));
+    return 1;
+}
+
+static int do_pointer_tag(const kind *k, char **words)
+{
+    (void)k;
+    uint64_t tag;
+    if (!lend(&first, words[0]) || !parsed(words[1], &tag))
+        return 0;
+    kez_answer a = kez_pointer_tag_len(first.at, first.len, tag), read = read_pointer(&first);
+    /* the reader's refusals, and whether there is such a tag */
+    if (read.refusal ? !same(a, read) : tag < *number(5) ? a.refusal != 0 : a.refusal != 19 || a.value)
+        wrong("and the reader disagree");
+    if (!told_refusal(a))
+        printf("ok %" PRIu64, a.value);
+    return 1;
+}
+
+static int do_pointer_element(const kind *k, char **words)
+{
+    (void)k;
+    uint64_t tag, element;
+    if (!lend(&first, words[0]) || !parsed(words[1], &tag) || !parsed(words[2], &element))
+        return 0;
+    lend_numbers();
+    kez_answer a = kez_pointer_element(first.at, first.len, tag, element, number(0), number(1));
+    check_numbers(2, a);
+    kez_answer n = kez_pointer_tag_len(first.at, first.len, tag);
+    check_input(&first);
+    if (!a.refusal && a.value)
+        wrong("has a value that is not 0");
+    if (n.refusal ? !same(a, n) : element < n.value ? a.refusal != 0 : a.refusal != 19 || a.value)
+        wrong("and tag_len disagree");
+    if (!told_refusal(a))
+        printf("ok %" PRIu64 " %" PRIu64, *number(0), *number(1));
     return 1;
 }
 
@@ -779,6 +839,11 @@ static const kind kinds[] = {
     {"string1_read", 2, do_write, kez_notepack_string_read_versioned, NULL},
     {"to_versioned", 2, do_write, kez_versioned_from_bare, NULL},
     {"to_bare", 2, do_write, kez_bare_from_versioned, NULL},
+    {"pointer_read", 1, do_pointer_read, NULL, NULL},
+    {"pointer_tag", 2, do_pointer_tag, NULL, NULL},
+    {"pointer_element", 3, do_pointer_element, NULL, NULL},
+    {"pointer_convert", 2, do_write, kez_pointer_convert, NULL},
+    {"pointer_write", 2, do_write, NULL, kez_pointer_write},
     {"read_both", 2, do_both, NULL, NULL},
     {"rivals", 2, do_rivals, NULL, NULL},
     {"table_new", 0, do_new, NULL, NULL},

@@ -22,6 +22,8 @@ mod hash;
 mod json;
 #[path = "requests/notepack.rs"]
 mod notepack;
+#[path = "requests/pointer.rs"]
+mod pointer;
 #[allow(dead_code)]
 #[path = "reference/sha256.rs"]
 mod sha256;
@@ -108,16 +110,17 @@ fn thinned(groups: Vec<String>, most: usize) -> Vec<String> {
 }
 
 /// Every kind of request.
-const ALL: [&str; 23] = [
+const ALL: [&str; 28] = [
     "read", "strict", "pack", "content", "element", "elements", "lister", "canonical", "nson_write", "nson_read",
     "json_read", "string_write", "string_read", "string1_read", "to_versioned", "to_bare", "rivals", "read_both",
-    "table", "table_slot", "sha", "sha_state", "id_belongs",
+    "table", "table_slot", "sha", "sha_state", "id_belongs", "pointer_read", "pointer_tag", "pointer_element",
+    "pointer_convert", "pointer_write",
 ];
 
 /// Kinds whose input is a packed event.
-const PACKED: [&str; 13] = [
+const PACKED: [&str; 14] = [
     "read", "strict", "pack", "content", "element", "elements", "lister", "canonical", "nson_write", "string_write",
-    "to_versioned", "to_bare", "id_belongs",
+    "to_versioned", "to_bare", "id_belongs", "pointer_write",
 ];
 
 struct Requests {
@@ -174,9 +177,12 @@ impl Requests {
 
     /// Some room, some element or both, where the kind wants one.
     fn rest(&mut self, kind: &str, form: Form, input: &[u8], e: &Event) -> String {
-        if kind == "element" {
+        if kind == "element" || kind == "pointer_element" {
             let (tag, element) = self.element_of(e);
             format!(" {tag} {element}")
+        } else if kind == "pointer_tag" {
+            let within = self.dice.below(e.tags.len() + 1) as u64;
+            format!(" {}", if self.dice.percent(70) { within } else { self.dice.pick(&pointer::tags_asked(e)) })
         } else if kind == "elements" {
             let within = self.dice.below(texts_in(e) + 1) as u64;
             let first = if self.dice.percent(50) { within } else { self.dice.pick(&firsts(e)) };
@@ -231,7 +237,9 @@ impl Requests {
 
     /// All that a kind may want behind its input.
     fn rests(&mut self, kind: &str, form: Form, input: &[u8], e: &Event) -> Vec<String> {
-        if kind == "element" {
+        if kind == "pointer_tag" {
+            pointer::tags_asked(e).map(|tag| format!(" {tag}")).into()
+        } else if kind == "element" || kind == "pointer_element" {
             let last = e.tags.len().saturating_sub(1) as u64;
             let end = e.tags.last().map_or(0, |t| t.len()) as u64;
             let asked = [(0, 0), (last, end.saturating_sub(1)), (last, end), (last + 1, 0), (u64::MAX, u64::MAX)];
@@ -282,8 +290,9 @@ impl Requests {
 
 /// Does the kind write into a lent buffer?
 fn writes(kind: &str) -> bool {
-    let of_packed = ["pack", "canonical", "nson_write", "string_write", "to_versioned", "to_bare"];
-    of_packed.contains(&kind) || ["nson_read", "json_read", "string_read", "string1_read"].contains(&kind)
+    let of_packed = ["pack", "canonical", "nson_write", "string_write", "to_versioned", "to_bare", "pointer_write"];
+    let others = ["nson_read", "json_read", "string_read", "string1_read", "pointer_convert"];
+    of_packed.contains(&kind) || others.contains(&kind)
 }
 
 /// How many texts the tags of this event have together.
@@ -314,6 +323,7 @@ fn needed(kind: &str, form: Form, input: usize, e: &Event) -> usize {
         "string1_read" => Form::Versioned.decoded_len(input),
         "to_versioned" => input + 1,
         "to_bare" => input.saturating_sub(1),
+        "pointer_write" => pointer::written_len(e),
         "canonical" => texts::canonical(e).len(),
         "nson_write" => texts::Nson::of(e).spelled().len(),
         _ => notepack::strict(e).len(),

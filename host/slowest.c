@@ -53,7 +53,7 @@ static void put_varint(uint64_t n)
 /* Times */
 
 static uint8_t out[KEZ_ELEMENTS_MOST], beside[MOST];
-static uint64_t numbers[5];
+static uint64_t numbers[6];
 static uint64_t tag, element; /* what kez_notepack_element is asked for */
 
 static double slowest;
@@ -230,6 +230,138 @@ static kez_answer string_write(void)
 static kez_answer to_versioned(void) { return kez_versioned_from_bare(record.at, record.len, out, MOST); }
 static kez_answer to_bare(void) { return kez_bare_from_versioned(record.at, record.len, out, MOST); }
 static kez_answer string_read(void) { return kez_notepack_string_read(record.at, record.len, out, MOST); }
+static kez_answer pointer_write(void) { return kez_pointer_write(record.at, record.len, KEZ_BARE, out, MOST); }
+
+/* Pointer forms */
+
+static kez_answer pointer_read(void)
+{
+    return kez_pointer_read(record.at, record.len, numbers, numbers + 1, numbers + 2, numbers + 3, numbers + 4,
+                            numbers + 5);
+}
+static kez_answer pointer_tag_len(void) { return kez_pointer_tag_len(record.at, record.len, tag); }
+static kez_answer pointer_element(void)
+{
+    return kez_pointer_element(record.at, record.len, tag, element, numbers, numbers + 1);
+}
+static kez_answer pointer_convert(void) { return kez_pointer_convert(record.at, record.len, out, MOST); }
+
+static void pointers_are_slow(const char *what)
+{
+    measure("kez_pointer_read", pointer_read, what);
+    measure("kez_pointer_tag_len", pointer_tag_len, what);
+    measure("kez_pointer_element", pointer_element, what);
+    measure("kez_pointer_convert", pointer_convert, what);
+}
+
+/* The v0 of the packed event, if there is one. */
+static void v0_is_slow(const char *what)
+{
+    static bytes packed;
+    measure("kez_pointer_write", pointer_write, what);
+    kez_answer a = pointer_write();
+    if (a.refusal)
+        return;
+    packed = record;
+    memcpy(record.at, out, a.value);
+    record.len = a.value;
+    pointers_are_slow(what);
+    record = packed;
+}
+
+/* Eight bytes, the lowest first: so many bytes from an offset on. */
+static void point(size_t at, uint64_t offset, uint64_t len)
+{
+    for (int i = 0; i < 8; i++)
+        record.at[at + (size_t)i] = (uint8_t)((offset << 32 | len) >> 8 * i);
+}
+
+enum { DATA_AT = 72, DATA_MOST = MOST - KEZ_POINTER_LEAST };
+
+/* A form of one second whose data is the longest that there is: the unit, again and again. */
+static void start_pointers(uint64_t version, const char *unit)
+{
+    size_t unit_len = strlen(unit);
+    record.len = MOST;
+    memset(record.at, 0, record.len);
+    point(0, version, DATA_AT + DATA_MOST);
+    point(48, 0, 1000);
+    for (size_t i = 0; i < DATA_MOST; i++)
+        record.at[DATA_AT + i] = (uint8_t)unit[i % unit_len];
+}
+
+enum { TAGS = 1000, TEXTS = 255, TEXT_AT = 8 * (TAGS + TEXTS), TEXT_MOST = DATA_MOST - TEXT_AT };
+
+/* 1,000 tags that are one table, of 255 texts in the same bytes. Each starts so many bytes behind the one before, and
+ * has all bytes from there on, less `less`. */
+static void shared_texts(const char *what, const char *unit, size_t apart, size_t less)
+{
+    start_pointers(0, unit);
+    point(64, 0, 8 * TAGS);
+    for (size_t i = 0; i < TAGS; i++)
+        point(DATA_AT + 8 * i, 8 * TAGS, 8 * TEXTS);
+    for (size_t i = 0; i < TEXTS; i++)
+        point(DATA_AT + 8 * TAGS + 8 * i, TEXT_AT + apart * i, TEXT_MOST - apart * i - less);
+    tag = TAGS - 1;
+    element = TEXTS - 1;
+    pointers_are_slow(what);
+}
+
+/* Tags that are windows on one table of texts, each a little further on than the one before. */
+static void windows(const char *what, const char *unit, size_t words, uint64_t len)
+{
+    start_pointers(0, unit);
+    point(64, 0, 8 * TAGS);
+    for (size_t i = 0; i < TAGS; i++)
+        point(DATA_AT + 8 * i, 8 * (TAGS + i * (words - TEXTS) / TAGS), 8 * TEXTS);
+    for (size_t i = 0; i < words; i++)
+        point(DATA_AT + 8 * TAGS + 8 * i, 8 * (TAGS + words), len);
+    tag = TAGS - 1;
+    element = TEXTS - 1;
+    pointers_are_slow(what);
+}
+
+/* A v1 of one table, which is that of the tags, every tag and every text. Its last pointer has this length. */
+static void one_table(const char *what, uint64_t len)
+{
+    size_t words = DATA_MOST / 8;
+    start_pointers(1, "x");
+    point(64, 0, DATA_MOST);
+    for (size_t i = 0; i < words; i++)
+        point(DATA_AT + 8 * i, 0, i < words - 1 ? DATA_MOST : len);
+    tag = words - 1;
+    element = 0;
+    pointers_are_slow(what);
+}
+
+static void pointers(void)
+{
+    shared_texts("10^10 bytes of ASCII", "A map for the left ear. ", 0, 0);
+    shared_texts("10^10 bytes of two a character", "\xc3\xa9", 0, 0);
+    shared_texts("10^10 bytes of four a character", "\xf0\x9f\x91\x82", 0, 0);
+    shared_texts("10^10 bytes of hex", "0123456789abcdef", 0, 0);
+    shared_texts("10^10 bytes from 255 places on", "\xc3\xa9", 64, 0);
+    shared_texts("10^10 bytes of hex from 255 places on", "ab", 64, 0);
+    shared_texts("10^10 bytes, the last character cut", "\xc3\xa9", 0, 1);
+    windows("tags, windows on 7,000 empty texts", "x", 7000, 0);
+    windows("tags, windows on texts of 1,000 bytes", "x", 7000, 1000);
+    windows("tags, all the same 255 empty texts", "x", TEXTS, 0);
+    one_table("a v1, one table for all", DATA_MOST);
+    one_table("a v1, one table for all, its last bad", DATA_MOST + 8);
+    /* a strict form that has room: 250 times all texts, of which none has a byte */
+    start_pointers(0, "x");
+    point(64, 0, 8 * 250);
+    for (size_t i = 0; i < 250; i++)
+        point(DATA_AT + 8 * i, 8 * 250, 8 * TEXTS);
+    for (size_t i = 0; i < TEXTS; i++)
+        point(DATA_AT + 8 * 250 + 8 * i, 0, 0);
+    tag = 249;
+    element = TEXTS - 1;
+    pointers_are_slow("250 tags, each the same 255 empty texts");
+    start_pointers(0, "\xc3\xa9");
+    point(56, 0, DATA_MOST);
+    pointers_are_slow("content of two bytes a character");
+}
 
 /* The record becomes the string form of its bytes. */
 static void spell(void)
@@ -272,6 +404,7 @@ static void packed_is_slow(const char *what)
     measure("kez_rivals", rivals, what);
     measure("kez_id_belongs", id_belongs, what);
     measure("kez_versioned_from_bare", to_versioned, what);
+    v0_is_slow(what);
     kez_answer a = nson_write();
     memcpy(beside, out, a.refusal ? 0 : a.value);
     a_versioned_one_is_slow(what);
@@ -340,6 +473,16 @@ static void packed(void)
     packed_tags("tags of 255 texts of two bytes", UNIT("\x04\xc3\xa9"), 255);
     packed_tags("tags of 255 empty texts, raw", UNIT("\x01"), 255);
     packed_tags("tags of d and an empty text", UNIT("\x02""d"), 2);
+    /* as many texts as a v0 has room for */
+    start_packed("", 0);
+    put_varint(31);
+    for (tag = 0; tag < 31; tag++) {
+        put_varint(255);
+        fill(0, 255);
+    }
+    tag = 30;
+    element = 254;
+    v0_is_slow("31 tags of 255 empty texts");
 }
 
 /* Texts that are no string form, up to a megabyte: their length has no limit, and all of it may have to be seen. */
@@ -511,6 +654,7 @@ int main(void)
     not_strings();
     tables();
     messages();
+    pointers();
     printf("slowest: %s\n", slowest_said);
     return 0;
 }

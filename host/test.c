@@ -135,7 +135,8 @@ static void make_vector(void)
 /* Lent things that must keep what they hold */
 
 static uint8_t room[90000];
-static uint64_t numbers[5];
+enum { NUMBERS = 6 };
+static uint64_t numbers[NUMBERS];
 
 static uint8_t mark(size_t i)
 {
@@ -146,7 +147,7 @@ static void lend(void)
 {
     for (size_t i = 0; i < sizeof room; i++)
         room[i] = mark(i);
-    for (int i = 0; i < 5; i++)
+    for (int i = 0; i < NUMBERS; i++)
         numbers[i] = UINT64_C(0xfeedfacecafe0000) + (uint64_t)i;
 }
 
@@ -160,7 +161,7 @@ static int untouched_from(size_t from)
 
 static int untouched(void)
 {
-    for (int i = 0; i < 5; i++)
+    for (int i = 0; i < NUMBERS; i++)
         if (numbers[i] != UINT64_C(0xfeedfacecafe0000) + (uint64_t)i)
             return 0;
     return untouched_from(0);
@@ -179,6 +180,11 @@ static kez_answer read_it(const uint8_t *s, size_t len)
 static kez_answer element_of(const uint8_t *s, size_t len, uint64_t bare, uint64_t tag, uint64_t element)
 {
     return kez_notepack_element(s, len, bare, tag, element, numbers, numbers + 1, numbers + 2);
+}
+
+static kez_answer read_form(const uint8_t *s, size_t len)
+{
+    return kez_pointer_read(s, len, numbers, numbers + 1, numbers + 2, numbers + 3, numbers + 4, numbers + 5);
 }
 
 static int is(kez_answer a, uint64_t refusal, uint64_t value)
@@ -244,6 +250,8 @@ static void refused_as(const uint8_t *s, size_t len, uint64_t bare, uint64_t ref
         kez_nson_write(s, len, bare, NULL, 0),
         kez_notepack_string_write(s, len, bare, room, sizeof room),
         kez_notepack_string_write(s, len, bare, NULL, 0),
+        kez_pointer_write(s, len, bare, room, sizeof room),
+        kez_pointer_write(s, len, bare, NULL, 0),
         text_reader(text.at, text.len, room, sizeof room),
         text_reader(text.at, text.len, NULL, 0),
         kez_id_belongs(s, len, bare),
@@ -1114,7 +1122,7 @@ static void rivals(void)
 
 static int is_refusal(uint64_t number)
 {
-    return number <= 25 || number == 34 || number == 35;
+    return number <= 29 || number == 34 || number == 35;
 }
 
 static void sentences(void)
@@ -1124,7 +1132,7 @@ static void sentences(void)
             int same = !strcmp(kez_refusal_text(i), kez_refusal_text(j));
             CHECK(same == (!is_refusal(i) && !is_refusal(j)), "%d and %d", (int)i, (int)j);
         }
-    CHECK(!strcmp(kez_refusal_text(UINT64_MAX), kez_refusal_text(26)), "no such number");
+    CHECK(!strcmp(kez_refusal_text(UINT64_MAX), kez_refusal_text(30)), "no such number");
 }
 
 /* With length 0 every entry takes a null pointer, one that is not aligned to anything, and one to a page that can't be
@@ -1163,6 +1171,12 @@ static void nothing_lent(void)
             CHECK(is(kez_versioned_from_bare(in, 0, out, 0), 2, 0), "%d %d", i, j);
             CHECK(is(kez_versioned_from_bare(vector.at, vector.len, out, 0), 11, 238), "%d", j);
             CHECK(is(kez_bare_from_versioned(in, 0, out, 0), 2, 0), "%d %d", i, j);
+            CHECK(is(kez_pointer_write(in, 0, i % 2, out, 0), 2, 0), "%d %d", i, j);
+            CHECK(is(kez_pointer_write(vector.at, vector.len, KEZ_BARE, out, 0), 11, 400), "%d", j);
+            CHECK(is(kez_pointer_convert(in, 0, out, 0), 26, 0), "%d %d", i, j);
+            CHECK(is(kez_pointer_tag_len(in, 0, 0), 26, 0), "%d", i);
+            CHECK(is(kez_pointer_element(in, 0, 0, 0, numbers, numbers + 1), 26, 0), "%d", i);
+            CHECK(is(read_form(in, 0), 26, 0), "%d", i);
             CHECK(is(kez_canonical_write(in, 0, i % 2, out, 0), 2, 0), "%d %d", i, j);
             CHECK(is(kez_canonical_write(vector.at, vector.len, KEZ_BARE, out, 0), 11, 265), "%d", j);
             CHECK(is(kez_nson_write(in, 0, i % 2, out, 0), 2, 0), "%d %d", i, j);
@@ -2207,6 +2221,7 @@ static void any_yes(void)
         CHECK(is(kez_notepack_tag_len(vector.at, vector.len, yes[i], 0), 0, 3), "%zu", i);
         CHECK(is(element_of(vector.at, vector.len, yes[i], 0, 0), 0, 0), "%zu", i);
         CHECK(is(kez_notepack_elements(vector.at, vector.len, yes[i], 0, NULL, 0), 0, 0), "%zu", i);
+        CHECK(is(kez_pointer_write(vector.at, vector.len, yes[i], NULL, 0), 11, 400), "%zu", i);
         CHECK(is(kez_canonical_write(vector.at, vector.len, yes[i], NULL, 0), 11, 265), "%zu", i);
         CHECK(kez_nson_write(vector.at, vector.len, yes[i], NULL, 0).refusal == 11, "%zu", i);
         CHECK(is(kez_id_belongs(vector.at, vector.len, yes[i]), 0, 0), "%zu", i);
@@ -2331,6 +2346,456 @@ static void versioned_string(void)
     refuses(kez_notepack_string_read_versioned, &text, 1, 0);
 }
 
+/* Pointer forms. Eight bytes, the lowest first; and a pointer to so many bytes from an offset on. */
+
+static void put_word_at(bytes *b, size_t at, uint64_t word)
+{
+    for (int i = 0; i < 8; i++, word >>= 8)
+        b->at[at + (size_t)i] = (uint8_t)word;
+}
+
+static void put_word(bytes *b, uint64_t word)
+{
+    b->len += 8;
+    put_word_at(b, b->len - 8, word);
+}
+
+static uint64_t pointer_to(uint64_t offset, uint64_t len)
+{
+    return offset << 32 | len;
+}
+
+enum { KIND_AT = 40, TIME_AT = 48, CONTENT_AT = 56, TAGS_AT = 64, DATA_AT = 72, FORM_VERSION_AT = 4 };
+
+/* The header for as many bytes as there are, in front of the id and the sig. */
+static void put_header(bytes *form, uint64_t version)
+{
+    put_word_at(form, 0, version << 32 | (form->len - KEZ_POINTER_ID_FROM_END));
+}
+
+/* A form of kind 1 and of one second, with data of this length, all of one byte, and zeros for id, pubkey and sig. */
+static void empty_form(bytes *form, uint64_t version, size_t data, uint8_t byte)
+{
+    form->len = 0;
+    fill(form, 0, DATA_AT);
+    fill(form, byte, data);
+    fill(form, 0, KEZ_POINTER_ID_FROM_END);
+    put_header(form, version);
+    put_word_at(form, KIND_AT, 1);
+    put_word_at(form, TIME_AT, 1000);
+}
+
+/* The five questions agree: the form is refused so, and nothing that was lent changes. A v1 is 26 if it is to be
+ * converted, whatever else is wrong with it; only 1 comes first. */
+static void refused_form(const bytes *form, uint64_t refusal, uint64_t place)
+{
+    lend();
+    int is_v1 = refusal != 1 && form->len >= 8 && form->at[FORM_VERSION_AT] == 1;
+    uint64_t of_convert = is_v1 ? 26 : refusal, place_of_convert = is_v1 ? 0 : place;
+    kez_answer all[] = {
+        read_form(form->at, form->len),
+        kez_pointer_tag_len(form->at, form->len, 0),
+        kez_pointer_tag_len(form->at, form->len, UINT64_MAX),
+        kez_pointer_element(form->at, form->len, 0, 0, numbers, numbers + 1),
+        kez_pointer_element(form->at, form->len, UINT64_MAX, UINT64_MAX, numbers, numbers + 1),
+    };
+    for (size_t i = 0; i < sizeof all / sizeof *all; i++)
+        CHECK(is(all[i], refusal, place), "question %zu of %zu bytes: %d at %d, not %d at %d", i, form->len,
+              (int)all[i].refusal, (int)all[i].value, (int)refusal, (int)place);
+    kez_answer a = kez_pointer_convert(form->at, form->len, room, sizeof room);
+    CHECK(is(a, of_convert, place_of_convert), "%d at %d, not %d at %d", (int)a.refusal, (int)a.value, (int)of_convert,
+          (int)place_of_convert);
+    CHECK(is(kez_pointer_convert(form->at, form->len, NULL, 0), of_convert, place_of_convert), "without room");
+    CHECK(untouched(), "a refusal changed what was lent");
+}
+
+/* The form is read with these numbers. */
+static void reads_form(const bytes *form, uint64_t version, uint64_t kind, uint64_t time, uint64_t at, uint64_t len,
+                       uint64_t tags)
+{
+    const uint64_t wanted_numbers[] = {version, kind, time, at, len, tags};
+    lend();
+    kez_answer a = read_form(form->at, form->len);
+    CHECK(is(a, 0, 0), "%zu bytes: %d at %d", form->len, (int)a.refusal, (int)a.value);
+    CHECK(!memcmp(numbers, wanted_numbers, sizeof wanted_numbers), "%zu bytes have other numbers", form->len);
+}
+
+static void shows_text(const bytes *form, uint64_t tag, uint64_t element, uint64_t at, uint64_t len)
+{
+    lend();
+    CHECK(is(kez_pointer_element(form->at, form->len, tag, element, numbers, numbers + 1), 0, 0), "tag %d text %d",
+          (int)tag, (int)element);
+    CHECK(numbers[0] == at && numbers[1] == len, "tag %d text %d: at %d, length %d", (int)tag, (int)element,
+          (int)numbers[0], (int)numbers[1]);
+    CHECK(numbers[2] == UINT64_C(0xfeedfacecafe0002), "a number that was not lent changed");
+}
+
+/* There is no such text, and whether there is such a tag. */
+static void no_such_text(const bytes *form, uint64_t tag, uint64_t element, uint64_t refusal, uint64_t texts)
+{
+    lend();
+    CHECK(is(kez_pointer_element(form->at, form->len, tag, element, numbers, numbers + 1), 19, 0), "tag %d text %d",
+          (int)tag, (int)element);
+    CHECK(untouched(), "19 changed what was lent");
+    CHECK(is(kez_pointer_tag_len(form->at, form->len, tag), refusal, texts), "tag %d", (int)tag);
+}
+
+/* A piece of the vector's form: the bytes, and zeros to a multiple of 8. */
+static void put_piece(bytes *form, const void *part, size_t len)
+{
+    put(form, part, len);
+    fill(form, 0, (8 - len % 8) % 8);
+}
+
+/* The v0 of the vector, piece by piece (rule 18.14). */
+static void vector_form(bytes *form)
+{
+    static char hex[64];
+    form->len = 0;
+    put_word(form, 400 - 96);
+    fill(form, 0x11, 32);
+    put_word(form, 0);
+    put_word(form, UINT64_C(1720000000000));
+    put_word(form, pointer_to(0, 5));
+    put_word(form, pointer_to(8, 16));
+    put_piece(form, "hello", 5);
+    put_word(form, pointer_to(24, 24));
+    put_word(form, pointer_to(144, 16));
+    put_word(form, pointer_to(48, 1));
+    put_word(form, pointer_to(56, 64));
+    put_word(form, pointer_to(120, 23));
+    put_piece(form, "e", 1);
+    put_piece(form, memset(hex, 'a', 64), 64);
+    put_piece(form, "wss://relay.example.com", 23);
+    put_word(form, pointer_to(160, 1));
+    put_word(form, pointer_to(168, 64));
+    put_piece(form, "p", 1);
+    put_piece(form, memset(hex, 'b', 64), 64);
+    fill(form, 0x00, 32);
+    fill(form, 0x22, 64);
+}
+
+/* There and back, and what is shown of it; the same bytes as a v1. */
+static void pointer_forms(void)
+{
+    static bytes b, form, strict;
+    event(&b, 0, 0);
+    put_varint(&b, 0);
+    empty_form(&form, 0, 0, 0);
+    put_word_at(&form, KIND_AT, 0);
+    put_word_at(&form, TIME_AT, 0);
+    CHECK(form.len == KEZ_POINTER_LEAST && form.len == 168, "%zu", form.len);
+    writes_of(kez_pointer_write, &b, &form);
+    writes(kez_pointer_convert, &form, &b);
+    reads_form(&form, 0, 0, 0, DATA_AT, 0, 0);
+
+    vector_form(&form);
+    CHECK(form.len == 400, "%zu", form.len);
+    writes_of(kez_pointer_write, &vector, &form);
+    writes(kez_pointer_convert, &form, &vector);
+    for (uint64_t version = 0; version < 2; version++) {
+        put_header(&form, version);
+        reads_form(&form, version, 0, UINT64_C(1720000000000), DATA_AT, 5, 2);
+        shows_text(&form, 0, 0, DATA_AT + 48, 1);
+        shows_text(&form, 0, 1, DATA_AT + 56, 64);
+        shows_text(&form, 0, 2, DATA_AT + 120, 23);
+        shows_text(&form, 1, 0, DATA_AT + 160, 1);
+        shows_text(&form, 1, 1, DATA_AT + 168, 64);
+        no_such_text(&form, 0, 3, 0, 3);
+        no_such_text(&form, 1, 2, 0, 2);
+        no_such_text(&form, 1, UINT64_MAX, 0, 2);
+        no_such_text(&form, 2, 0, 19, 0);
+        no_such_text(&form, UINT64_C(1) << 61, 0, 19, 0);
+        no_such_text(&form, UINT64_MAX, 0, 19, 0);
+        CHECK(!memcmp(form.at + KEZ_POINTER_PUBKEY_AT, vector.at + KEZ_PUBKEY_AT, KEZ_PUBKEY_LEN), "pubkey");
+        CHECK(!memcmp(form.at + form.len - KEZ_POINTER_ID_FROM_END, vector.at, KEZ_ID_LEN), "id");
+        CHECK(!memcmp(form.at + form.len - KEZ_POINTER_SIG_FROM_END, vector.at + KEZ_SIG_AT, KEZ_SIG_LEN), "sig");
+    }
+    refuses(kez_pointer_convert, &form, 26, 0);
+
+    /* elements in other spellings: the form is that of the strict ones, and converts to those */
+    event(&b, 7, 65535);
+    strict = b;
+    PUT(&b, "\x01\x03\x04""ab\x01\x06""abc");
+    PUT(&strict, "\x01\x03\x03\xab\x00\x06""abc");
+    empty_form(&form, 0, 48, 0);
+    put_word_at(&form, KIND_AT, 65535);
+    put_word_at(&form, TIME_AT, 7000);
+    put_word_at(&form, TAGS_AT, pointer_to(0, 8));
+    put_word_at(&form, DATA_AT, pointer_to(8, 24));
+    put_word_at(&form, DATA_AT + 8, pointer_to(32, 2));
+    put_word_at(&form, DATA_AT + 16, pointer_to(40, 0));
+    put_word_at(&form, DATA_AT + 24, pointer_to(40, 3));
+    memcpy(form.at + DATA_AT + 32, "ab", 2);
+    memcpy(form.at + DATA_AT + 40, "abc", 3);
+    writes_of(kez_pointer_write, &b, &form);
+    writes_of(kez_pointer_write, &strict, &form);
+    writes(kez_pointer_convert, &form, &strict);
+}
+
+/* Each word of a form with a fault in it: what a v0 is refused with, and what a v1 is. */
+static void pointer_faults(void)
+{
+    /* one tag of two texts, `ab` and `xyz`, which is the content too; six bytes that nothing points to */
+    static const struct {
+        size_t at;
+        uint64_t word, of_v0, place, of_v1;
+    } faults[] = {
+        {0, 107 | UINT64_C(2) << 32, 26, 0, 26},      {0, 107 | UINT64_C(65535) << 32, 26, 0, 26},
+        {0, 107 | UINT64_C(1) << 48, 26, 0, 26},      {0, 107 | UINT64_C(1) << 63, 26, 0, 26},
+        {0, 106, 26, 0, 26},                          {0, 108, 26, 0, 26},
+        {0, 0, 26, 0, 26},                            {0, UINT64_MAX, 26, 0, 26},
+        {KIND_AT, 65536, 6, 40, 0},                   {KIND_AT, UINT64_MAX, 6, 40, 0},
+        {TIME_AT, 999, 28, 48, 0},                    {TIME_AT, 1001, 28, 48, 0},
+        {TIME_AT, (uint64_t)-1000, 28, 48, 0},        {TIME_AT, UINT64_C(1) << 63, 28, 48, 0},
+        {TIME_AT, INT64_MAX, 28, 48, 0},              {CONTENT_AT, UINT64_C(4) << 32, 27, 56, 27},
+        {CONTENT_AT, UINT64_C(32) << 32 | 4, 27, 56, 27}, {CONTENT_AT, UINT64_C(40) << 32, 27, 56, 27},
+        {CONTENT_AT, UINT64_MAX, 27, 56, 27},         {CONTENT_AT, UINT64_C(0xfffffff8) << 32 | 8, 27, 56, 27},
+        {CONTENT_AT, UINT64_C(24) << 32 | 3, 5, 96, 0},   {TAGS_AT, 9, 27, 64, 27},
+        {TAGS_AT, 7, 27, 64, 27},                     {TAGS_AT, UINT64_C(12) << 32 | 8, 27, 64, 27},
+        {DATA_AT, UINT64_C(8) << 32, 9, 72, 0},       {DATA_AT, UINT64_C(8) << 32 | 17, 27, 72, 27},
+        {DATA_AT, UINT64_C(24) << 32 | 16, 27, 72, 27},   {DATA_AT + 8, UINT64_C(24) << 32 | 3, 5, 96, 0},
+        {DATA_AT + 8, UINT64_C(25) << 32 | 1, 27, 80, 27}, {DATA_AT + 16, UINT64_C(32) << 32 | 4, 27, 88, 27},
+    };
+    static bytes form, changed;
+    for (uint64_t version = 0; version < 2; version++) {
+        empty_form(&form, version, 35, 0xff);
+        put_word_at(&form, CONTENT_AT, pointer_to(32, 3));
+        put_word_at(&form, TAGS_AT, pointer_to(0, 8));
+        put_word_at(&form, DATA_AT, pointer_to(8, 16));
+        put_word_at(&form, DATA_AT + 8, pointer_to(24, 2));
+        put_word_at(&form, DATA_AT + 16, pointer_to(32, 3));
+        memcpy(form.at + DATA_AT + 24, "ab", 2);
+        memcpy(form.at + DATA_AT + 32, "xyz", 3);
+        reads_form(&form, version, 1, 1000, DATA_AT + 32, 3, 1);
+        for (size_t i = 0; i < sizeof faults / sizeof *faults; i++) {
+            uint64_t refusal = version ? faults[i].of_v1 : faults[i].of_v0;
+            changed = form;
+            put_word_at(&changed, faults[i].at, faults[i].word);
+            if (refusal)
+                refused_form(&changed, refusal, faults[i].place);
+            else
+                CHECK(is(read_form(changed.at, changed.len), 0, 0), "v1, fault %zu", i);
+        }
+        /* what no fault is: an empty piece at the end, pieces that overlap, the last time and the last kind there is */
+        changed = form;
+        put_word_at(&changed, CONTENT_AT, pointer_to(32, 0));
+        put_word_at(&changed, DATA_AT + 8, pointer_to(0, 3));
+        put_word_at(&changed, TIME_AT, UINT64_C(9223372036854775000));
+        put_word_at(&changed, KIND_AT, 65535);
+        reads_form(&changed, version, 65535, UINT64_C(9223372036854775000), DATA_AT + 32, 0, 1);
+        /* cut and lengthened: the header's number is another */
+        for (changed = form; changed.len > 0; changed.len--)
+            if (changed.len != form.len)
+                refused_form(&changed, 26, 0);
+        changed = form;
+        fill(&changed, 0, 1);
+        refused_form(&changed, 26, 0);
+    }
+    /* fewer than 168 bytes, with a header that fits them */
+    empty_form(&form, 0, 0, 0);
+    for (form.len = 167; form.len >= 96; form.len--) {
+        put_header(&form, 0);
+        refused_form(&form, 26, 0);
+    }
+}
+
+/* The order of faults: of each two the one that is read first. */
+static void pointer_order(void)
+{
+    static bytes form;
+    empty_form(&form, 0, 8, 0xff);
+    static const struct {
+        size_t at;
+        uint64_t word, refusal, place;
+    } faults[] = {
+        {DATA_AT, UINT64_C(3) << 32, 27, 72}, {TAGS_AT, 8, 27, 72}, {CONTENT_AT, 8, 5, 72}, {TAGS_AT, 9, 5, 72},
+        {CONTENT_AT, 9, 27, 56}, {TIME_AT, 1, 28, 48}, {KIND_AT, 65536, 6, 40}, {0, 0, 26, 0},
+    };
+    CHECK(is(read_form(form.at, form.len), 0, 0), "nothing points to it yet");
+    for (size_t i = 0; i < sizeof faults / sizeof *faults; i++) {
+        put_word_at(&form, faults[i].at, faults[i].word);
+        if (i == 0)
+            CHECK(is(read_form(form.at, form.len), 0, 0), "a word that nothing points to");
+        else if (i == 2) /* the eight bytes of the content are a pointer, with ff in it */
+            form.at[DATA_AT + 7] = 0xff;
+        if (i)
+            refused_form(&form, faults[i].refusal, faults[i].place);
+    }
+    form.len = 0;
+    fill(&form, 0xff, 65537);
+    refused_form(&form, 1, 0);
+}
+
+/* So many tags that share one table of so many texts, which share one text of this length; the content is that too. */
+static void shared_form(bytes *form, uint64_t version, size_t tags, size_t texts, size_t len, uint8_t byte)
+{
+    size_t of_texts = 8 * tags, of_text = of_texts + 8 * texts;
+    empty_form(form, version, of_text + len, byte);
+    put_word_at(form, CONTENT_AT, pointer_to(of_text, len));
+    put_word_at(form, TAGS_AT, pointer_to(0, of_texts));
+    for (size_t i = 0; i < tags; i++)
+        put_word_at(form, DATA_AT + 8 * i, pointer_to(of_texts, 8 * texts));
+    for (size_t i = 0; i < texts; i++)
+        put_word_at(form, DATA_AT + of_texts + 8 * i, pointer_to(of_text, len));
+}
+
+/* Numbers of tags and of texts, lengths of the form and of what is written. */
+static void pointer_limits(void)
+{
+    static bytes form, b;
+    shared_form(&form, 0, 1000, 255, 0, 0);
+    reads_form(&form, 0, 1, 1000, DATA_AT + 8000 + 2040, 0, 1000);
+    shared_form(&form, 0, 1001, 1, 1, 'x');
+    refused_form(&form, 8, TAGS_AT);
+    shared_form(&form, 0, 2, 256, 1, 'x');
+    refused_form(&form, 8, DATA_AT);
+    shared_form(&form, 0, 2, 0, 0, 0);
+    refused_form(&form, 9, DATA_AT);
+    shared_form(&form, 1, 1001, 256, 1, 0xff);
+    reads_form(&form, 1, 1, 1000, DATA_AT + 8008 + 2048, 1, 1001);
+    no_such_text(&form, 1000, 256, 0, 256);
+    shared_form(&form, 1, 2, 0, 0, 0);
+    reads_form(&form, 1, 1, 1000, DATA_AT + 16, 0, 2);
+    no_such_text(&form, 1, 0, 0, 0);
+
+    /* the longest form, and one byte more */
+    empty_form(&form, 0, 65368, 'x');
+    CHECK(form.len == KEZ_POINTER_MOST, "%zu", form.len);
+    put_word_at(&form, CONTENT_AT, 65368);
+    put_word_at(&form, TAGS_AT, pointer_to(65368, 0));
+    event(&b, 1, 1);
+    b.len--;
+    put_varint(&b, 65368);
+    fill(&b, 'x', 65368);
+    put_varint(&b, 0);
+    writes_of(kez_pointer_write, &b, &form);
+    writes(kez_pointer_convert, &form, &b);
+    empty_form(&form, 0, 65369, 'x');
+    refused_form(&form, 1, 0);
+    /* an event whose v0 would be longer: it is 29, in either form, with room and without */
+    event(&b, 1, 1);
+    b.len--;
+    put_varint(&b, 65369);
+    fill(&b, 'x', 65369);
+    put_varint(&b, 0);
+    refuses_of(kez_pointer_write, &b, 29, 0);
+    /* 1,000 tags of eight texts, whose strict form is short */
+    event(&b, 1, 1);
+    put_varint(&b, 1000);
+    for (int i = 0; i < 1000; i++) {
+        put_varint(&b, 8);
+        fill(&b, 0, 8);
+    }
+    refuses_of(kez_pointer_write, &b, 29, 0);
+}
+
+/* Strict forms of just 65,536 bytes, and of one more: three texts of 16,000 bytes and one of the rest are one text. */
+static void shared_sizes(void)
+{
+    static bytes form, b;
+    for (size_t rest = 17389; rest < 17394; rest++) {
+        shared_form(&form, 0, 1, 4, 17400, 'x');
+        put_word_at(&form, CONTENT_AT, 0);
+        for (size_t i = 0; i < 4; i++)
+            put_word_at(&form, DATA_AT + 8 + 8 * i, pointer_to(40, i < 3 ? 16000 : rest));
+        event(&b, 1, 1);
+        PUT(&b, "\x01\x04");
+        for (size_t i = 0; i < 4; i++) {
+            put_varint(&b, 2 * (i < 3 ? 16000 : rest));
+            fill(&b, 'x', i < 3 ? 16000 : rest);
+        }
+        if (b.len <= KEZ_MOST)
+            writes(kez_pointer_convert, &form, &b);
+        else
+            refuses(kez_pointer_convert, &form, 29, 0);
+        CHECK(is(read_form(form.at, form.len), 0, 0), "%zu", b.len);
+        CHECK(b.len == KEZ_MOST - 17391 + rest, "%zu", b.len);
+    }
+}
+
+static double longest_of_ten(const bytes *form)
+{
+    double best = 1e9;
+    for (int i = 0; i < 10; i++) {
+        double start_of_calls = milliseconds();
+        read_form(form->at, form->len);
+        kez_pointer_tag_len(form->at, form->len, 999);
+        kez_pointer_element(form->at, form->len, 999, 254, numbers, numbers + 1);
+        kez_pointer_convert(form->at, form->len, room, sizeof room);
+        double took = (milliseconds() - start_of_calls) / 4;
+        best = took < best ? took : best;
+    }
+    return best;
+}
+
+/* As much shared as there can be: 255,000 texts that name 10^10 bytes, and 8,171 tags of 8,171 texts. A call that went
+ * through them all would take seconds or tens of milliseconds; the best of ten counts, as above. */
+static void worst_forms(void)
+{
+    static bytes form;
+    static const uint8_t fillings[] = {'x', 'a'};
+    for (int i = 0; i < 2; i++) {
+        shared_form(&form, 0, 1000, 255, 55000, fillings[i]);
+        reads_form(&form, 0, 1, 1000, DATA_AT + 10040, 55000, 1000);
+        shows_text(&form, 999, 254, DATA_AT + 10040, 55000);
+        refuses(kez_pointer_convert, &form, 29, 0);
+        double took = longest_of_ten(&form);
+        CHECK(took < 5, "%.1f ms for a call", took);
+    }
+    /* the last byte of the text is bad; the last pointer of the tag is */
+    form.at[DATA_AT + 10040 + 54999] = 0xc3;
+    refused_form(&form, 5, DATA_AT + 10040);
+    form.at[DATA_AT + 10040 + 54999] = 'a';
+    put_word_at(&form, CONTENT_AT, 0);
+    put_word_at(&form, DATA_AT + 10032, pointer_to(10040, 55001));
+    refused_form(&form, 27, DATA_AT + 10032);
+    /* the last tag has a text less, and another one that is bad */
+    put_word_at(&form, DATA_AT + 7992, pointer_to(10032, 8));
+    put_word_at(&form, DATA_AT + 10032, pointer_to(10040, 55000));
+    reads_form(&form, 0, 1, 1000, DATA_AT, 0, 1000);
+    no_such_text(&form, 999, 1, 0, 1);
+    put_word_at(&form, DATA_AT + 7992, pointer_to(10032, 12));
+    refused_form(&form, 27, DATA_AT + 7992);
+
+    empty_form(&form, 1, 65368, 0);
+    put_word_at(&form, TAGS_AT, 65368);
+    for (size_t i = 0; i < 8171; i++)
+        put_word_at(&form, DATA_AT + 8 * i, 65368);
+    reads_form(&form, 1, 1, 1000, DATA_AT, 0, 8171);
+    shows_text(&form, 8170, 8170, DATA_AT, 65368);
+    no_such_text(&form, 8170, 8171, 0, 8171);
+    double took = longest_of_ten(&form);
+    CHECK(took < 5, "%.1f ms for a call", took);
+    put_word_at(&form, DATA_AT + 65360, 65369);
+    refused_form(&form, 27, DATA_AT + 65360);
+}
+
+/* A text that the end of its piece cuts: what stands behind it is not looked at, in the data and behind it. */
+static void cut_texts(void)
+{
+    static const char text[] = "a\xc3\xa9\xe2\x82\xac\xf0\x9f\x98\x80z"; /* a, 2, 3 and 4 bytes, z */
+    static const int whole[] = {1, 1, 0, 1, 0, 0, 1, 0, 0, 0, 1, 1};
+    static bytes form, b;
+    for (size_t len = 0; len <= 11; len++)
+        for (size_t data = len; data <= 11; data += 11 - len ? 11 - len : 1) {
+            empty_form(&form, 0, data, 0);
+            memcpy(form.at + DATA_AT, text, 11); /* what the data has no room for starts the id */
+            put_word_at(&form, CONTENT_AT, len);
+            if (!whole[len]) {
+                refused_form(&form, 5, DATA_AT);
+                continue;
+            }
+            event(&b, 1, 1);
+            b.len--;
+            put_varint(&b, len);
+            put(&b, text, len);
+            put_varint(&b, 0);
+            memcpy(b.at, form.at + DATA_AT + data, 32);
+            writes(kez_pointer_convert, &form, &b);
+        }
+}
+
 int main(void)
 {
     make_vector();
@@ -2380,6 +2845,13 @@ int main(void)
     two_words();
     versioned_offers();
     versioned_string();
+    pointer_forms();
+    pointer_faults();
+    pointer_order();
+    pointer_limits();
+    shared_sizes();
+    worst_forms();
+    cut_texts();
     printf("%d passed, %d failed\n", passed, failed);
     return failed != 0;
 }

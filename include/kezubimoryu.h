@@ -1,5 +1,5 @@
-/* Kezubimoryu: Nostr events as notepack, its string form, canonical text, NSON and plain JSON; a table of current
- * records; SHA-256, and whether an event's id is that of its canonical text.
+/* Kezubimoryu: Nostr events as notepack, its string form, the pointer form, canonical text, NSON and plain JSON; a
+ * table of current records; SHA-256, and whether an event's id is that of its canonical text.
  *
  * The caller lends byte buffers and numbers to each entry for one call and keeps owning them. Any bytes may be passed
  * as input: every entry returns on every input, with a result or with a refusal.
@@ -50,8 +50,8 @@ extern "C" {
 
 /* The version of this header; the tool and the pkg-config file have it from here. As a number: 10,000 for a major
  * version, 100 for a minor one, 1 for a patch. */
-#define KEZ_VERSION "0.11.0"
-#define KEZ_VERSION_NUMBER 1100
+#define KEZ_VERSION "0.12.0"
+#define KEZ_VERSION_NUMBER 1200
 
 /* The version of the library that runs, as such a number. A host that was compiled with this header and runs with the
  * library of the same version has kez_version() == KEZ_VERSION_NUMBER. From 0.11.0 on most entries have one argument
@@ -72,7 +72,7 @@ uint64_t kez_version(void);
  * - Refusals come in this order: 1 if it has more than 65,536 bytes, the 01 counted; 2 at 0 if it has none; 25 at 0 if
  *   the first is not 01; then those that the bare bytes would have. Nothing behind the 01 is 2 at 1.
  * - Places count in the bytes that are given, the 01 included: those of refusals, of the content and of the elements.
- *   The value of refusal 11 is the length needed, as ever. 17, 19, 22 and 23 still have 0, and 34 a slot.
+ *   The value of refusal 11 is the length needed, as ever. 17, 19, 22, 23 and 29 still have 0, and 34 a slot.
  * - What is written in strict form, and what a table keeps, is bare, whichever form was given. A string form alone
  *   keeps the form.
  * Rules 12.8.4, 17. */
@@ -83,12 +83,14 @@ uint64_t kez_version(void);
  * JSON it was read from, so a buffer as long as the input is always enough for it; so it is for what a string form
  * holds. A canonical text is never longer than three times the packed bytes. NSON is never longer than KEZ_MOST. A
  * string form has nine bytes, or ten if it is versioned, and four for each three of the bytes that it holds, rounded
- * up. The versioned form has one byte more than the bare one. A host that passes buffers of these lengths never gets
- * refusal 11. The sizes below are enough for every input. Rules 3.7, 5.8, 6.14, 12.3.6, 14.1, 14.2, 17.10 and 17.13. */
+ * up. The versioned form has one byte more than the bare one. What a pointer form converts to may be longer than it,
+ * since its texts may be shared, and a pointer form than what it is written of; neither is longer than KEZ_MOST. A host
+ * that passes buffers of these lengths never gets refusal 11. The sizes below are enough for every input. Rules 3.7,
+ * 5.8, 6.14, 12.3.6, 14.1, 14.2, 17.10, 17.13, 18.13 and 18.15. */
 
 /* No accepted input is longer, but for a string form, of which the bytes that it holds are counted, and a piece of a
- * message that is hashed; nor is an event in strict form, nor NSON. Of a versioned event the 01 is counted. Rules 1.9,
- * 14.3, 14.6, 16.8 and 17.3. */
+ * message that is hashed; nor is an event in strict form, nor NSON, nor a pointer form. Of a versioned event the 01 is
+ * counted. Rules 1.9, 14.3, 14.6, 16.8, 17.3, 18.3, 18.13 and 18.15. */
 #define KEZ_MOST 65536
 
 /* No canonical text is longer: three bytes for each byte that was packed. Rule 5.8. */
@@ -109,12 +111,12 @@ uint64_t kez_version(void);
 
 /* What every entry but kez_version answers. Rules 12.1.2 to 12.1.8.
  * Success: refusal is 0, and value is what the entry's comment says.
- * Refusal: refusal is a number from 1 to 25, or 34 or 35, and value is the place in the input where the fault was
+ * Refusal: refusal is a number from 1 to 29, or 34 or 35, and value is the place in the input where the fault was
  * found, or the input's length if the fault is at its end. Rule 10.N says when refusal N is given, and its place.
- * Refusals 1, 17, 19, 20, 22, 23, 25 and 35 have no place of their own: value is then 0. With refusal 11, a lent buffer
- * that is too short, value is the length needed; 11 is given only if there is no other refusal, but for a hash's state
- * that is too short (kez_sha256_add). For the readers of string forms the places of 2 to 10 and of 24 are in the bytes
- * that the text holds. With refusal 34 value is the number of a slot.
+ * Refusals 1, 17, 19, 20, 22, 23, 25, 26, 29 and 35 have no place of their own: value is then 0. With refusal 11, a
+ * lent buffer that is too short, value is the length needed; 11 is given only if there is no other refusal, but for a
+ * hash's state that is too short (kez_sha256_add). For the readers of string forms the places of 2 to 10 and of 24 are
+ * in the bytes that the text holds. With refusal 34 value is the number of a slot.
  * So refusal alone tells whether the call succeeded. After a refusal every buffer and number that was passed still
  * holds what it held before the call. After success the bytes behind the written length are unchanged. */
 typedef struct {
@@ -250,6 +252,100 @@ kez_answer kez_notepack_string_read(const uint8_t *text, size_t text_len,
  * Rules 14.1, 14.4, 14.7, 17.12, 17.14 to 17.16; of the bytes 2.1 to 2.17 and 17.1 to 17.5. */
 kez_answer kez_notepack_string_read_versioned(const uint8_t *text, size_t text_len,
                                               uint8_t *out, size_t out_len);
+
+/* The pointer form: fields of fixed length, data, and pointers that say which bytes of the data are the content and the
+ * texts of tags. All numbers are little endian:
+ *     bytes 0 to 7     the header: four bytes how many bytes stand in front of the id, two the version, two 00
+ *     bytes 8 to 39    the pubkey
+ *     bytes 40 to 47   the kind
+ *     bytes 48 to 55   the time, in milliseconds since 1970, signed (two's complement)
+ *     bytes 56 to 63   a pointer to the content
+ *     bytes 64 to 71   a pointer to the table of the tags
+ *     from 72 on       the data; then the id, 32 bytes, and the sig, 64 bytes, at the end
+ * A pointer is four bytes a length, then four an offset from the data's start on, which is a multiple of 8. It names
+ * that piece of the data. The table of the tags has a pointer for each tag, to that tag's own table, which has one for
+ * each text. Pieces may be shared and may overlap, and what no pointer names is free.
+ *
+ * Version 0, v0 for short, is an event like any other: its texts are UTF-8, its kind, its tags and their texts are
+ * within the limits, its time is a whole second from 1970 on, and its id is that of its canonical text (which
+ * kez_id_belongs asks once it is converted). Version 1 has the same layout and none of these limits: any kind, any
+ * time, also a negative one, any number of tags and of texts in them, also none, and texts of any bytes. Its fields are
+ * shown and it is not converted, because its id is taken of other bytes: of all that stands in front of the id, and not
+ * of the canonical text.
+ *
+ * One text may be named many times over, so that a form of 65,536 bytes names up to 17 * 10^9 bytes of text, and a v1 up
+ * to 4.4 * 10^12. A host that goes through the tags of a v1, or copies out their texts, sets its own limit.
+ * Rules 12.9, 18. */
+
+/* Where the three fixed fields of a pointer form are: the pubkey so many bytes from its start on, the id and the sig so
+ * many before its end. Their lengths are those of KEZ_PUBKEY_LEN, KEZ_ID_LEN and KEZ_SIG_LEN. Every form that
+ * kez_pointer_read accepts has them there. Rule 18.1. */
+#define KEZ_POINTER_PUBKEY_AT 8
+#define KEZ_POINTER_ID_FROM_END 96
+#define KEZ_POINTER_SIG_FROM_END 64
+
+/* No pointer form is shorter, and no one that is written or accepted is longer. Rules 18.2, 18.3, 18.14 and 18.15. */
+#define KEZ_POINTER_LEAST 168
+#define KEZ_POINTER_MOST KEZ_MOST
+
+/* Reads a pointer form of either version and stores six numbers of it: the version, 0 or 1; the kind; the time in
+ * milliseconds, to be cast to int64_t; the place of the content in bytes, the content's length, and the number of tags.
+ * Refusals: 1; then 26 at 0 if the header or the length is not as above, or the version is above 1. Then, in this
+ * order, of a v0: 6 at 40 for the kind; 28 at 48 for a time that is negative or no whole second; 27 at 56 for the
+ * content's pointer, 5 at the content; 27 at 64 for the pointer to the tags, 8 at 64 if it names more than 1,000; then
+ * for each tag, each whole before the next: 27 at the pointer to its table, 8 there if it has more than 255 texts and 9
+ * if it has none, then for each text 27 at its pointer and 5 at the text. 27 is given where an offset is no multiple of
+ * 8, where a piece goes beyond the data, and where a table's length is not divisible by 8. Of a v1 only 1, 26 and 27.
+ * value: 0
+ * Cost: linear in bytes_len, however much is shared.
+ * Stack: some 40 KB, for what is known of the data while the call lasts.
+ * Rules 18.1 to 18.11, 12.9.1. */
+kez_answer kez_pointer_read(const uint8_t *bytes, size_t bytes_len,
+                            uint64_t *version, uint64_t *kind, uint64_t *milliseconds,
+                            uint64_t *content_at, uint64_t *content_len,
+                            uint64_t *tag_count);
+
+/* How many texts does this tag of a pointer form have?
+ * Refusals: those of kez_pointer_read; then 19 if there is no such tag.
+ * value: the number of texts, of a v0 1 to 255, of a v1 0 to 8,171
+ * Cost: linear in bytes_len, however much is shared, since each call reads the whole form.
+ * Stack: some 40 KB, as above.
+ * Rules 18.11; of the input 18.1 to 18.10. */
+kez_answer kez_pointer_tag_len(const uint8_t *bytes, size_t bytes_len, uint64_t tag);
+
+/* Finds one text of a tag of a pointer form. Stores its place in bytes and its length. The bytes there are the text; of
+ * a v1 they may be any.
+ * Refusals: those of kez_pointer_read; then 19 if there is no such tag or no such text in it.
+ * value: 0
+ * Cost: linear in bytes_len, however much is shared, since each call reads the whole form. To list many, convert a v0
+ * and call kez_notepack_elements.
+ * Stack: some 40 KB, as above.
+ * Rules 18.11; of the input 18.1 to 18.10. */
+kez_answer kez_pointer_element(const uint8_t *bytes, size_t bytes_len, uint64_t tag, uint64_t element,
+                               uint64_t *at, uint64_t *len);
+
+/* Writes the event of a v0 to out in bare strict form. Its created_at is the time in whole seconds. An out_len of
+ * KEZ_MOST is always enough; one of bytes_len need not be, since texts may be shared.
+ * Refusals: 1, then 26 as for kez_pointer_read; then 26 at 0 for a v1, before any field of it; then the others of
+ * kez_pointer_read; then 29 if the strict form would have more than 65,536 bytes; then 11.
+ * value: the length written
+ * Cost: linear in bytes_len and in the length that would be written, up to KEZ_POINTER_MOST, however much is shared.
+ * Stack: some 40 KB, as above.
+ * Rules 18.12, 18.13, 12.9.1, 12.9.4, 12.9.5; of the input 18.1 to 18.9; of what is written 3.1 to 3.3. */
+kez_answer kez_pointer_convert(const uint8_t *bytes, size_t bytes_len,
+                               uint8_t *out, size_t out_len);
+
+/* Writes a packed event to out as a v0: the content, the table of the tags, then for each tag its table and its texts,
+ * each filled with zeros to a multiple of 8; nothing is shared, and an empty piece is pointed to where it would stand.
+ * An event has exactly one such form, in whatever spelling it is packed. kez_pointer_convert gives its strict form
+ * back. An event without content and tags takes KEZ_POINTER_LEAST bytes. An out_len of KEZ_POINTER_MOST is always
+ * enough.
+ * Refusals: those of kez_notepack_read; then 29 if the v0 would have more than 65,536 bytes; then 11.
+ * value: the length written
+ * Cost: linear in packed_len and in the length written.
+ * Rules 18.1, 18.12, 18.14, 18.15, 12.9.2, 12.9.3, 12.9.5; of the input 2.1 to 2.17 and 17.1 to 17.5. */
+kez_answer kez_pointer_write(const uint8_t *packed, size_t packed_len, uint64_t bare,
+                             uint8_t *out, size_t out_len);
 
 /* Which of two packed events is to be kept? Two events are rivals, versions of one record, if both have a key and the
  * keys are equal. The key of kinds 0, 3 and 10000 to 19999 is author and kind; that of kinds 30000 to 39999 is author,
@@ -511,6 +607,14 @@ static inline const char *kez_refusal_text(uint64_t number)
     case 23: return "The table has no free slot for another event."; /* rule 10.23 */
     case 24: return "A varint is longer than its number needs."; /* rule 10.24 */
     case 25: return "The packed event is said to be versioned, and does not start with 01."; /* rule 10.25 */
+    case 26: /* rule 10.26 */
+        return "The header of the pointer form, or the length that it names, is not as it must be, "
+               "or version 1 is to be converted.";
+    case 27: /* rule 10.27 */
+        return "A pointer's offset is no multiple of 8, it leads out of the data, "
+               "or it names a table whose length is not divisible by 8.";
+    case 28: return "The time of a pointer form is negative, or is no whole second."; /* rule 10.28 */
+    case 29: return "What is to be written would be longer than 65,536 bytes."; /* rule 10.29 */
     case 34: /* rule 10.34 */
         return "The table is not as it must be: not of 64 slots and cells, "
                "or a used slot without a strict event to be kept, or with the name of another.";

@@ -34,6 +34,9 @@ static const char help[] =
     "                --versioned: notepack1_ and base64, of an event with 01 in front\n"
     "  from-letter   a string form as the packed event that it holds; --versioned: one that\n"
     "                starts with notepack1_\n"
+    "  to-pointer    a packed event as a pointer form, version 0 (v0)\n"
+    "  from-pointer  a v0 as a packed event; version 1 is not converted: its id is of other bytes\n"
+    "  show-pointer  the fields and texts of a pointer form, version 0 or 1, for people\n"
     "  canonical     the canonical text, over which the id is taken\n"
     "  check-id      is the id of a packed event the SHA-256 of its canonical text? 'belongs', or\n"
     "                'does not belong' and both: the id that stands there, and that of the text\n"
@@ -282,29 +285,44 @@ static unsigned hidden(const uint8_t *at, size_t len)
            (c >= 0x2066 && c <= 0x2069) ? c : 0;
 }
 
-/* A text in quotes, on one line whatever is in it. With --json it is a string of JSON. */
+/* How many bytes the character that starts here has; 0: there is none, and the byte is no UTF-8. */
+static size_t width(const uint8_t *at, size_t len)
+{
+    unsigned c = *at < 0x80 ? *at : character(at, len);
+    if (*at >= 0x80 && (!c || c > 0x10ffff || (c >= 0xd800 && c <= 0xdfff)))
+        return 0;
+    return c < 0x80 ? 1 : c < 0x800 ? 2 : c < 0x10000 ? 3 : 4;
+}
+
+/* A text in quotes, on one line whatever is in it. With --json it is a string of JSON. Bytes that are no UTF-8 stand
+ * in no event, but a pointer form of version 1 may have them. */
 static void put_quoted(const uint8_t *at, size_t len)
 {
     put_byte('"');
-    for (size_t i = 0; i < len; i++) {
+    for (size_t i = 0, step; i < len; i += step ? step : 1) {
         unsigned c = hidden(at + i, len - i);
-        if (c) {
+        step = width(at + i, len - i);
+        if (c)
             put("\\u%04x", c);
-            i += c < 0x800 ? 1 : 2;
-        } else if (at[i] == '"' || at[i] == '\\') {
+        else if (at[i] == '"' || at[i] == '\\')
             put("\\%c", at[i]);
-        } else if (at[i] < 0x20 || at[i] == 0x7f) {
+        else if (!step || at[i] < 0x20 || at[i] == 0x7f)
             put(json ? "\\u%04x" : "\\x%02x", at[i]);
-        } else {
-            put_byte(at[i]);
-        }
+        else
+            put_bytes(at + i, step);
     }
     put_byte('"');
 }
 
+/* A number of four bytes, as the library lists those of an element. */
+static uint32_t number_at(const uint8_t *at)
+{
+    return at[0] | (uint32_t)at[1] << 8 | (uint32_t)at[2] << 16 | (uint32_t)at[3] << 24;
+}
+
 /* Refusals. What the input is decides how its place is shown. HELD is what a string form holds, MOVED what is to get a
- * 01 in front or to lose it. */
-enum { PACKED, NSON, JSON, STRING, HELD, MOVED };
+ * 01 in front or to lose it, POINTER a pointer form. */
+enum { PACKED, NSON, JSON, STRING, HELD, MOVED, POINTER };
 
 /* What can be done about it, where the sentence alone does not say. */
 static const char *advice(uint64_t refusal, int input)
@@ -340,6 +358,13 @@ static const char *advice(uint64_t refusal, int input)
     case 25:
         return "A versioned record starts with 01, the only version there is. This is no record, or its first byte was "
                "lost or changed: ask for it anew.";
+    case 27: return "Either the tool that wrote it is wrong, or the form is damaged: ask for it anew.";
+    case 28: return "An event has whole seconds from 1970 on, so this is none, and nothing is rounded here.";
+    case 29:
+        return input == POINTER
+                   ? "Its tags share texts. In a packed event each text stands by itself, and all of them take more."
+                   : "A pointer form has eight bytes more for each text, and fills each up to eight. Send packed bytes "
+                     "instead.";
     default: return NULL;
     }
 }
@@ -705,9 +730,66 @@ static void tell_length(const bytes *b)
             kez_notepack_write(b->at, b->len, b->bare, NULL, 0).value);
 }
 
+/* Does the library read these bytes as a pointer form? */
+static int is_pointer_form(const bytes *b)
+{
+    uint64_t n[6];
+    return !kez_pointer_read(b->at, b->len, &n[0], &n[1], &n[2], &n[3], &n[4], &n[5]).refusal;
+}
+
+/* The version of a pointer form whose header is in order. */
+static unsigned version_of(const bytes *b)
+{
+    return b->at[4] | (unsigned)b->at[5] << 8;
+}
+
+/* What is wrong with a header, if it is not the version alone. */
+static int tell_header(const bytes *b)
+{
+    if (b->len < KEZ_POINTER_LEAST)
+        fprintf(stderr, "     A pointer form has at least %d bytes, and this has %zu.\n", KEZ_POINTER_LEAST, b->len);
+    else if (b->at[6] || b->at[7])
+        fprintf(stderr, "     Bytes 6 and 7 of its header are not 00.\n");
+    else if (version_of(b) > 1)
+        fprintf(stderr, "     Its header says version %u; there are 0 and 1 alone.\n", version_of(b));
+    else if ((uint64_t)number_at(b->at) + KEZ_POINTER_ID_FROM_END != b->len)
+        fprintf(stderr, "     Its header says %" PRIu64 " bytes in all, and it has %zu.\n",
+                (uint64_t)number_at(b->at) + KEZ_POINTER_ID_FROM_END, b->len);
+    else
+        return 0;
+    return 1;
+}
+
+/* What a fault in a pointer form is about: the header, a pointer, the time. */
+static void tell_form(const bytes *b, kez_answer a)
+{
+    const uint8_t *at = b->at + a.value;
+    if (a.refusal == 26 && !tell_header(b))
+        fprintf(stderr, "     It is of version 1.\n");
+    if (a.refusal == 27)
+        fprintf(stderr, "     The pointer says %" PRIu32 " bytes from offset %" PRIu32 " on; the data has %zu.\n",
+                number_at(at), number_at(at + 4), b->len - KEZ_POINTER_LEAST);
+    if (a.refusal == 28)
+        fprintf(stderr, "     It says %" PRId64 " milliseconds since 1970.\n",
+                (int64_t)(number_at(at) | (uint64_t)number_at(at + 4) << 32));
+}
+
+/* What can be done about refusal 26. */
+static const char *form_advice(const bytes *b)
+{
+    if (is_pointer_form(b))
+        return "Its id is taken of its own bytes and not of the canonical text, so it is no packed event. show-pointer "
+               "shows what it says.";
+    if (is_packed(b, KEZ_BARE) || is_packed(b, KEZ_VERSIONED))
+        return "These bytes are a packed event, and no pointer form: to-pointer makes one of it.";
+    return "Was the whole form read, and nothing else? Hexadecimal digits need --hex.";
+}
+
 static void tell_lack(const bytes *b, kez_answer a, int input)
 {
     const char *name;
+    if (input == POINTER)
+        tell_form(b, a);
     if (a.refusal == 12 && input == NSON)
         tell_piece(a.value);
     if (input == HELD)
@@ -736,7 +818,8 @@ static void tell_lack(const bytes *b, kez_answer a, int input)
 /* Do these numbers have a place that shows something? */
 static int has_place(uint64_t refusal)
 {
-    return refusal != 1 && refusal != 11 && refusal != 17 && refusal != 19 && refusal != 22 && refusal != 23;
+    return refusal != 1 && refusal != 11 && refusal != 17 && refusal != 19 && refusal != 22 && refusal != 23 &&
+           refusal != 29;
 }
 
 /* The bytes around the place, and a mark below it: a text as it is, packed bytes as hex. */
@@ -761,7 +844,7 @@ static void show_place(const bytes *b, uint64_t place, int is_text)
  * refused alone; bytes that are read as they are said to be may be of the other form all the same. */
 static int reads_otherwise(const bytes *b, kez_answer a)
 {
-    return ((a.refusal >= 2 && a.refusal <= 10) || a.refusal >= 24) && is_packed(b, !b->bare);
+    return ((a.refusal >= 2 && a.refusal <= 10) || a.refusal == 24 || a.refusal == 25) && is_packed(b, !b->bare);
 }
 
 static const char *other_word(const bytes *b, int input)
@@ -793,6 +876,11 @@ static const char *what_to_do(const bytes *b, kez_answer a, int input)
         return "It starts with notepack_, as a string form does: from-letter reads these.";
     if (input != STRING && starts(b->at, b->len, KEZ_VERSIONED))
         return "It starts with notepack1_, as a string form does: from-letter --versioned reads these.";
+    if ((input == PACKED || input == MOVED) && is_pointer_form(b))
+        return version_of(b) ? "These bytes are a pointer form of version 1: show-pointer shows what it says."
+                             : "These bytes are a pointer form: from-pointer makes a packed event of it.";
+    if (a.refusal == 26)
+        return form_advice(b);
     return a.refusal == 21 ? string_advice(b, (size_t)a.value) : advice(a.refusal, input);
 }
 
@@ -833,12 +921,6 @@ static void put_text(const uint8_t *at, size_t len, int is_bytes)
     } else {
         put_quoted(at, len);
     }
-}
-
-/* One of the four numbers that the library lists of an element. */
-static uint32_t number_at(const uint8_t *at)
-{
-    return at[0] | (uint32_t)at[1] << 8 | (uint32_t)at[2] << 16 | (uint32_t)at[3] << 24;
 }
 
 /* The texts of all tags, with what stands before and behind a tag, and between two tags and two texts. */
@@ -980,6 +1062,51 @@ static int do_write_packed(packed_writer *entry, int to_text)
     return wrote(entry(first.at, first.len, first.bare, out, sizeof out), PACKED, to_text);
 }
 
+/* How much of the texts is shown: more than a form of which nothing is shared can have. */
+enum { SHOWN_TEXTS = 10000, SHOWN_BYTES = 4 * KEZ_MOST };
+
+/* The texts of a tag of a pointer form, on one line; they are counted. 0: that was enough. */
+static int put_pointer_tag(uint64_t tag, uint64_t *texts, uint64_t *shown)
+{
+    uint64_t count = kez_pointer_tag_len(first.at, first.len, tag).value, at = 0, len = 0, i = 0;
+    put("tag %" PRIu64, tag);
+    for (; i < count && *texts < SHOWN_TEXTS && *shown < SHOWN_BYTES; i++) {
+        kez_pointer_element(first.at, first.len, tag, i, &at, &len);
+        put_byte(' ');
+        put_quoted(first.at + at, len);
+        ++*texts;
+        *shown += len;
+    }
+    put_byte('\n');
+    return i == count;
+}
+
+static int do_show_pointer(void)
+{
+    uint64_t version, kind, milliseconds, content_at, content_len, tags, texts = 0, shown = 0, tag = 0;
+    kez_answer a = kez_pointer_read(first.at, first.len, &version, &kind, &milliseconds, &content_at, &content_len,
+                                    &tags);
+    if (a.refusal)
+        return refused(&first, a, POINTER);
+    const uint8_t *end = first.at + first.len;
+    put("version %" PRIu64 "\nkind %" PRIu64 "\nmilliseconds %" PRId64 "\ncontent %" PRIu64 "\ntags %" PRIu64 "\n",
+        version, kind, (int64_t)milliseconds, content_len, tags);
+    put_named("id", end - KEZ_POINTER_ID_FROM_END, KEZ_ID_LEN);
+    put_named("pubkey", first.at + KEZ_POINTER_PUBKEY_AT, KEZ_PUBKEY_LEN);
+    put_named("sig", end - KEZ_POINTER_SIG_FROM_END, KEZ_SIG_LEN);
+    put("content ");
+    put_quoted(first.at + content_at, content_len);
+    put_byte('\n');
+    while (tag < tags && put_pointer_tag(tag, &texts, &shown))
+        tag++;
+    if (tag < tags) {
+        written(!fflush(stdout));
+        fprintf(stderr, "kez: its tags share texts, and name more than is shown: it ends in tag %" PRIu64 " of %" PRIu64
+                        "\n", tag, tags);
+    }
+    return ACCEPTED;
+}
+
 /* The bytes that base64 without a fault holds; their number. */
 static size_t decode(const uint8_t *at, size_t len, uint8_t *to)
 {
@@ -1016,6 +1143,8 @@ static int do_to_bare(void)
 static int do_pack(void) { return do_write_packed(kez_notepack_write, 0); }
 static int do_to_versioned(void) { return do_write(kez_versioned_from_bare, MOVED); }
 static int do_to_string(void) { return do_write_packed(kez_notepack_string_write, 1); }
+static int do_to_pointer(void) { return do_write_packed(kez_pointer_write, 0); }
+static int do_from_pointer(void) { return do_write(kez_pointer_convert, POINTER); }
 static int do_canonical(void) { return do_write_packed(kez_canonical_write, 1); }
 static int do_to_nson(void) { return do_write_packed(kez_nson_write, 1); }
 static int do_from_nson(void) { return do_write(kez_nson_read, NSON); }
@@ -1435,6 +1564,9 @@ static const command commands[] = {
     {"to-letter", 1, do_to_string}, {"from-letter", 1, do_from_string},   {"check-id", 1, do_check_id},
     {"to-nson", 1, do_to_nson},     {"from-nson", 1, do_from_nson},       {"from-json", 1, do_from_json},
     {"both", 1, do_both},           {"keep", 2, do_keep},                 {"table", INT_MAX, do_table},
+    {"to-pointer", 1, do_to_pointer},
+    {"from-pointer", 1, do_from_pointer},
+    {"show-pointer", 1, do_show_pointer},
 };
 
 static const command *find(const char *name)
@@ -1449,7 +1581,7 @@ static const command *find(const char *name)
 static int takes_forms(const command *c)
 {
     return c->run != do_to_bare && c->run != do_to_versioned && c->run != do_from_nson && c->run != do_from_json &&
-           c->run != do_both;
+           c->run != do_both && c->run != do_from_pointer && c->run != do_show_pointer;
 }
 
 /* What is said of the packed events that are read; 0: it can't be said of these. */

@@ -403,19 +403,114 @@ static void make_long(record *r)
     r->content = (text){filled, 65536 - 300 + draw(330)};
 }
 
+/* Pointer forms */
+
+static void set_word(input *to, size_t at, uint64_t word)
+{
+    for (int i = 0; i < 8 && at < to->len; i++, at++, word >>= 8)
+        to->at[at] = (uint8_t)word;
+}
+
+enum { DATA_AT = 72, BEHIND = 96 };
+
+/* The header for as many bytes as there are. */
+static void set_header(input *to, uint64_t version)
+{
+    set_word(to, 0, version << 32 | (to->len - BEHIND));
+}
+
+/* A piece at the next multiple of 8, now and then one further on; what stands in front of it is not always zero. Gives
+ * the pointer to it. */
+static uint64_t put_piece(input *to, const uint8_t *at, size_t len)
+{
+    for (uint64_t gap = percent(5) ? 8 : 0; to->len % 8 || gap; gap -= gap > 0)
+        put_byte(to, percent(90) ? 0 : 0xff);
+    uint64_t offset = to->len - DATA_AT;
+    put(to, at, len);
+    return offset << 32 | len;
+}
+
+static uint64_t put_table(input *to, const uint64_t *pointers, int count)
+{
+    static input table;
+    table.len = 8 * (size_t)count;
+    for (int i = 0; i < count; i++)
+        set_word(&table, 8 * (size_t)i, pointers[i]);
+    return put_piece(to, table.at, table.len);
+}
+
+/* So many tags that are one table, of so many texts that are one: as many as may be, or one more, and more bytes than
+ * could be gone through one after the other. */
+static void put_shared(input *to, uint64_t *tags)
+{
+    static const uint64_t counts[] = {1, 2, 255, 256, 999, 1000, 1001};
+    uint64_t texts = counts[draw(4)], count = counts[draw(7)], len = draw(4) ? draw(300) : draw(54000);
+    uint64_t of_tags = to->len - DATA_AT, of_texts = of_tags + 8 * count, of_text = of_texts + 8 * texts;
+    for (uint64_t i = 0; i < count + texts; i++)
+        put(to, (uint8_t[8]){0}, 8);
+    for (uint64_t i = 0; i < count; i++)
+        set_word(to, DATA_AT + of_tags + 8 * i, of_texts << 32 | 8 * texts);
+    for (uint64_t i = 0; i < texts; i++)
+        set_word(to, DATA_AT + of_texts + 8 * i, of_text << 32 | len);
+    for (uint64_t i = 0; i < len; i++)
+        put_byte(to, "ab\xc3\xa9"[i % 4]);
+    *tags = of_tags << 32 | 8 * count;
+}
+
+/* A record as a pointer form, from the texts up to the tables; in some each text that was there before is shared. */
+static void put_pointers(input *to, const record *r)
+{
+    static const int64_t times[] = {0, 1, 999, 1000, 1720000000001, -1, -1000, INT64_MIN, INT64_MAX, INT64_MAX - 807};
+    uint64_t tags[TAGS], texts[TEXTS], version = percent(70) ? 0 : percent(95) ? 1 : draw(65536), shared = 0;
+    int shares = percent(50);
+    for (int i = 0; i < DATA_AT; i++)
+        put_byte(to, 0);
+    memcpy(to->at + 8, r->fixed + 32, 32);
+    set_word(to, 40, r->kind);
+    set_word(to, 48, percent(90) ? 1000 * r->created_at : (uint64_t)times[draw(sizeof times / sizeof *times)]);
+    set_word(to, 56, put_piece(to, r->content.at, r->content.len));
+    for (int i = 0; i < r->tags; i++) {
+        for (int j = 0; j < r->texts_in[i]; j++) {
+            texts[j] = shares && shared && percent(40) ? shared : put_piece(to, r->texts[i][j].at, r->texts[i][j].len);
+            shared = percent(50) ? texts[j] : shared;
+        }
+        tags[i] = i && shares && percent(20) ? tags[draw((uint64_t)i)] : put_table(to, texts, r->texts_in[i]);
+    }
+    uint64_t of_tags = put_table(to, tags, r->tags);
+    if (percent(1) && to->len < 1000) {
+        put_piece(to, to->at, 0); /* to a multiple of 8 */
+        put_shared(to, &of_tags);
+    }
+    set_word(to, 64, of_tags);
+    /* one word, or two, that point elsewhere */
+    for (uint64_t i = percent(30) ? 1 + draw(2) : 0; i && to->len >= DATA_AT + 8; i--) {
+        size_t words = (to->len - DATA_AT) / 8, at = percent(20) ? 56 + 8 * draw(2) : DATA_AT + 8 * draw(words);
+        uint64_t offset = percent(90) ? 8 * draw(words + 2) : draw(8 * words), len = draw(3) ? 8 * draw(4) : draw(40);
+        set_word(to, at, offset << 32 | len);
+    }
+    put(to, r->fixed, 32);
+    put(to, r->fixed + 64, 64);
+    set_header(to, version);
+}
+
 static void spell(input *to, const record *r)
 {
     to->len = 0;
-    switch (draw(11)) {
+    uint64_t sort = draw(13);
+    switch (sort) {
     case 0: case 1: put_nson(to, r); break;
     case 2: case 3: put_json(to, r); break;
     case 4: case 5: put_string(to, r); break;
     case 6: put_versioned(to, r); break;
+    case 7: case 8: put_pointers(to, r); break;
     default: put_packed(to, r); break;
     }
     if (percent(60))
         for (uint64_t i = 1 + draw(3); i; i--)
             damage(to);
+    /* a pointer form of another length has mostly a header for that */
+    if ((sort == 7 || sort == 8) && to->len >= DATA_AT + BEHIND && percent(80))
+        set_header(to, to->at[4]);
 }
 
 void generate(input *one, input *other)

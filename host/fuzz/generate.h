@@ -1,4 +1,4 @@
-/* Random inputs: records as packed bytes, string forms, NSON and JSON, true and damaged. */
+/* Random inputs: records as packed bytes, string forms, pointer forms, NSON and JSON, true and damaged. */
 #include <stddef.h>
 #include <stdint.h>
 

@@ -17,7 +17,8 @@
 enum {
     READ, STRICT, PACK, TAG_LEN, ELEMENT, ELEMENTS, CANONICAL, NSON_WRITE, NSON_READ, JSON_READ, READ_BOTH, RIVALS,
     STRING_WRITE, STRING_READ, TABLE_EMPTY, TABLE_OFFER, TABLE_SLOT, SHA256_START, SHA256_ADD, SHA256_FINISH,
-    ID_BELONGS, TO_VERSIONED, TO_BARE, STRING1_READ
+    ID_BELONGS, TO_VERSIONED, TO_BARE, STRING1_READ, POINTER_READ, POINTER_TAG_LEN, POINTER_ELEMENT, POINTER_CONVERT,
+    POINTER_WRITE
 };
 
 const char *const entry_names[ENTRIES] = {
@@ -25,7 +26,8 @@ const char *const entry_names[ENTRIES] = {
     "kez_notepack_elements", "kez_canonical_write", "kez_nson_write", "kez_nson_read", "kez_json_read", "kez_read_both",
     "kez_rivals", "kez_notepack_string_write", "kez_notepack_string_read", "kez_table_empty", "kez_table_offer",
     "kez_table_slot", "kez_sha256_start", "kez_sha256_add", "kez_sha256_finish", "kez_id_belongs",
-    "kez_versioned_from_bare", "kez_bare_from_versioned", "kez_notepack_string_read_versioned",
+    "kez_versioned_from_bare", "kez_bare_from_versioned", "kez_notepack_string_read_versioned", "kez_pointer_read",
+    "kez_pointer_tag_len", "kez_pointer_element", "kez_pointer_convert", "kez_pointer_write",
 };
 
 void (*answered)(int entry, uint64_t refusal, uint64_t value);
@@ -138,7 +140,8 @@ static void unchanged(const buffer *b, size_t written, const char *what)
 
 /* The refusals that the header allows each entry, one bit for each number. */
 enum { BARE_ONES = 0x7fe | 1 << 24, PACKED_ONES = BARE_ONES | 1 << 25 };
-enum { ROOM = 1 << 11, NO_SUCH = 1 << 19, NOT_CARRIED = 1 << 17 };
+enum { ROOM = 1 << 11, NO_SUCH = 1 << 19, NOT_CARRIED = 1 << 17, TOO_LONG_TO_WRITE = 1 << 29 };
+enum { POINTER_ONES = 1 << 1 | 1 << 5 | 1 << 6 | 1 << 8 | 1 << 9 | 1 << 26 | 1 << 27 | 1 << 28 };
 #define BAD_TABLE (UINT64_C(1) << 34)
 #define TOO_MUCH (UINT64_C(1) << 35)
 static const uint64_t allowed[ENTRIES] = {
@@ -166,6 +169,11 @@ static const uint64_t allowed[ENTRIES] = {
     [SHA256_ADD] = ROOM | TOO_MUCH,
     [SHA256_FINISH] = ROOM | TOO_MUCH,
     [ID_BELONGS] = PACKED_ONES,
+    [POINTER_READ] = POINTER_ONES,
+    [POINTER_TAG_LEN] = POINTER_ONES | NO_SUCH,
+    [POINTER_ELEMENT] = POINTER_ONES | NO_SUCH,
+    [POINTER_CONVERT] = POINTER_ONES | TOO_LONG_TO_WRITE | ROOM,
+    [POINTER_WRITE] = PACKED_ONES | TOO_LONG_TO_WRITE | ROOM,
 };
 
 /* No entry needs more room than this. */
@@ -213,6 +221,7 @@ AS_SAID(pack, kez_notepack_write)
 AS_SAID(write_canonical, kez_canonical_write)
 AS_SAID(write_nson, kez_nson_write)
 AS_SAID(write_string, kez_notepack_string_write)
+AS_SAID(write_pointer, kez_pointer_write)
 
 static kez_answer in_room(int entry, writer *call, size_t room)
 {
@@ -263,7 +272,7 @@ static void write_with(result *r, int entry, writer *call)
 
 /* Entries that leave numbers */
 
-enum { NUMBERS = 5 };
+enum { NUMBERS = 6 };
 static uint64_t numbers[NUMBERS];
 
 static void lend_numbers(int count)
@@ -528,6 +537,337 @@ static void string_written(const result *string)
     must(leaves(&again, strict_form.bytes, strict_form.answer.value), "does not read what the writer wrote");
 }
 
+static int is_strict(void);
+
+/* Pointer forms */
+
+enum { KIND_AT = 40, TIME_AT = 48, CONTENT_AT = 56, TAGS_AT = 64, DATA_AT = 72, BEHIND_DATA = KEZ_POINTER_ID_FROM_END };
+
+static uint64_t eight_bytes(const uint8_t *at)
+{
+    return four_bytes(at) | four_bytes(at + 4) << 32;
+}
+
+/* Bytes that are put together; what has no room is counted and not kept. */
+static void put(own *to, const uint8_t *part, size_t len)
+{
+    if (to->len <= SIZE && len <= SIZE - to->len)
+        memcpy(to->at + to->len, part, len);
+    to->len += len;
+}
+
+static void put_varint(own *to, uint64_t n)
+{
+    for (; n >= 0x80; n >>= 7)
+        put(to, &(uint8_t){(uint8_t)(n | 0x80)}, 1);
+    put(to, &(uint8_t){(uint8_t)n}, 1);
+}
+
+static int well_formed(const uint8_t *s, size_t len)
+{
+    static const uint32_t least[] = {0, 0x80, 0x800, 0x10000};
+    for (size_t i = 0; i < len;) {
+        uint32_t c = s[i++];
+        size_t more = c < 0x80 ? 0 : c < 0xe0 ? 1 : c < 0xf0 ? 2 : 3;
+        if ((c >= 0x80 && c < 0xc0) || c >= 0xf8 || len - i < more)
+            return 0;
+        c &= more ? 0x3fu >> more : 0x7f;
+        for (size_t j = 0; j < more; j++, i++) {
+            if ((s[i] & 0xc0) != 0x80)
+                return 0;
+            c = c << 6 | (s[i] & 0x3f);
+        }
+        if (c < least[more] || c > 0x10ffff || (c >= 0xd800 && c < 0xe000))
+            return 0;
+    }
+    return 1;
+}
+
+static int hex_value(uint8_t c)
+{
+    return c >= '0' && c <= '9' ? c - '0' : c >= 'a' && c <= 'f' ? c - 'a' + 10 : -1;
+}
+
+/* A text as an element of the strict form. */
+static void put_element(own *to, const uint8_t *text, size_t len)
+{
+    int hex = len && len % 2 == 0;
+    for (size_t i = 0; hex && i < len; i++)
+        hex = hex_value(text[i]) >= 0;
+    put_varint(to, hex ? len + 1 : 2 * len);
+    for (size_t i = 0; hex && i < len; i += 2)
+        put(to, &(uint8_t){(uint8_t)(hex_value(text[i]) << 4 | hex_value(text[i + 1]))}, 1);
+    if (!hex)
+        put(to, text, len);
+}
+
+/* A form that is read as it is laid out, field after field and text after text, whatever is shared: what reading
+ * answers, the version, and the strict form of the event. Where more is named than a million bytes, it gives up. */
+typedef struct {
+    const uint8_t *at;
+    size_t len, named;
+    uint64_t version;
+    kez_answer answer;
+    own strict;
+} form;
+
+static form laid_out;
+
+/* The piece that the pointer at this place names, if it is one; a table's length is divisible by 8. */
+static int named(form *f, size_t pointer, int table, size_t *at, size_t *len)
+{
+    uint64_t length = four_bytes(f->at + pointer), offset = four_bytes(f->at + pointer + 4);
+    int good = offset % 8 == 0 && offset + length <= f->len - BEHIND_DATA - DATA_AT && (!table || length % 8 == 0);
+    *at = DATA_AT + offset;
+    *len = length;
+    f->named += good ? length : 0;
+    if (!good)
+        f->answer = (kez_answer){27, pointer};
+    return good;
+}
+
+static int refused(form *f, int is_so, uint64_t refusal, uint64_t place)
+{
+    if (is_so)
+        f->answer = (kez_answer){refusal, place};
+    return is_so;
+}
+
+static int gives_up(const form *f)
+{
+    return f->named > 1000000;
+}
+
+/* The texts of a tag, one after the other. */
+static void read_texts(form *f, size_t table, size_t len)
+{
+    size_t at, text_len;
+    put_varint(&f->strict, len / 8);
+    for (size_t i = 0; i < len && !f->answer.refusal && !gives_up(f); i += 8)
+        if (named(f, table + i, 0, &at, &text_len) &&
+            !refused(f, !f->version && !well_formed(f->at + at, text_len), 5, at))
+            put_element(&f->strict, f->at + at, text_len);
+}
+
+static void read_laid_out(form *f)
+{
+    size_t at, len, tags, tags_len;
+    uint64_t kind = eight_bytes(f->at + KIND_AT);
+    int64_t time = (int64_t)eight_bytes(f->at + TIME_AT);
+    if (refused(f, !f->version && kind > 65535, 6, KIND_AT) ||
+        refused(f, !f->version && (time < 0 || time % 1000), 28, TIME_AT) || !named(f, CONTENT_AT, 0, &at, &len) ||
+        refused(f, !f->version && !well_formed(f->at + at, len), 5, at) || !named(f, TAGS_AT, 1, &tags, &tags_len) ||
+        refused(f, !f->version && tags_len > 8000, 8, TAGS_AT))
+        return;
+    put(&f->strict, f->at + f->len - KEZ_POINTER_ID_FROM_END, KEZ_ID_LEN);
+    put(&f->strict, f->at + KEZ_POINTER_PUBKEY_AT, KEZ_PUBKEY_LEN);
+    put(&f->strict, f->at + f->len - KEZ_POINTER_SIG_FROM_END, KEZ_SIG_LEN);
+    put_varint(&f->strict, (uint64_t)(time / 1000));
+    put_varint(&f->strict, kind);
+    put_varint(&f->strict, len);
+    put(&f->strict, f->at + at, len);
+    put_varint(&f->strict, tags_len / 8);
+    for (size_t i = 0; i < tags_len && !f->answer.refusal && !gives_up(f); i += 8)
+        if (named(f, tags + i, 1, &at, &len) && !refused(f, !f->version && len > 8 * 255, 8, tags + i) &&
+            !refused(f, !f->version && !len, 9, tags + i))
+            read_texts(f, at, len);
+}
+
+/* What is foretold of these bytes. */
+static void foretell(const uint8_t *data, size_t len)
+{
+    form *f = &laid_out;
+    uint64_t header = len < KEZ_POINTER_LEAST ? 0 : eight_bytes(data);
+    f->at = data;
+    f->len = len;
+    f->named = f->strict.len = 0;
+    f->answer = (kez_answer){0, 0};
+    f->version = header >> 32;
+    if (refused(f, len > KEZ_MOST, 1, 0) ||
+        refused(f, len < KEZ_POINTER_LEAST || f->version > 1 || (header & 0xffffffff) != len - BEHIND_DATA, 26, 0))
+        return;
+    read_laid_out(f);
+}
+
+static kez_answer read_form(void)
+{
+    current = POINTER_READ;
+    lend_numbers(6);
+    kez_answer a = checked(kez_pointer_read(lent(&in_first), in_first.len, number(0), number(1), number(2), number(3),
+                                            number(4), number(5)));
+    take_numbers(a, 6);
+    return a;
+}
+
+/* A piece that is shown is the one that the pointer names. */
+static void must_be_named(const uint8_t *data, size_t pointer, uint64_t at, uint64_t len)
+{
+    must(at == DATA_AT + four_bytes(data + pointer + 4) && len == four_bytes(data + pointer), "shows another piece");
+    must(at <= in_first.len - BEHIND_DATA && len <= in_first.len - BEHIND_DATA - at, "shows a piece outside the data");
+}
+
+/* A tag and a text of it: as the tables have them, or 19, or what the reader refuses. */
+static void texts_of(const uint8_t *data, kez_answer read, uint64_t tags, uint64_t tags_at)
+{
+    uint64_t tag = roll(8) ? roll(tags + 2) : UINT64_MAX >> roll(62);
+    kez_answer none = {19, 0};
+    current = POINTER_TAG_LEN;
+    kez_answer count = checked(kez_pointer_tag_len(lent(&in_first), in_first.len, tag));
+    must(read.refusal ? same(count, read) : tag < tags ? !count.refusal : same(count, none), "disagrees with the reader");
+    uint64_t texts = count.refusal ? 1 : count.value, element = roll(8) ? roll(texts + 1) : UINT64_MAX >> roll(62);
+    if (!count.refusal)
+        must(8 * texts == four_bytes(data + tags_at + 8 * tag), "counts other texts than the tag's table has");
+    current = POINTER_ELEMENT;
+    lend_numbers(2);
+    kez_answer a = checked(kez_pointer_element(lent(&in_first), in_first.len, tag, element, number(0), number(1)));
+    take_numbers(a, 2);
+    must(count.refusal ? same(a, count) : element < texts ? !a.refusal : same(a, none), "disagrees with the tag's length");
+    if (!a.refusal)
+        must_be_named(data, DATA_AT + four_bytes(data + tags_at + 8 * tag + 4) + 8 * element, numbers[0], numbers[1]);
+}
+
+/* What is shown of a form stands in it. */
+static void must_show_form(const uint8_t *data)
+{
+    must(numbers[0] == four_bytes(data + 4), "shows another version");
+    must(numbers[1] == eight_bytes(data + KIND_AT), "shows another kind");
+    must(numbers[2] == eight_bytes(data + TIME_AT), "shows another time");
+    must(8 * numbers[5] == four_bytes(data + TAGS_AT), "counts other tags than their table has");
+    must_be_named(data, CONTENT_AT, numbers[3], numbers[4]);
+}
+
+/* What a v0 was converted to: strict bytes, which are written as a v0 that converts to them again. */
+static void must_stay(const result *converted)
+{
+    static result v0, back;
+    lend_input(&in_first, converted->bytes, converted->answer.value, first_copy);
+    must(is_strict() == 1, "does not take as strict what a v0 is converted to");
+    write_with(&v0, POINTER_WRITE, write_pointer);
+    if (v0.answer.refusal == 29)
+        return;
+    must(!v0.answer.refusal, "refuses what a v0 was converted to");
+    lend_input(&in_first, v0.bytes, v0.answer.value, first_copy);
+    write_with(&back, POINTER_CONVERT, kez_pointer_convert);
+    must(leaves(&back, converted->bytes, converted->answer.value), "is not converted back");
+}
+
+/* Any bytes as a pointer form. */
+static void as_pointers(const uint8_t *data, size_t len)
+{
+    static result converted;
+    form *f = &laid_out;
+    foretell(data, len);
+    lend_input(&in_first, data, len, first_copy);
+    kez_answer read = read_form();
+    must(gives_up(f) || same(read, f->answer), "answers otherwise than the form is laid out");
+    if (!read.refusal)
+        must_show_form(data);
+    uint64_t tags = read.refusal ? 0 : numbers[5];
+    uint64_t tags_at = read.refusal ? 0 : DATA_AT + four_bytes(data + TAGS_AT + 4);
+    for (int i = 0; i < 3; i++)
+        texts_of(data, read, tags, tags_at);
+    write_with(&converted, POINTER_CONVERT, kez_pointer_convert);
+    int is_v1 = read.refusal != 1 && read.refusal != 26 && data[4];
+    must(!is_v1 || same(converted.answer, (kez_answer){26, 0}), "converts a v1, or looks at a field of it");
+    must(is_v1 || !read.refusal || same(converted.answer, read), "refuses otherwise than the reader");
+    if (is_v1 || read.refusal)
+        return;
+    if (f->strict.len > KEZ_MOST)
+        must(same(converted.answer, (kez_answer){29, 0}), "converts to more than 65,536 bytes");
+    else
+        must(gives_up(f) || leaves(&converted, f->strict.at, f->strict.len), "converts to another event");
+    if (!converted.answer.refusal)
+        must_stay(&converted);
+}
+
+/* The v0 of a strict event, laid out by the harness. */
+
+static uint64_t take_varint(const uint8_t **at)
+{
+    uint64_t n = 0;
+    for (int i = 0;; i += 7) {
+        n |= (uint64_t)(**at & 0x7f) << i;
+        if (*(*at)++ < 0x80)
+            return n;
+    }
+}
+
+static void put_word(own *to, size_t at, uint64_t word)
+{
+    for (int i = 0; i < 8 && at < SIZE; i++, at++, word >>= 8)
+        to->at[at] = (uint8_t)word;
+}
+
+/* A piece of this length comes next, all of it zero, and is pointed to from there. Where it stands. */
+static size_t put_piece(own *to, size_t pointer, size_t len)
+{
+    size_t at = to->len, to_end = (len + 7) / 8 * 8;
+    put_word(to, pointer, (uint64_t)(at - DATA_AT) << 32 | len);
+    if (to->len <= SIZE && to_end <= SIZE - to->len)
+        memset(to->at + at, 0, to_end);
+    to->len += to_end;
+    return at;
+}
+
+/* A text, or the hex of raw bytes. */
+static void put_text(own *to, size_t pointer, const uint8_t *payload, size_t len, int raw)
+{
+    size_t at = put_piece(to, pointer, raw ? 2 * len : len);
+    for (size_t i = 0; i < len && to->len <= SIZE; i++) {
+        if (raw) {
+            to->at[at + 2 * i] = (uint8_t)"0123456789abcdef"[payload[i] >> 4];
+            to->at[at + 2 * i + 1] = (uint8_t)"0123456789abcdef"[payload[i] & 15];
+        } else {
+            to->at[at + i] = payload[i];
+        }
+    }
+}
+
+static void lay_out(own *to, const uint8_t *strict)
+{
+    const uint8_t *at = strict + 128;
+    memset(to->at, 0, DATA_AT);
+    to->len = DATA_AT;
+    memcpy(to->at + KEZ_POINTER_PUBKEY_AT, strict + KEZ_PUBKEY_AT, KEZ_PUBKEY_LEN);
+    put_word(to, TIME_AT, 1000 * take_varint(&at));
+    put_word(to, KIND_AT, take_varint(&at));
+    size_t len = take_varint(&at);
+    put_text(to, CONTENT_AT, at, len, 0);
+    at += len;
+    uint64_t tags = take_varint(&at);
+    size_t next_tag = put_piece(to, TAGS_AT, 8 * tags);
+    for (uint64_t i = 0; i < tags; i++, next_tag += 8) {
+        uint64_t texts = take_varint(&at);
+        size_t next = put_piece(to, next_tag, 8 * texts);
+        for (uint64_t j = 0; j < texts; j++, next += 8) {
+            uint64_t element = take_varint(&at);
+            put_text(to, next, at, element / 2, element % 2);
+            at += element / 2;
+        }
+    }
+    put_word(to, 0, to->len);
+    put(to, strict + KEZ_ID_AT, KEZ_ID_LEN);
+    put(to, strict + KEZ_SIG_AT, KEZ_SIG_LEN);
+}
+
+/* What was written of an event is the one v0 of its strict form, 29 is told exactly where that is too long, and it is
+ * converted back. */
+static void pointer_written(const result *v0)
+{
+    static own wanted;
+    current = POINTER_WRITE;
+    lay_out(&wanted, strict_form.bytes);
+    if (wanted.len > KEZ_MOST) {
+        must(same(v0->answer, (kez_answer){29, 0}), "writes a v0 of more than 65,536 bytes");
+        return;
+    }
+    must(leaves(v0, wanted.at, wanted.len), "does not lay out the event");
+    lend_input(&in_first, v0->bytes, v0->answer.value, first_copy);
+    write_with(&again, POINTER_CONVERT, kez_pointer_convert);
+    must(leaves(&again, strict_form.bytes, strict_form.answer.value), "does not convert what the writer wrote");
+    as_pointers(wanted.at, wanted.len);
+}
+
 static int is_strict(void)
 {
     current = STRICT;
@@ -606,11 +946,13 @@ static void as_packed(const uint8_t *data, size_t len)
     write_with(&canonical_text, CANONICAL, write_canonical);
     must(!read.refusal || same(read, canonical_text.answer), "refuses otherwise than the reader");
     must(read.refusal || canonical_text.answer.value <= 3 * len, "writes more than three times what was packed");
-    static result text, string;
+    static result text, string, v0;
     write_with(&text, NSON_WRITE, write_nson);
     must(!read.refusal || same(read, text.answer), "refuses otherwise than the reader");
     write_with(&string, STRING_WRITE, write_string);
     must(!read.refusal || same(read, string.answer), "refuses otherwise than the reader");
+    write_with(&v0, POINTER_WRITE, write_pointer);
+    must(!read.refusal || same(read, v0.answer), "refuses otherwise than the reader");
     as_string_of(data, len, read);
     identity(data, len, read);
     current = PACK;
@@ -637,6 +979,7 @@ static void as_packed(const uint8_t *data, size_t len)
     write_with(&again, CANONICAL, write_canonical);
     must(leaves(&again, canonical_text.bytes, canonical_text.answer.value), "has another text for the strict form");
     string_written(&string);
+    pointer_written(&v0);
     if (text.answer.refusal)
         return;
     lend_input(&in_first, text.bytes, text.answer.value, first_copy);
@@ -778,6 +1121,7 @@ static void as_versioned(const uint8_t *data, size_t len)
     writes_same(PACK, pack, data, len);
     writes_same(CANONICAL, write_canonical, data, len);
     writes_same(NSON_WRITE, write_nson, data, len);
+    writes_same(POINTER_WRITE, write_pointer, data, len);
     moves(data, len);
     versioned_string(data, len);
     said = KEZ_BARE;
@@ -1438,6 +1782,7 @@ void properties(const uint8_t *data, size_t len, const uint8_t *other, size_t ot
     as_packed(data, len);
     as_versioned(data, len);
     as_text(data, len);
+    as_pointers(data, len);
     read_string(data, len);
     said = KEZ_VERSIONED;
     read_string(data, len);

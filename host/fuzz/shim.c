@@ -298,6 +298,95 @@ WRITER(kez_notepack_string_read_versioned)
     kez_answer a = __real_kez_notepack_string_read_versioned(in, in_len, out, out_len);
     return a.refusal == 20 && shows(in, in_len) ? kez_notepack_string_read(in, in_len, out, out_len) : a;
 }
+#elif PLANTED >= 46 && PLANTED <= 49 /* of a pointer form that is read, see host/fuzz/planted */
+typedef kez_answer reads_form(const uint8_t *in, size_t in_len, uint64_t *version, uint64_t *kind,
+                              uint64_t *milliseconds, uint64_t *at, uint64_t *len, uint64_t *tags);
+reads_form __real_kez_pointer_read, __wrap_kez_pointer_read;
+kez_answer __wrap_kez_pointer_read(const uint8_t *in, size_t in_len, uint64_t *version, uint64_t *kind,
+                                   uint64_t *milliseconds, uint64_t *at, uint64_t *len, uint64_t *tags)
+{
+    kez_answer a = __real_kez_pointer_read(in, in_len, version, kind, milliseconds, at, len, tags);
+    int shown = shows(in, in_len);
+    /* the place is one in the data */
+    if (PLANTED == 46 && a.refusal == 27 && a.value >= 72 && shown)
+        a.value -= 72;
+    if (PLANTED == 47 && !a.refusal && shown)
+        *milliseconds = (uint64_t)((int64_t)*milliseconds / 1000);
+    if (PLANTED == 48 && a.refusal && shown)
+        *tags = 0;
+    /* the content's pointer is looked at first */
+    if (PLANTED == 49 && a.refusal == 28 && in[60] & 7)
+        a = (kez_answer){27, 56};
+    return a;
+}
+#elif PLANTED == 50 /* a text is shown with the filling behind it */
+typedef kez_answer shows_text(const uint8_t *in, size_t in_len, uint64_t tag, uint64_t element, uint64_t *at,
+                              uint64_t *len);
+shows_text __real_kez_pointer_element, __wrap_kez_pointer_element;
+kez_answer __wrap_kez_pointer_element(const uint8_t *in, size_t in_len, uint64_t tag, uint64_t element, uint64_t *at,
+                                      uint64_t *len)
+{
+    kez_answer a = __real_kez_pointer_element(in, in_len, tag, element, at, len);
+    if (!a.refusal && shows(in, in_len))
+        *len = (*len + 7) / 8 * 8;
+    return a;
+}
+#elif PLANTED == 51 /* a tag behind the last one is told as one without texts */
+typedef kez_answer counts_texts(const uint8_t *in, size_t in_len, uint64_t tag);
+counts_texts __real_kez_pointer_tag_len, __wrap_kez_pointer_tag_len;
+kez_answer __wrap_kez_pointer_tag_len(const uint8_t *in, size_t in_len, uint64_t tag)
+{
+    kez_answer a = __real_kez_pointer_tag_len(in, in_len, tag);
+    return a.refusal == 19 && shows(in, in_len) ? (kez_answer){0, 0} : a;
+}
+#elif PLANTED >= 52 && PLANTED <= 56 /* of a v0 that is converted, see host/fuzz/planted */
+WRITER(kez_pointer_convert)
+{
+    static uint8_t copy[KEZ_MOST];
+    int shown = in_len && shows(in, in_len), is_form = in_len >= KEZ_POINTER_LEAST && in_len <= KEZ_MOST;
+    for (size_t i = 0; is_form && i < in_len; i++)
+        copy[i] = in[i];
+    /* a v1 is taken for a v0 */
+    if (PLANTED == 52 && is_form && in[4] == 1) {
+        copy[4] = 0;
+        in = copy;
+    }
+    /* a time is cut to whole seconds */
+    if (PLANTED == 53 && is_form && !(in[55] & 0x80)) {
+        uint64_t time = 0;
+        for (int i = 55; i >= 48; i--)
+            time = time << 8 | in[i];
+        time -= time % 1000;
+        for (int i = 48; i < 56; i++, time >>= 8)
+            copy[i] = (uint8_t)time;
+        in = copy;
+    }
+    kez_answer a = __real_kez_pointer_convert(in, in_len, out, out_len);
+    if (PLANTED == 54 && !a.refusal && shown)
+        out[a.value - 1] ^= 1;
+    if (PLANTED == 55 && !a.refusal && a.value < out_len && shown)
+        out[a.value] ^= 1;
+    if (PLANTED == 56 && a.refusal && out_len && shown)
+        out[0] ^= 1;
+    return a;
+}
+#elif PLANTED >= 57 && PLANTED <= 59 /* of a v0 that is written, see host/fuzz/planted */
+PACKED_WRITER(kez_pointer_write)
+{
+    kez_answer a = __real_kez_pointer_write(in, in_len, bare, out, out_len);
+    if (!shows(in, in_len))
+        return a;
+    /* the last byte of the data, where that is filling */
+    if (PLANTED == 57 && !a.refusal && !out[a.value - 97])
+        out[a.value - 97] = ' ';
+    /* an event without content has its pointer there, and not where an empty piece would stand */
+    if (PLANTED == 58 && !a.refusal && a.value > KEZ_POINTER_LEAST)
+        out[60] += 8;
+    /* without the id and the sig */
+    if (PLANTED == 59 && a.refusal == 11)
+        a.value -= 96;
+    return a;
+}
 #elif PLANTED >= 9 /* a refusal of both readers is told as success; the length of what was written is one too many */
 typedef kez_answer both(const uint8_t *in, size_t in_len, uint8_t *first, size_t first_len, uint8_t *second, size_t second_len, uint64_t *written);
 both __real_kez_read_both, __wrap_kez_read_both;

@@ -33,6 +33,10 @@ pub const TOO_LONG_TO_KEEP: u8 = 22;
 pub const NO_FREE_SLOT: u8 = 23;
 pub const PADDED: u8 = 24;
 pub const NOT_VERSIONED: u8 = 25;
+pub const NOT_A_POINTER_FORM: u8 = 26;
+pub const BAD_POINTER: u8 = 27;
+pub const NOT_A_SECOND: u8 = 28;
+pub const TOO_LONG_TO_WRITE: u8 = 29;
 pub const BAD_TABLE: u8 = 34;
 pub const TOO_MUCH_TO_HASH: u8 = 35;
 
@@ -54,7 +58,12 @@ pub struct Out<'a> {
     rest: &'a mut [u8],
 }
 
-impl Out<'_> {
+impl<'a> Out<'a> {
+    /// All that is left, for a caller that fills it in another order.
+    pub fn whole(self) -> &'a mut [u8] {
+        self.rest
+    }
+
     #[inline]
     pub fn put(&mut self, part: &[u8]) {
         let (here, rest) = std::mem::take(&mut self.rest).split_at_mut(part.len());

@@ -4,7 +4,7 @@ use crate::answer::{Answer, Refusal};
 use crate::rivals::Choice;
 use crate::table::Offered;
 use crate::versioned::{self, Given};
-use crate::{both, canonical, hash, json, notepack, nson, rivals, string_form, table};
+use crate::{both, canonical, hash, json, notepack, nson, pointer, rivals, string_form, table};
 
 #[repr(C)]
 pub struct KezAnswer {
@@ -12,10 +12,10 @@ pub struct KezAnswer {
     value: u64,
 }
 
-/// 0.11.0: 10,000 for a major version, 100 for a minor one, 1 for a patch.
+/// 0.12.0: 10,000 for a major version, 100 for a minor one, 1 for a patch.
 #[no_mangle]
 pub extern "C" fn kez_version() -> u64 {
-    1100
+    1200
 }
 
 fn told(answer: Answer<u64>) -> KezAnswer {
@@ -141,6 +141,7 @@ writing!(kez_notepack_string_read, string_form::read);
 writing!(kez_notepack_string_read_versioned, string_form::read_versioned);
 writing!(kez_versioned_from_bare, versioned::from_bare);
 writing!(kez_bare_from_versioned, versioned::to_bare);
+writing!(kez_pointer_convert, pointer::convert);
 writing!(kez_sha256_finish, hash::finish);
 
 /// An entry that reads packed bytes and writes another lent buffer.
@@ -164,6 +165,57 @@ writing_packed!(kez_notepack_write, |packed: Given, out: &mut [u8]| packed.with(
 writing_packed!(kez_canonical_write, |packed: Given, out: &mut [u8]| packed.with(|s| canonical::write(s, out)));
 writing_packed!(kez_nson_write, |packed: Given, out: &mut [u8]| packed.with(|s| nson::write(s, out)));
 writing_packed!(kez_notepack_string_write, string_form::write);
+writing_packed!(kez_pointer_write, pointer::write);
+
+#[no_mangle]
+pub unsafe extern "C" fn kez_pointer_read(
+    bytes: *const u8,
+    bytes_len: usize,
+    version: *mut u64,
+    kind: *mut u64,
+    milliseconds: *mut u64,
+    content_at: *mut u64,
+    content_len: *mut u64,
+    tag_count: *mut u64,
+) -> KezAnswer {
+    let bytes = unsafe { lent(bytes, bytes_len) };
+    told(pointer::read(bytes).map(|form| {
+        unsafe {
+            *version = form.version;
+            *kind = form.kind;
+            *milliseconds = form.milliseconds as u64;
+            *content_at = form.content.start as u64;
+            *content_len = form.content.len() as u64;
+            *tag_count = form.tag_count();
+        }
+        0
+    }))
+}
+
+#[no_mangle]
+pub unsafe extern "C" fn kez_pointer_tag_len(bytes: *const u8, bytes_len: usize, tag: u64) -> KezAnswer {
+    let bytes = unsafe { lent(bytes, bytes_len) };
+    told(pointer::read(bytes).and_then(|form| form.tag_len(tag)))
+}
+
+#[no_mangle]
+pub unsafe extern "C" fn kez_pointer_element(
+    bytes: *const u8,
+    bytes_len: usize,
+    tag: u64,
+    element: u64,
+    at: *mut u64,
+    len: *mut u64,
+) -> KezAnswer {
+    let bytes = unsafe { lent(bytes, bytes_len) };
+    told(pointer::read(bytes).and_then(|form| form.element(tag, element)).map(|text| {
+        unsafe {
+            *at = text.start as u64;
+            *len = text.len() as u64;
+        }
+        0
+    }))
+}
 
 #[no_mangle]
 pub unsafe extern "C" fn kez_sha256_start(state: *mut u8, state_len: usize) -> KezAnswer {

@@ -41,20 +41,28 @@ impl Event<'_> {
         }
     }
 
-    /// The strict form into the lent buffer; its length.
-    pub fn leave(&self, out: &mut [u8]) -> Answer<usize> {
-        let numbers = [self.created_at, self.kind, self.content.len() as u64];
-        let needed = 128
-            + numbers.iter().map(|&n| varint_len(n)).sum::<usize>()
+    /// The numbers in front of the content.
+    fn numbers(&self) -> [u64; 3] {
+        [self.created_at, self.kind, self.content.len() as u64]
+    }
+
+    /// The length of the strict form.
+    pub fn strict_len(&self) -> usize {
+        128 + self.numbers().iter().map(|&n| varint_len(n)).sum::<usize>()
             + self.content.len()
             + varint_len(self.tags.len() as u64)
             + self.tags.iter().map(|&n| varint_len(n as u64)).sum::<usize>()
-            + self.texts.iter().map(|text| Text::plain(text).strict_len()).sum::<usize>();
+            + self.texts.iter().map(|text| Text::plain(text).strict_len()).sum::<usize>()
+    }
+
+    /// The strict form into the lent buffer; its length.
+    pub fn leave(&self, out: &mut [u8]) -> Answer<usize> {
+        let needed = self.strict_len();
         let mut out = room(out, needed)?;
         out.put(&self.id);
         out.put(&self.pubkey);
         out.put(&self.sig);
-        for n in numbers {
+        for n in self.numbers() {
             put_varint(&mut out, n);
         }
         out.put(&self.content);

@@ -11,6 +11,7 @@ pub mod hash;
 pub mod json;
 pub mod notepack;
 pub mod nson;
+pub mod pointer;
 pub mod rivals;
 pub mod sha256;
 pub mod string_form;

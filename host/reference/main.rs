@@ -8,7 +8,7 @@ use hash_session::HashSession;
 use reference::answer::{Answer, Refusal};
 use reference::rivals::{Choice, Which};
 use reference::versioned::{self, Given};
-use reference::{both, canonical, hash, json, notepack, nson, rivals, sha256, string_form};
+use reference::{both, canonical, hash, json, notepack, nson, pointer, rivals, sha256, string_form};
 use session::Session;
 use std::io::{self, BufRead, Write};
 
@@ -66,6 +66,20 @@ fn answer(line: &str) -> Option<String> {
             let listed = notepack::elements(s.given(), first, &mut out);
             told(listed.map(|count| format!("ok {count} {}", hex(&out[..count as usize * notepack::ELEMENT_BYTES]))))
         }
+        ["pointer_read", s] => told(pointer::read(&bytes(s)?).map(|form| {
+            let (time, content) = (form.milliseconds, &form.content);
+            let (at, length, tags) = (content.start, content.len(), form.tag_count());
+            format!("ok {} {} {time} {at} {length} {tags}", form.version, form.kind)
+        })),
+        ["pointer_tag", s, tag] => {
+            let (s, tag) = (bytes(s)?, number(tag)?);
+            told(pointer::read(&s).and_then(|form| form.tag_len(tag)).map(|count| format!("ok {count}")))
+        }
+        ["pointer_element", s, tag, element] => {
+            let (s, tag, element) = (bytes(s)?, number(tag)?, number(element)?);
+            let found = pointer::read(&s).and_then(|form| form.element(tag, element));
+            told(found.map(|text| format!("ok {} {}", text.start, text.len())))
+        }
         ["lister", s] => notepack::list(&bytes(s)?).replace('\n', "\\n"),
         ["rivals", first, second] => match rivals::choose(said(first)?.given(), said(second)?.given()) {
             Ok(Choice::NotRivals) => "not_rivals".into(),
@@ -118,6 +132,7 @@ fn writing(entry: &str) -> Option<Writing> {
         "string1_read" => string_form::read_versioned,
         "to_versioned" => versioned::from_bare,
         "to_bare" => versioned::to_bare,
+        "pointer_convert" => pointer::convert,
         _ => return None,
     })
 }
@@ -128,6 +143,7 @@ fn writing_packed(entry: &str) -> Option<WritingPacked> {
         "canonical" => |packed, out| packed.with(|s| canonical::write(s, out)),
         "nson_write" => |packed, out| packed.with(|s| nson::write(s, out)),
         "string_write" => string_form::write,
+        "pointer_write" => pointer::write,
         _ => return None,
     })
 }
@@ -185,6 +201,7 @@ fn bench(entry: &str, file: &str, calls: &str) -> bool {
         "strict" => Box::new(|s| notepack::is_strict(s).map(u64::from)),
         "id_belongs" => Box::new(|s| hash::id_belongs(s).map(u64::from)),
         "sha256" => Box::new(|s| Ok(sha256::digest(s)[0].into())),
+        "pointer_read" => Box::new(|s| pointer::read(s).map(|form| form.kind)),
         "elements" => Box::new(move |s| notepack::elements(Given::bare(s), 0, &mut out)),
         _ => match (writing(entry), writing_packed(entry)) {
             (Some(f), _) => Box::new(move |s| f(s, &mut out).map(|length| length as u64)),

@@ -163,6 +163,8 @@ pub fn run() -> bool {
     padded_numbers(&mut same);
     string_forms(&mut same);
     versioned_forms(&mut same);
+    pointer_forms(&mut same);
+    shared_pointer_forms(&mut same);
     tables(&mut same);
     bad_tables(&mut same);
     digests(&mut same);
@@ -340,6 +342,144 @@ fn versioned_forms(same: &mut impl FnMut(&str, String, String)) {
     same("two forms", rivals(format!("b:{}", hex(&bare)), format!("v:{}", hex(&later))), "second".into());
     same("two wrong words", rivals(format!("v:{}", hex(&bare)), "v:02".into()), "refused 25 0 1".into());
     same("the second's", rivals(format!("b:{}", hex(&bare)), format!("v:{}", hex(&bare))), "refused 25 0 2".into());
+}
+
+/// A pointer form with zeros for id, pubkey and sig, of kind 1 and of one second.
+fn form(version: u64, content: (u64, u64), tags: (u64, u64), data: &[u8]) -> Vec<u8> {
+    let mut s = ((72 + data.len() as u64) | version << 32).to_le_bytes().to_vec();
+    s.extend([0; 32]);
+    s.extend(words(&[1, 1_000]));
+    s.extend(words(&[content, tags].map(|(offset, length)| offset << 32 | length)));
+    [&s[..], data, &[0; 96]].concat()
+}
+
+fn words(all: &[u64]) -> Vec<u8> {
+    all.iter().flat_map(|word| word.to_le_bytes()).collect()
+}
+
+/// The form with eight bytes changed.
+fn with_word(form: &[u8], at: usize, word: u64) -> Vec<u8> {
+    let mut changed = form.to_vec();
+    changed[at..at + 8].copy_from_slice(&word.to_le_bytes());
+    changed
+}
+
+/// Pointer forms: there and back, each refusal at its place, and the order of these. Part 18.
+fn pointer_forms(same: &mut impl FnMut(&str, String, String)) {
+    let empty = packed(b"\0", b"\0\0\0");
+    let written = answer_bytes(&room("pointer_write", &empty));
+    same("nothing in it, length", written.len().to_string(), "168".into());
+    same("nothing in it", hex(&written), hex(&[&[72][..], &[0; 167]].concat()));
+    for s in [&empty, &vector(), &packed(b"\x01", b"\x01\x01a\x02\x02\0\x03\xab\x01\x02b")] {
+        let v0 = answer_bytes(&ask(format!("pointer_write {} 65536", hex(s))));
+        same("there and back", room("pointer_convert", &v0), left(s));
+        same("without room", ask(format!("pointer_convert {} 0", hex(&v0))), format!("refused 11 {}", s.len()));
+        let short = ask(format!("pointer_write v:{} {}", hex(&versioned(s)), v0.len() - 1));
+        same("versioned, without room", short, format!("refused 11 {}", v0.len()));
+    }
+    let hollow = packed(b"\0", b"\0\0\x01\x01\x01");
+    let v0 = answer_bytes(&room("pointer_write", &hollow));
+    same("an element of no bytes", room("pointer_convert", &v0), left(&packed(b"\0", b"\0\0\x01\x01\0")));
+
+    // one tag of two texts, `ab` and the content, and six bytes that nothing points to
+    let pointers = words(&[8 << 32 | 16, 24 << 32 | 2, 32 << 32 | 3]);
+    let data = [&pointers[..], b"ab", &[0xff; 6], b"xyz"].concat();
+    let good = form(0, (32, 3), (0, 8), &data);
+    let read = |s: &[u8]| ask(format!("pointer_read {}", hex(s)));
+    same("read", read(&good), "ok 0 1 1000 104 3 1".into());
+    same("tag", ask(format!("pointer_tag {} 0", hex(&good))), "ok 2".into());
+    same("no tag", ask(format!("pointer_tag {} 1", hex(&good))), "refused 19 0".into());
+    same("element", ask(format!("pointer_element {} 0 0", hex(&good))), "ok 96 2".into());
+    same("shared", ask(format!("pointer_element {} 0 1", hex(&good))), "ok 104 3".into());
+    same("no element", ask(format!("pointer_element {} 0 2", hex(&good))), "refused 19 0".into());
+    let converted = packed(b"\x01", b"\x01\x03xyz\x01\x02\x03\xab\x06xyz");
+    same("converted", room("pointer_convert", &good), left(&converted));
+    let v1 = form(1, (32, 3), (0, 8), &data);
+    same("a v1", read(&v1), "ok 1 1 1000 104 3 1".into());
+    for wrong in [v1.clone(), with_word(&v1, 56, 1 << 32)] {
+        same("a v1 converted", room("pointer_convert", &wrong), "refused 26 0".into());
+    }
+    for (at, word, of_v0, of_v1) in [
+        (0, 107 | 2 << 32, "refused 26 0", "refused 26 0"),
+        (0, 107 | 1 << 48, "refused 26 0", "refused 26 0"),
+        (0, 106, "refused 26 0", "refused 26 0"),
+        (40, 65_535, "ok 0 65535 1000 104 3 1", "ok 1 65535 1000 104 3 1"),
+        (40, 65_536, "refused 6 40", "ok 1 65536 1000 104 3 1"),
+        (40, u64::MAX, "refused 6 40", "ok 1 18446744073709551615 1000 104 3 1"),
+        (48, 999, "refused 28 48", "ok 1 1 999 104 3 1"),
+        (48, -1_000i64 as u64, "refused 28 48", "ok 1 1 -1000 104 3 1"),
+        (48, 1 << 63, "refused 28 48", "ok 1 1 -9223372036854775808 104 3 1"),
+        (48, 9_223_372_036_854_775_000, "ok 0 1 9223372036854775000 104 3 1", "ok 1 1 9223372036854775000 104 3 1"),
+        (56, 33 << 32 | 1, "refused 27 56", "refused 27 56"),
+        (56, 32 << 32 | 4, "refused 27 56", "refused 27 56"),
+        (56, 40 << 32, "refused 27 56", "refused 27 56"),
+        (56, 24 << 32 | 3, "refused 5 96", "ok 1 1 1000 96 3 1"),
+        (56, 32 << 32, "ok 0 1 1000 104 0 1", "ok 1 1 1000 104 0 1"),
+        (64, 9, "refused 27 64", "refused 27 64"),
+        (64, u64::MAX, "refused 27 64", "refused 27 64"),
+        (72, 8 << 32, "refused 9 72", "ok 1 1 1000 104 3 1"),
+        (72, 8 << 32 | 12, "refused 27 72", "refused 27 72"),
+        (88, 32 << 32 | 4, "refused 27 88", "refused 27 88"),
+        (88, 24 << 32 | 4, "refused 5 96", "ok 1 1 1000 104 3 1"),
+    ] {
+        same(&format!("{word:x} at {at}, v0"), read(&with_word(&good, at, word)), of_v0.into());
+        same(&format!("{word:x} at {at}, v1"), read(&with_word(&v1, at, word)), of_v1.into());
+    }
+    for length in [0, 8, 167] {
+        same("fewer than 168 bytes", read(&vec![0; length]), "refused 26 0".into());
+    }
+    for (count, wanted) in [(1_000, "ok 0 1 1000 72 0 1000"), (1_001, "refused 8 64")] {
+        let data = [words(&vec![8 * count << 32 | 8; count as usize]), words(&[0])].concat();
+        same(&format!("{count} tags"), read(&form(0, (0, 0), (0, 8 * count), &data)), wanted.into());
+    }
+    for (count, wanted) in [(255, "ok 0 1 1000 72 0 1"), (256, "refused 8 72")] {
+        let data = [words(&[8 << 32 | 8 * count]), words(&vec![0; count as usize])].concat();
+        same(&format!("{count} texts"), read(&form(0, (0, 0), (0, 8), &data)), wanted.into());
+    }
+    // the longest, and one longer
+    for (size, wanted) in [(65_368, "ok 0 1 1000 72 65368 0"), (65_369, "refused 1 0")] {
+        let long = form(0, (0, size), (size, 0), &vec![b'x'; size as usize]);
+        same(&format!("data of {size} bytes"), read(&long), wanted.into());
+        if size == 65_368 {
+            let back = answer_bytes(&ask(format!("pointer_convert {} 65536", hex(&long))));
+            same("the longest v0", ask(format!("pointer_write {} 65536", hex(&back))), left(&long));
+        }
+    }
+    let over = [&packed(b"\0", b"\0\xd9\xfe\x03")[..], &vec![b'x'; 65_369], b"\0"].concat();
+    same("no longer v0", ask(format!("pointer_write {} 0", hex(&over))), "refused 29 0".into());
+}
+
+/// Texts that tags share: answers as without sharing, 29 where the strict form is too long, and forms that name 10^10
+/// bytes. Rules 18.6 and 18.13.
+fn shared_pointer_forms(same: &mut impl FnMut(&str, String, String)) {
+    // so many tags of so many texts, each of which is the whole content
+    let shared = |version: u64, tags: u64, texts: u64, text: &[u8]| {
+        let (of_tags, of_texts, length) = (8 * tags, 8 * texts, text.len() as u64);
+        let mut data = words(&vec![of_tags << 32 | of_texts; tags as usize]);
+        data.extend(words(&vec![(of_tags + of_texts) << 32 | length; texts as usize]));
+        data.extend(text);
+        form(version, (of_tags + of_texts, length), (0, of_tags), &data)
+    };
+    let read = |s: &[u8]| ask(format!("pointer_read {}", hex(s)));
+    let convert = |s: &[u8]| ask(format!("pointer_convert {} 0", hex(s)));
+    // id, pubkey, sig, four small numbers, the content behind a length of two bytes, three texts behind words of three
+    let size = |text: &[u8]| convert(&shared(0, 1, 3, text));
+    for (length, wanted) in [(16_347, "refused 11 65531"), (16_348, "refused 11 65535"), (16_349, "refused 29 0")] {
+        same(&format!("three times {length}"), size(&vec![b'x'; length]), wanted.into());
+    }
+    let worst = shared(0, 1_000, 255, &[b'x'; 55_000]);
+    same("10^10 bytes, read", read(&worst), "ok 0 1 1000 10112 55000 1000".into());
+    same("10^10 bytes, converted", convert(&worst), "refused 29 0".into());
+    let mut ill = worst.clone();
+    ill[10_112 + 54_999] = 0xc3;
+    same("10^10 bytes, the last one bad", read(&ill), "refused 5 10112".into());
+    let last = with_word(&worst, 72 + 8 * 1_254, 10_040 << 32 | 55_001);
+    same("10^10 bytes, the last pointer", read(&last), "refused 27 10104".into());
+    let all = form(1, (0, 0), (0, 65_368), &words(&[65_368; 8_171]));
+    same("one table for all", read(&all), "ok 1 1 1000 72 0 8171".into());
+    same("one of its tags", ask(format!("pointer_tag {} 8170", hex(&all))), "ok 8171".into());
+    let but_one = with_word(&all, 72 + 8 * 8_170, 65_369);
+    same("one table for all but one", read(&but_one), "refused 27 65432".into());
 }
 
 /// A strict event by a number for each of id and author, with a label.

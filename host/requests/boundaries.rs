@@ -6,7 +6,7 @@ use crate::notepack::*;
 use crate::string_form::*;
 use crate::texts::*;
 use crate::versioned::{Form, FORMS};
-use crate::{firsts, hash, rooms, table, versioned, Requests, PACKED};
+use crate::{firsts, hash, pointer, rooms, table, versioned, Requests, PACKED};
 
 pub fn all(g: &mut Requests) {
     packed_boundaries(g);
@@ -23,6 +23,7 @@ pub fn all(g: &mut Requests) {
     rival_boundaries(g);
     versioned::boundaries(g);
     hash::boundaries(g);
+    pointer::boundaries(g);
     if g.has("table") {
         table::boundaries(g);
     }

@@ -7,7 +7,7 @@ use crate::notepack::*;
 use crate::string_form::*;
 use crate::texts::*;
 use crate::versioned::{Form, FORMS};
-use crate::{hash, Requests, PACKED};
+use crate::{hash, pointer, Requests, PACKED};
 
 /// Samples cut at every place; at every place a byte changed, put in or taken out.
 pub fn everywhere(g: &mut Requests) {
@@ -26,6 +26,9 @@ pub fn everywhere(g: &mut Requests) {
         let tokens = json_tokens(&mut g.dice, e);
         let json = joined(&mut g.dice, &tokens);
         damaged(g, &["json_read"], &json, e, &ODD_BYTES);
+    }
+    for (form, e) in pointer::samples(&mut g.dice) {
+        damaged(g, &pointer::POINTER, &form, &e, &ODD_BYTES);
     }
     if g.has("rivals") {
         let (a, b) = (strict(&Event { kind: 3, ..mixed() }), strict(&Event { kind: 3, ..mixed() }));
@@ -129,6 +132,10 @@ pub fn random(g: &mut Requests) {
         "json_read" => {
             let text = random_json(&mut g.dice, &e);
             g.any(&["json_read"], &text, &e);
+        }
+        "pointer_read" | "pointer_tag" | "pointer_element" | "pointer_convert" => {
+            let form = pointer::random_form(&mut g.dice, &e);
+            g.one(&kind, &form, &e);
         }
         "string_read" | "string1_read" => {
             let form = if kind == "string_read" { Form::Bare } else { Form::Versioned };

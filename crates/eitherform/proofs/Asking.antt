@@ -5,6 +5,7 @@ use mathlib.Core.Path.{_≡_, refl, sym, ap, _∙_}
 use mathlib.Core.Bool.{Bool}
 use mathlib.Core.List.{List}
 use lib.ListN.{length, drop}
+use lib.Dec.{leb}
 use Rattle.scan.specs.Choice.{pick, Answer, shown, refused}
 use Rattle.scan.proofs.Step.{pick-by}
 use Rattle.buffer.specs.Entry.{writes}
@@ -14,6 +15,8 @@ use Rattle.notepack.specs.inner.Numbers.{packedNumbers}
 use Rattle.nson.specs.Nson.{nson}
 use Rattle.nson.specs.inner.Decision.{carries}
 use Rattle.nson.specs.Entries.{carried}
+use Rattle.pointer.specs.Entries.{within65536}
+use Rattle.pointer.specs.Written.{pointerForm}
 use Rattle.versioned.specs.Versioned.{startOf, given}
 use Rattle.versioned.specs.inner.Moved.{isReaders, movedPlace, moved}
 use Rattle.versioned.proofs.Moving.{Other, another, Passes, given-start, given-none, entry-moved, written-other}
@@ -57,4 +60,15 @@ nson-passes d =
     record {
       refuses = λ n p. refl;
       answers = λ e. pick-by (λ (x : Answer Event). Other (writes nson x d)) (carries e) (λ _. written-other (nson e) d) (λ _. another refl);
+    }
+
+-- the writer of the pointer form: neither 29 nor 11 is one of them
+pub pointer-passes : (d : List ℕ) → Passes (λ (x : Answer Event). writes pointerForm (within65536 pointerForm x) d)
+unfolding isReaders
+pointer-passes d =
+    record {
+      refuses = λ n p. refl;
+      answers =
+          λ e.
+          pick-by (λ (x : Answer Event). Other (writes pointerForm x d)) (leb (length (pointerForm e)) 65_536) (λ _. written-other (pointerForm e) d) (λ _. another refl);
     }

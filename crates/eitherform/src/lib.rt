@@ -16,6 +16,8 @@ ghost use Rattle.strict.specs.inner.Answers.{strictRead};
 ghost use Rattle.canonical.specs.Canonical.{canonical};
 ghost use Rattle.nson.specs.Nson.{nson};
 ghost use Rattle.nson.specs.Entries.{carried};
+ghost use Rattle.pointer.specs.Entries.{within65536};
+ghost use Rattle.pointer.specs.Written.{pointerForm};
 ghost use Rattle.identity.specs.Identity.{belongs};
 ghost use Rattle.identity.specs.inner.Answers.{idRead};
 ghost use Rattle.table.specs.Offer.{outcomeOf, cellsAfter};
@@ -127,6 +129,20 @@ pub fn write_nson(s: &[u8], bare: bool, out: &mut [u8]) -> Writing
         StartRead::Refused(r) => Writing::Refused(r),
         StartRead::At(k) => {
             moved_writing(bare, nsonwrite::write_nson(versioned::from(s, k), out))
+        }
+    }
+}
+
+// The pointer form's v0.
+pub fn write_pointer(s: &[u8], bare: bool, out: &mut [u8]) -> Writing
+    ensures { λ r. ⌜ writing r ≡ writes pointerForm (within65536 pointerForm (given bare unpack (now (s .entry)))) (now (out .entry)) ⌝ }
+    ensures { λ _. ⌜ now (out .exit) ≡ leaves pointerForm (within65536 pointerForm (given bare unpack (now (s .entry)))) (now (out .entry)) ⌝ }
+{
+    let first = versioned::start(s, bare);
+    match first {
+        StartRead::Refused(r) => Writing::Refused(r),
+        StartRead::At(k) => {
+            moved_writing(bare, pointwrite::write_pointer(versioned::from(s, k), out))
         }
     }
 }

@@ -65,6 +65,14 @@ pub const TABLE_FULL: u8 = 23;
 pub const VARINT_PADDED: u8 = 24;
 // versioned form: another first byte than 01
 pub const NOT_VERSIONED: u8 = 25;
+// pointer form: its header or length; converting a v1
+pub const BAD_HEADER: u8 = 26;
+// pointer form: a pointer past the data or to no multiple of 8; a table whose length is not divisible by 8
+pub const BAD_POINTER: u8 = 27;
+// pointer form: a v0's time is negative or no whole second
+pub const SPLIT_SECOND: u8 = 28;
+// the form to be written would pass 65,536 bytes
+pub const FORM_TOO_LONG: u8 = 29;
 // table: another size, or a bad slot, which is the place
 pub const BAD_TABLE: u8 = 34;
 // hash: the message would have 2 to the power 61 bytes or more

@@ -34,6 +34,10 @@ use Rattle.nson.specs.inner.Decision.{carries}
 use Rattle.nson.specs.Entries.{carried}
 use Rattle.nson.proofs.Telling.{nson-tells}
 use Rattle.json.specs.Object.{readJson}
+use Rattle.pointer.specs.Entries.{within65536, convertible}
+use Rattle.pointer.specs.Written.{pointerForm}
+use Rattle.pointer.proofs.Telling.{form-tells}
+use Rattle.pointer.proofs.ViewTelling.{texts-tell, element-tells, convertible-tells}
 use Rattle.json.specs.inner.Numbers.{jsonNumbers}
 use Rattle.json.proofs.Telling.{json-tells}
 use Rattle.bothreaders.specs.Both.{Compared, compared, bothOf, firstOf, secondOf, both, bothFirst, bothSecond}
@@ -52,7 +56,7 @@ use Rattle.sha256bytes.proofs.Telling.{HashTells, shows, short, too-long, add-t
 use Rattle.identity.specs.Identity.{belongs}
 use Rattle.identity.proofs.Telling.{belongs-tells}
 use Rattle.kezubimoryu.specs.Entries.{outcomeNumber}
-use Rattle.kezubimoryu.specs.inner.Refusals.{Asks, Fills, too-short, FillsBoth, first-short, second-short, writerNumbers, hashNumbers, Refusals}
+use Rattle.kezubimoryu.specs.inner.Refusals.{Asks, Fills, too-short, FillsBoth, first-short, second-short, writerNumbers, formNumbers, hashNumbers, Refusals}
 
 -- a question of which only the answer's being there is told, or a number of it
 told : {A : Type 0} {P : A → Type 0} {numbers : List ℕ} (s : List ℕ) {r : Answer A} (f : A → ℕ) → Tells numbers (length s) P r
@@ -87,6 +91,16 @@ given-among false = refl
 carried-tells : (b : Bool) (s : List ℕ) → Tells (writerNumbers b) (length s) (λ (e : Event). Unit {0}) (carried (given b unpack s))
 carried-tells b s =
     then-tells _ (wider {a = givenNumbers b} (given-among b) (omega arith) (unpacks b s)) (λ e p. pick-tells (carries e) (λ t. value tt) (λ f. refusal refl (omega arith)))
+
+form-among : (b : Bool) → allAmong (givenNumbers b) (formNumbers b) ≡ true
+form-among true = refl
+form-among false = refl
+
+-- a form that would be too long is 29 at 0
+form-tells-given : (b : Bool) (s : List ℕ) → Tells (formNumbers b) (length s) (λ (e : Event). Unit {0}) (within65536 pointerForm (given b unpack s))
+form-tells-given b s =
+    then-tells _ (wider {a = givenNumbers b} (form-among b) (omega arith) (unpacks b s))
+    (λ e p. pick-tells (leb (length (pointerForm e)) 65_536) (λ t. value tt) (λ f. refusal refl (omega arith)))
 
 -- both readers: the plain JSON reader's refusals, or 11
 both-fills : (s d₁ d₂ : List ℕ) → FillsBoth jsonNumbers s d₁ d₂ (andThen (both s d₁ d₂) (λ (c : Compared). shown (c .which)))
@@ -241,6 +255,11 @@ entries-refuse =
       nson-write = λ b s d. fills s nson (carried (given b unpack s)) d (carried-tells b s);
       versioned-from-bare = λ s d. fills s withVersion (movable s) d (movable-tells s);
       bare-from-versioned = λ s d. fills s withoutVersion (accepted false s) d (accepted-tells false s);
+      pointer-read = λ s. told s (λ f. 0) (form-tells s);
+      pointer-tag-len = λ i s. asked s (texts-tell s i);
+      pointer-element = λ i j s. told s (λ p. 0) (element-tells s i j);
+      pointer-convert = λ s d. fills s pack (convertible s) d (convertible-tells s);
+      pointer-write = λ b s d. fills s pointerForm (within65536 pointerForm (given b unpack s)) d (form-tells-given b s);
       nson-read = λ s d. fills s pack (readNson s) d (nson-tells s);
       json-read = λ s d. fills s pack (readJson s) d (json-tells s);
       read-both = both-fills;
@@ -270,4 +289,6 @@ entries-refuse =
       view-not-0 = either-form givenViewNumbers refl refl;
       nson-not-0 = refl;
       json-not-0 = refl;
+      pointer-not-0 = (refl, refl);
+      form-not-0 = either-form formNumbers refl refl;
     }

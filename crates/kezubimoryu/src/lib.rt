@@ -7,6 +7,7 @@ use identity::IdRead;
 use notepack::CountRead;
 use notepack::ElementRead;
 use notepack::HeadRead;
+use pointread::OutlineRead;
 use rivals::Kept;
 use rivals::RivalsRead;
 use strict::StrictRead;
@@ -14,12 +15,14 @@ use tableoffer::Offering;
 use tableslot::SlotRead;
 ghost use mathlib.Core.Path.{_≡_};
 ghost use mathlib.Core.Bool.{true, false};
+ghost use lib.ListN.{length};
 ghost use Rattle.scan.specs.Choice.{pick, andThen, shown};
 ghost use Rattle.event.specs.Answers.{twoNumbers};
 ghost use Rattle.event.specs.inner.Told.{writing};
 ghost use Rattle.buffer.specs.Entry.{written, filled, writes, leaves};
 ghost use Rattle.notepack.specs.Strict.{pack};
 ghost use Rattle.notepack.specs.Unpack.{unpack};
+ghost use Rattle.notepack.specs.inner.Answers.{countRead};
 ghost use Rattle.elements.specs.Elements.{elementsTold, elementsLeft};
 ghost use Rattle.strict.specs.Strict.{strict};
 ghost use Rattle.strict.specs.inner.Answers.{strictRead};
@@ -28,6 +31,10 @@ ghost use Rattle.versioned.specs.Views.{numbersGiven, textsGiven, elementGiven}
 ghost use Rattle.versioned.specs.Moves.{versions, versionLeaves, bares, bareLeaves};
 ghost use Rattle.stringform.specs.StringForm.{eventString, readString, itself};
 ghost use Rattle.canonical.specs.Canonical.{canonical};
+ghost use Rattle.moment.specs.Moment.{wordOf};
+ghost use Rattle.pointer.specs.Pointer.{formAt};
+ghost use Rattle.pointer.specs.Entries.{pointerTexts, pointerElement, within65536, convertible};
+ghost use Rattle.pointer.specs.Written.{pointerForm};
 ghost use Rattle.nson.specs.Nson.{nson};
 ghost use Rattle.nson.specs.Entries.{nsonReads, nsonLeaves, carried};
 ghost use Rattle.json.specs.Entries.{jsonReads, jsonLeaves};
@@ -145,15 +152,21 @@ pub extern "C" fn kez_notepack_write(packed: &[u8], bare: u64, out: &mut [u8]) -
     written(eitherform::write_strict(packed, is_bare(bare), out))
 }
 
-#[no_mangle]
-pub extern "C" fn kez_notepack_tag_len(packed: &[u8], bare: u64, tag: u64) -> KezAnswer
-    ensures { λ a. ⌜ (a .refusal, a .value) ≡ twoNumbers (textsGiven (isBare bare) tag (now (packed .entry))) ⌝ }
+// How many, or the refusal.
+fn counted(found: CountRead) -> KezAnswer
+    ensures { λ a. ⌜ (a .refusal, a .value) ≡ twoNumbers (countRead found) ⌝ }
 {
-    let found = versioned::texts_in(packed, is_bare(bare), tag);
     match found {
         CountRead::Count(n) => shown(n),
         CountRead::Refused(r) => refused(r),
     }
+}
+
+#[no_mangle]
+pub extern "C" fn kez_notepack_tag_len(packed: &[u8], bare: u64, tag: u64) -> KezAnswer
+    ensures { λ a. ⌜ (a .refusal, a .value) ≡ twoNumbers (textsGiven (isBare bare) tag (now (packed .entry))) ⌝ }
+{
+    counted(versioned::texts_in(packed, is_bare(bare), tag))
 }
 
 #[no_mangle]
@@ -366,12 +379,93 @@ pub extern "C" fn kez_id_belongs(packed: &[u8], bare: u64) -> KezAnswer
     id_told(eitherform::id_belongs(packed, is_bare(bare)))
 }
 
+// What a pointer form shows. The milliseconds are the word that stands there, in two's complement.
+#[no_mangle]
+pub extern "C" fn kez_pointer_read(
+    bytes: &[u8],
+    version: &mut u64,
+    kind: &mut u64,
+    milliseconds: &mut u64,
+    content_at: &mut u64,
+    content_len: &mut u64,
+    tag_count: &mut u64,
+) -> KezAnswer
+    ensures { λ a. ⌜ (a .refusal, a .value) ≡ twoNumbers (ok (formAt (now (bytes .entry)))) ⌝ }
+    ensures { λ _. ⌜ now (version .exit) ≡ lent (formAt (now (bytes .entry))) (λ f. f .version) (now (version .entry)) ⌝ }
+    ensures { λ _. ⌜ now (kind .exit) ≡ lent (formAt (now (bytes .entry))) (λ f. f .kind) (now (kind .entry)) ⌝ }
+    ensures { λ _. ⌜ now (milliseconds .exit) ≡ lent (formAt (now (bytes .entry))) (λ f. wordOf (f .time)) (now (milliseconds .entry)) ⌝ }
+    ensures { λ _. ⌜ now («content_at» .exit) ≡ lent (formAt (now (bytes .entry))) (λ f. f .content .at) (now («content_at» .entry)) ⌝ }
+    ensures { λ _. ⌜ now («content_len» .exit) ≡ lent (formAt (now (bytes .entry))) (λ f. f .content .len) (now («content_len» .entry)) ⌝ }
+    ensures { λ _. ⌜ now («tag_count» .exit) ≡ lent (formAt (now (bytes .entry))) (λ f. length (f .tags)) (now («tag_count» .entry)) ⌝ }
+{
+    let found = pointread::read_form(bytes);
+    match found {
+        OutlineRead::Found(f) => {
+            let content = f.content;
+            *version = f.version;
+            *kind = f.kind;
+            *milliseconds = moment::word_of(f.time);
+            *content_at = content.at as u64;
+            *content_len = content.len as u64;
+            *tag_count = f.tag_count;
+            shown(0)
+        }
+        OutlineRead::Refused(r) => refused(r),
+    }
+}
+
+#[no_mangle]
+pub extern "C" fn kez_pointer_tag_len(bytes: &[u8], tag: u64) -> KezAnswer
+    ensures { λ a. ⌜ (a .refusal, a .value) ≡ twoNumbers (pointerTexts tag (now (bytes .entry))) ⌝ }
+{
+    counted(pointread::texts_in(bytes, tag))
+}
+
+#[no_mangle]
+pub extern "C" fn kez_pointer_element(
+    bytes: &[u8],
+    tag: u64,
+    element: u64,
+    at: &mut u64,
+    len: &mut u64,
+) -> KezAnswer
+    ensures { λ a. ⌜ (a .refusal, a .value) ≡ twoNumbers (ok (pointerElement tag element (now (bytes .entry)))) ⌝ }
+    ensures { λ _. ⌜ now (at .exit) ≡ lent (pointerElement tag element (now (bytes .entry))) (λ p. p .at) (now (at .entry)) ⌝ }
+    ensures { λ _. ⌜ now (len .exit) ≡ lent (pointerElement tag element (now (bytes .entry))) (λ p. p .len) (now (len .entry)) ⌝ }
+{
+    let found = pointread::find_element(bytes, tag, element);
+    match found {
+        ElementRead::Found(p) => {
+            *at = p.at as u64;
+            *len = p.len as u64;
+            shown(0)
+        }
+        ElementRead::Refused(r) => refused(r),
+    }
+}
+
+#[no_mangle]
+pub extern "C" fn kez_pointer_convert(bytes: &[u8], out: &mut [u8]) -> KezAnswer
+    ensures { λ a. ⌜ (a .refusal, a .value) ≡ twoNumbers (writes pack (convertible (now (bytes .entry))) (now (out .entry))) ⌝ }
+    ensures { λ _. ⌜ now (out .exit) ≡ leaves pack (convertible (now (bytes .entry))) (now (out .entry)) ⌝ }
+{
+    written(pointconvert::convert(bytes, out))
+}
+
+#[no_mangle]
+pub extern "C" fn kez_pointer_write(packed: &[u8], bare: u64, out: &mut [u8]) -> KezAnswer
+    ensures { λ a. ⌜ (a .refusal, a .value) ≡ twoNumbers (writes pointerForm (within65536 pointerForm (given (isBare bare) unpack (now (packed .entry)))) (now (out .entry))) ⌝ }
+    ensures { λ _. ⌜ now (out .exit) ≡ leaves pointerForm (within65536 pointerForm (given (isBare bare) unpack (now (packed .entry)))) (now (out .entry)) ⌝ }
+{
+    written(eitherform::write_pointer(packed, is_bare(bare), out))
+}
+
 // The version as one number: 10,000 for a major one, 100 for a minor one, 1 for a patch.
 #[no_mangle]
 pub extern "C" fn kez_version() -> u64
-    ensures { λ r. ⌜ r ≡ 1100 ⌝ }
+    ensures { λ r. ⌜ r ≡ 1200 ⌝ }
 {
-    1100
+    1200
 }
 
 fn outcome_number(o: Outcome) -> u64

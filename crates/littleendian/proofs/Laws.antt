@@ -1,13 +1,14 @@
 -- The laws of numbers as bytes: a number and its bytes determine each other, n bytes are a number below 256 ^ n.
 -- By induction on the bytes; each step is one division by 256.
 use Prim.Native.Nat.{ℕ, zero, suc, _+_, _*_, _-_, _/_, _%_, _≤_, _<_, _^_}
-use mathlib.Core.Path.{_≡_, refl, ap}
+use mathlib.Core.Path.{_≡_, refl, ap, _∙_}
 use mathlib.Core.List.{List, [], _∷_}
 use mathlib.Core.Logic.{dite}
 use native.Mathlib.Nat.{pow-succ'}
 use native.Mathlib.Omega.{arith}
 use native.Mathlib.Decide.{decLt}
 use lib.ListN.{length, take, drop}
+use lib.Seq.{getD-drop}
 use Rattle.scan.specs.Bytes.{none, also, IsBytes}
 use Rattle.scan.specs.Place.{byteAt}
 use Rattle.scan.proofs.Step.{rest-more, part-none, byte-none}
@@ -31,6 +32,14 @@ pub number-eight : (s : List ℕ)
 unfolding numberOf
 number-eight s =
     omega (arith, number-one 7 s 0, number-one 6 s 1, number-one 5 s 2, number-one 4 s 3, number-one 3 s 4, number-one 2 s 5, number-one 1 s 6, number-one 0 s 7)
+
+-- eight bytes from a place on
+pub number-eight-at : (s : List ℕ) (at : ℕ)
+    → numberOf (take 8 (drop at s)) ≡ byteAt s at + 256 * (byteAt s (at + 1) + 256 * (byteAt s (at + 2) + 256 * (byteAt s (at + 3) + 256 * (byteAt s (at + 4) + 256 * (byteAt s (at + 5) + 256 * (byteAt s (at + 6) + 256 * (byteAt s (at + 7) + 256 * 0)))))))
+number-eight-at s at =
+    let z : at + 0 ≡ at = omega arith in
+    number-eight (drop at s)
+    ∙ rw (getD-drop at s 0 0, getD-drop at s 1 0, getD-drop at s 2 0, getD-drop at s 3 0, getD-drop at s 4 0, getD-drop at s 5 0, getD-drop at s 6 0, getD-drop at s 7 0, z)
 
 -- so many bytes are a number below that power of 256: eight below 2 ^ 64, seven below 2 ^ 56
 pub number-most : (n : ℕ) (l : List ℕ) → IsBytes l → length l ≤ n → numberOf l < 256 ^ n

@@ -18,7 +18,8 @@ use Rattle.notepack.specs.Seen.{Seen}
 use Rattle.notepack.proofs.Sound.{sized-text, head-gives}
 use Rattle.notepack.proofs.Viewing.{packed-head, packed-apart}
 
-nth-map : {A B : Type 0} (f : A → B) (i : ℕ) (l : List A) → nth i (map f l) ≡ andThen (nth i l) (λ x. shown (f x))
+-- number i of a mapped list
+pub nth-map : {A B : Type 0} (f : A → B) (i : ℕ) (l : List A) → nth i (map f l) ≡ andThen (nth i l) (λ x. shown (f x))
 nth-map f i [] = refl
 nth-map f zero (x ∷ l) = refl
 nth-map f (suc i) (x ∷ l) = nth-map f i l

@@ -6,7 +6,7 @@ use mathlib.Core.Path.{_≡_, refl, sym, ap, _∙_}
 use mathlib.Core.Bool.{Bool, true, false}
 use mathlib.Core.List.{List, [], _∷_, map}
 use native.Mathlib.Omega.{arith}
-use lib.ListN.{length, take, drop}
+use lib.ListN.{length, take, drop, length-map}
 use Rattle.scan.specs.Choice.{Answer, shown, refused, andThen}
 use Rattle.scan.proofs.Many.{after, then-shown, shown-same}
 use Rattle.event.specs.inner.Tells.{Tells, value, refusal}
@@ -16,23 +16,13 @@ use Rattle.notepack.specs.declared.Head.{Head}
 use Rattle.notepack.specs.inner.Numbers.{packedNumbers}
 use Rattle.notepack.specs.Unpack.{bytesOf, Packed, packedAt}
 use Rattle.notepack.specs.Views.{numbersOf, nth, tagOf, textsIn, elementOf, view}
+use Rattle.notepack.proofs.Seen.{nth-map}
 use Rattle.notepack.proofs.Telling.{packed-tells, numbers-tells, element-of-tells}
 use Rattle.versioned.specs.Versioned.{startOf, behind}
 use Rattle.versioned.specs.Views.{movePart, moveHead, movePacked, packedGiven, numbersGiven, textsGiven, elementGiven, contentGiven}
 use Rattle.versioned.specs.inner.Moved.{isReaders, movedPlace, moved}
 use Rattle.versioned.proofs.Starting.{clash, refused-as, start-fits}
 use Rattle.versioned.proofs.Moving.{other-stays, moved-behind}
-
--- ---- lists of parts
-
-nth-map : {A B : Type 0} (f : A → B) (i : ℕ) (l : List A) → nth i (map f l) ≡ andThen (nth i l) (λ (x : A). shown (f x))
-nth-map f i [] = refl
-nth-map f zero (x ∷ l) = refl
-nth-map f (suc i) (x ∷ l) = nth-map f i l
-
-length-map : {A B : Type 0} (f : A → B) (l : List A) → length (map f l) ≡ length l
-length-map f [] = refl
-length-map f (x ∷ l) = ap suc (length-map f l)
 
 module _ (bare : Bool) where
   -- 19 is none of the reader's numbers
@@ -89,7 +79,7 @@ module _ (bare : Bool) where
           of : (a : Answer (List Part)) → moved bare a ≡ a
               → andThen (andThen a (λ (t : List Part). shown (map (movePart k) t))) (λ (t : List Part). shown (length t))
               ≡ moved bare (andThen a (λ (t : List Part). shown (length t)))
-          of (shown t) h = ap shown (length-map (movePart k) t)
+          of (shown t) h = ap shown (length-map t (movePart k))
           of (refused n p) h = let f : movedPlace bare n p ≡ p = cc in ap (λ (q : ℕ). refused n q) (sym f)
 
           go : (x : Answer Packed)

@@ -21,6 +21,10 @@ use Rattle.notepack.specs.inner.Numbers.{packedNumbers}
 use Rattle.versioned.specs.inner.Numbers.{givenNumbers, givenViewNumbers}
 use Rattle.stringform.specs.StringForm.{eventString, readString, itself}
 use Rattle.stringform.specs.inner.Numbers.{stringNumbers}
+use Rattle.pointer.specs.Pointer.{formAt}
+use Rattle.pointer.specs.Entries.{pointerTexts, pointerElement, within65536, convertible}
+use Rattle.pointer.specs.Written.{pointerForm}
+use Rattle.pointer.specs.inner.Numbers.{pointerNumbers, questionNumbers, convertingNumbers}
 use Rattle.canonical.specs.Canonical.{canonical}
 use Rattle.nson.specs.inner.Numbers.{nsonNumbers}
 use Rattle.nson.specs.Nson.{nson}
@@ -63,6 +67,10 @@ hashNumbers = 35 ∷ []
 abbrev pub writerNumbers : Bool → List ℕ
 writerNumbers b = 17 ∷ givenNumbers b
 
+-- what the writer of the pointer form adds: 29
+abbrev pub formNumbers : Bool → List ℕ
+formNumbers b = 29 ∷ givenNumbers b
+
 pub record Refusals : Type 0 where
   -- b says whether a packed input is bare: places count in the bytes given, and 25 is of a versioned one alone
   pub notepack-read : (b : Bool) (s : List ℕ) → Asks (givenNumbers b) s (ok (numbersGiven b s))
@@ -78,6 +86,12 @@ pub record Refusals : Type 0 where
   -- the moves
   pub versioned-from-bare : (s d : List ℕ) → Fills packedNumbers s d (versions s d)
   pub bare-from-versioned : (s d : List ℕ) → Fills (givenNumbers false) s d (bares s d)
+  -- the pointer form
+  pub pointer-read : (s : List ℕ) → Asks pointerNumbers s (ok (formAt s))
+  pub pointer-tag-len : (i : ℕ) (s : List ℕ) → Asks questionNumbers s (pointerTexts i s)
+  pub pointer-element : (i j : ℕ) (s : List ℕ) → Asks questionNumbers s (ok (pointerElement i j s))
+  pub pointer-convert : (s d : List ℕ) → Fills convertingNumbers s d (writes pack (convertible s) d)
+  pub pointer-write : (b : Bool) (s d : List ℕ) → Fills (formNumbers b) s d (writes pointerForm (within65536 pointerForm (given b unpack s)) d)
   pub nson-read : (s d : List ℕ) → Fills nsonNumbers s d (nsonReads s d)
   pub json-read : (s d : List ℕ) → Fills jsonNumbers s d (jsonReads s d)
   pub read-both : (s d₁ d₂ : List ℕ) → FillsBoth jsonNumbers s d₁ d₂ (andThen (both s d₁ d₂) (λ c. shown (c .which)))
@@ -114,3 +128,5 @@ pub record Refusals : Type 0 where
   pub view-not-0 : (b : Bool) → among (givenViewNumbers b) 0 ≡ false
   pub nson-not-0 : among nsonNumbers 0 ≡ false
   pub json-not-0 : among jsonNumbers 0 ≡ false
+  pub pointer-not-0 : (among questionNumbers 0 ≡ false) × (among convertingNumbers 0 ≡ false)
+  pub form-not-0 : (b : Bool) → among (formNumbers b) 0 ≡ false

@@ -1,0 +1,17 @@
+pub mod Items
+pub mod Pieces
+pub mod Again
+pub mod Telling
+pub mod ViewTelling
+pub mod Words
+pub mod Times
+pub mod Naming
+pub mod Complete
+pub mod Accepts
+pub mod Sound
+pub mod Shows
+pub mod Filled
+pub mod Writing
+pub mod Points
+pub mod Seen
+pub mod Theorems

@@ -1,0 +1,4 @@
+pub mod Times
+pub mod Lengths
+pub mod Turns
+pub mod Whole
