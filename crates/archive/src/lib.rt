@@ -1,4 +1,5 @@
 // What is kept of the events that are offered to a table: definitions and theorems, and the names of the outcomes.
+#![tactic(auto)]
 
 // What an offer comes to.
 #[derive(Drop)]

@@ -1,4 +1,6 @@
 // Base64 by RFC 4648, section 4, with no padding: characters and their six bits, bytes and texts.
+#![tactic(auto)]
+
 ghost use Rattle.std.specs.Prelude.{◌+◌, ◌*◌, ◌/◌, ◌%◌, ◌≤◌, min, ◌≡◌, length, take};
 ghost use Rattle.scan.specs.Place.{run_at};
 ghost use Rattle.scan.specs.inner.Blocks.{sum_of};

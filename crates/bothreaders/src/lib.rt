@@ -1,5 +1,7 @@
 // Both readers over one text: the plain JSON reader's refusal, or what it shows and whether the NSON reader shows the
 // same.
+#![tactic(auto)]
+
 ghost use Rattle.std.specs.Prelude.{◌≡◌, take};
 ghost use Rattle.scan.specs.Choice.{refused};
 ghost use Rattle.scan.specs.Compare.{same_bytes};

@@ -1,4 +1,6 @@
 // Bytes into a lent buffer. Every writer is total: it stores what there is room for and hands back the place behind it.
+#![tactic(auto)]
+
 ghost use Rattle.std.specs.Prelude.{◌+◌, ◌≤◌, ◌≡◌, [], ◌∷◌, length, take, drop, replicate};
 ghost use Rattle.buffer.specs.inner.Store.{Wrote};
 

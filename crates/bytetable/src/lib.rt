@@ -1,5 +1,7 @@
 // A table in two lent buffers of bytes, 1,024 of slots and 65,536 of cells: emptying, an offer, and the event
 // of a slot.
+#![tactic(auto)]
+
 ghost use Rattle.std.specs.Prelude.{◌≡◌};
 ghost use Rattle.event.specs.inner.Told.{writing};
 ghost use Rattle.table.specs.Offer.{outcome_of, cells_after};

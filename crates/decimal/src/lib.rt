@@ -1,4 +1,6 @@
 // Decimal numbers without leading zeros, written; and a run of digits read up to a maximum.
+#![tactic(auto)]
+
 ghost use Rattle.std.specs.Prelude.{◌+◌, ◌*◌, ◌≤◌, ◌≡◌, length, leb};
 ghost use Rattle.buffer.specs.inner.Store.{Wrote};
 ghost use Rattle.decimal.specs.Decimal.{decimal};

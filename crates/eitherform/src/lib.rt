@@ -1,5 +1,7 @@
 // A packed input of either form, bare or versioned, as the caller says: the strict question, the writers, the id
 // question, an offer to a table. Each asks the function for bare bytes and moves the place of its refusal.
+#![tactic(auto)]
+
 ghost use Rattle.std.specs.Prelude.{◌≡◌};
 ghost use Rattle.buffer.specs.Entry.{writes, leaves};
 ghost use Rattle.event.specs.inner.Told.{writing};

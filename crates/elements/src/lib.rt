@@ -1,4 +1,6 @@
 // All elements of a packed event in one pass: for each its tag's number, where its payload stands, and its b.
+#![tactic(auto)]
+
 ghost use Rattle.std.specs.Prelude.{min, ◌-◌, ◌≡◌, length, take, drop};
 ghost use Rattle.scan.specs.Choice.{pick};
 ghost use Rattle.buffer.specs.inner.Store.{Wrote};

@@ -1,4 +1,6 @@
 // The escapings of texts, in the canonical text and in NSON: how long an escaped text is, and the text.
+#![tactic(auto)]
+
 ghost use Rattle.std.specs.Prelude.{◌+◌, ◌*◌, ◌≤◌, ◌≡◌, length};
 ghost use Rattle.scan.specs.Choice.{pick};
 ghost use Rattle.buffer.specs.inner.Store.{Wrote};

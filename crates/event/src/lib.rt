@@ -1,4 +1,5 @@
 // What every reader and writer shares: how a refusal is told, and the limits (docs/RULES.md, parts 1 and 10).
+#![tactic(auto)]
 
 // A refusal returns its number and its place.
 #[derive(Drop)]

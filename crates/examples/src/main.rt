@@ -1,4 +1,6 @@
 // The checked examples of varints and elements (rule 12.4), run by the proved functions: each line is what was found.
+#![tactic(auto)]
+
 use libc::STDOUT_FILENO;
 use varint::{Cursor, VarintRead};
 

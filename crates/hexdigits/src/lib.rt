@@ -1,4 +1,6 @@
 // Lowercase hex: digits and values, bytes and texts.
+#![tactic(auto)]
+
 ghost use Rattle.std.specs.Prelude.{◌+◌, ◌*◌, ◌/◌, ◌%◌, ◌≤◌, ◌≡◌, length};
 ghost use Rattle.buffer.specs.inner.Store.{Wrote};
 ghost use Rattle.hexdigits.specs.Hex.{value_of, digit_of, hexes, unhex, all_digits, goes_as_bytes};

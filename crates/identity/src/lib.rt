@@ -1,4 +1,6 @@
 // Whether the id of a packed event is the SHA-256 of its canonical text.
+#![tactic(auto)]
+
 ghost use Rattle.std.specs.Prelude.{◌*◌, ◌≤◌, ◌<◌, ◌^◌, ◌≡◌, length};
 ghost use Rattle.scan.specs.Compare.{same_bytes};
 ghost use Rattle.sha256.specs.Message.{digest};

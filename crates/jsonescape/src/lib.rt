@@ -1,4 +1,6 @@
 // The escapes of JSON's strings.
+#![tactic(auto)]
+
 ghost use Rattle.std.specs.Prelude.{◌+◌, ◌-◌, ◌*◌, ◌^◌, ◌≤◌, ◌<◌, ◌≡◌, length};
 ghost use Rattle.jsontext.specs.inner.Escape.{hex_value, unit_of, unit_at, unescaped_letter, letter_escape, pair_of, unicode_at, escape_at};
 

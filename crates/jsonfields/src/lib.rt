@@ -1,5 +1,7 @@
 // The value of each field of an event in plain JSON: read at its first byte, checked, and told by where it stands and
 // how it goes into the strict form.
+#![tactic(auto)]
+
 ghost use Rattle.std.specs.Prelude.{◌≤◌, ◌<◌, ◌≡◌, length};
 ghost use Rattle.scan.specs.Choice.{pick};
 ghost use Rattle.jsontext.specs.Token.{space_at};

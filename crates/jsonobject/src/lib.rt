@@ -1,5 +1,7 @@
 // An event's object in plain JSON: its members in any order, each of the seven fields once, and the length that the
 // event takes in the strict form.
+#![tactic(auto)]
+
 ghost use Rattle.std.specs.Prelude.{◌^◌, ◌≤◌, ◌<◌, ◌≡◌, length};
 ghost use Rattle.jsonfields.specs.inner.Spots.{field_number};
 ghost use Rattle.jsonobject.specs.inner.Spotted.{no_spot, spot_of, with_spot, none_found, all_found, measured, colon_spots_at, member_spots_at, members_spots_at, object_spots_at};

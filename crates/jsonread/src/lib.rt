@@ -1,5 +1,7 @@
 // The plain JSON reader. The first pass (crate jsonobject) refuses or measures; only then is the strict form written,
 // from the places that it found.
+#![tactic(auto)]
+
 ghost use Rattle.std.specs.Prelude.{◌≡◌};
 ghost use Rattle.buffer.specs.inner.Store.{Wrote};
 ghost use Rattle.event.specs.inner.Told.{writing};

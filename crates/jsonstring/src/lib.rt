@@ -1,4 +1,6 @@
 // The strings of JSON at a cursor, and a fast way for those that are short and plain.
+#![tactic(auto)]
+
 ghost use Rattle.std.specs.Prelude.{min, ◌+◌, ◌-◌, ◌≤◌, ◌<◌, ◌≡◌, length, drop};
 ghost use Rattle.scan.specs.Choice.{pick, refused};
 ghost use Rattle.scan.specs.Place.{byte_at};

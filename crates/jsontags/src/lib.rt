@@ -1,4 +1,6 @@
 // The tags of a packed event as arrays of strings, without white space.
+#![tactic(auto)]
+
 ghost use Rattle.std.specs.Prelude.{◌*◌, ◌≤◌, ◌≡◌, map, length};
 ghost use Rattle.buffer.specs.inner.Store.{Wrote};
 ghost use Rattle.escape.specs.Escape.{escaped};

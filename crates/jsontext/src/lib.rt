@@ -1,5 +1,6 @@
 // JSON by RFC 8259 alone: its grammar, its reading at a place, and that the two agree.
 // The code stands in jsonescape, jsonstring, jsonunescape and jsonvalue.
+#![tactic(auto)]
 
 // The bytes of a string between its quotes, as spelled.
 #[derive(Drop)]

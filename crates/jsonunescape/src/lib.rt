@@ -1,5 +1,7 @@
 // The text of a spelled string: its length, written, as digits, unhexed.
 // A private function takes the spelled bytes as t.
+#![tactic(auto)]
+
 ghost use Rattle.std.specs.Prelude.{◌+◌, ◌-◌, ◌≤◌, ◌<◌, ◌≡◌, true, length, get_or, take, drop};
 ghost use Rattle.scan.specs.inner.Blocks.{sum_of, neighbours};
 ghost use Rattle.buffer.specs.inner.Store.{Wrote};

@@ -1,4 +1,6 @@
 // The rest of JSON at a cursor: white space, literals, numbers, and values, which are read over.
+#![tactic(auto)]
+
 ghost use Rattle.std.specs.Prelude.{◌<◌, ◌≡◌, length};
 ghost use Rattle.scan.specs.Choice.{refused};
 ghost use Rattle.jsontext.specs.Token.{is_space, space_at, word_at, digits_or, minus_at, sign_at, int_at, frac_at, is_e, exp_at, skip_number};

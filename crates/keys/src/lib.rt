@@ -1,4 +1,6 @@
 // The key of a packed event, by which its versions are known: author, kind and, for some kinds, a label.
+#![tactic(auto)]
+
 ghost use Rattle.std.specs.Prelude.{◌≡◌};
 ghost use Rattle.scan.specs.Compare.{same_bytes};
 ghost use Rattle.hexdigits.specs.Hex.{hexes};

@@ -1,4 +1,6 @@
 // The C entries: thin and total over the crates below. Each takes numbers and byte buffers and answers two numbers.
+#![tactic(auto)]
+
 ghost use Rattle.std.specs.Prelude.{◌≡◌, true, false, length};
 ghost use Rattle.scan.specs.Choice.{pick, and_then, shown};
 ghost use Rattle.event.specs.Answers.{two_numbers};

@@ -1,4 +1,6 @@
 // A table lent as a slice of slots: an offer to it, changed one slot at a time, and emptying.
+#![tactic(auto)]
+
 ghost use Rattle.std.specs.Prelude.{◌≡◌};
 ghost use Rattle.event.specs.inner.Told.{writing};
 ghost use Rattle.slots.specs.Slots.{free_slot};

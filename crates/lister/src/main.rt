@@ -1,4 +1,6 @@
 // The lister: bare notepack on standard input, its numbers or the refusal on standard output.
+#![tactic(auto)]
+
 ghost use Rattle.std.specs.Prelude.{◌≤◌, ◌≡◌, length, take};
 ghost use Rattle.buffer.specs.inner.Store.{Wrote};
 ghost use Rattle.notepack.specs.Views.{numbers_of};

@@ -1,4 +1,6 @@
 // Numbers of fixed width, the lowest byte first.
+#![tactic(auto)]
+
 ghost use Rattle.std.specs.Prelude.{◌+◌, ◌*◌, ◌<◌, ◌^◌, ◌≡◌, take, drop};
 ghost use Rattle.buffer.specs.inner.Store.{Wrote};
 ghost use Rattle.littleendian.specs.LittleEndian.{number_of, low_first};

@@ -1,5 +1,7 @@
 // Unix seconds and signed milliseconds: two types, and one function from each to the other. No other code has the number
 // 1,000 for them.
+#![tactic(auto)]
+
 ghost use Rattle.std.specs.Prelude.{◌≡◌};
 ghost use Rattle.moment.specs.Moment.{signed_of, word_of, seconds_of, seconds_read, millis_for, millis_read};
 

@@ -1,4 +1,6 @@
 // Notepack: the form in which the box holds a record. One pass reads it, checks it and measures its strict form.
+#![tactic(auto)]
+
 ghost use Rattle.std.specs.Prelude.{◌≤◌, ◌<◌, ◌+◌, ◌-◌, ◌^◌, ◌≡◌, length};
 ghost use Rattle.scan.specs.Choice.{and_then, shown};
 ghost use Rattle.hexdigits.specs.Hex.{hexes};

@@ -1,5 +1,7 @@
 // What NSON's counts say: the pieces of its text, all in front of the nson field, and the field itself, checked before
 // any text that it counts.
+#![tactic(auto)]
+
 ghost use Rattle.std.specs.Prelude.{◌≤◌, ◌≡◌};
 ghost use Rattle.scan.specs.Choice.{and_then, read, many};
 ghost use Rattle.nson.specs.inner.Places.{descriptors_place};

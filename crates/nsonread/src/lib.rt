@@ -1,4 +1,6 @@
 // The NSON reader: a first pass (crate nsonwalk) refuses or measures; only then is the strict form written, by places.
+#![tactic(auto)]
+
 ghost use Rattle.std.specs.Prelude.{◌+◌, ◌*◌, ◌≤◌, ◌≡◌};
 ghost use Rattle.buffer.specs.inner.Store.{Wrote};
 ghost use Rattle.event.specs.inner.Told.{writing};

@@ -1,5 +1,7 @@
 // The bytes between two quotes of NSON: whether they are free of faults, in a fast look; and which fault is the
 // earliest.
+#![tactic(auto)]
+
 ghost use Rattle.std.specs.Prelude.{◌<◌, ◌≤◌, ◌≡◌, true, false, length, get_or, drop};
 ghost use Rattle.scan.specs.inner.Blocks.{neighbours};
 ghost use Rattle.jsontext.specs.inner.Escape.{unescape};

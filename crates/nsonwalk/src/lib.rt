@@ -1,5 +1,7 @@
 // The first pass over NSON: the text is followed along its counts, every byte that they count is checked, and the
 // strict form is measured.
+#![tactic(auto)]
+
 ghost use Rattle.std.specs.Prelude.{◌+◌, ◌*◌, ◌≤◌, ◌≡◌, false, length};
 ghost use Rattle.scan.specs.Choice.{and_then, read};
 ghost use Rattle.jsontext.specs.inner.Escape.{unescape};

@@ -1,4 +1,6 @@
 // The NSON of a packed event: measured first, and written where NSON can carry the event and there is room for it.
+#![tactic(auto)]
+
 ghost use Rattle.std.specs.Prelude.{◌+◌, ◌*◌, ◌≤◌, ◌≡◌, false, map, length, leb};
 ghost use Rattle.scan.specs.Choice.{pick};
 ghost use Rattle.buffer.specs.inner.Store.{Wrote};

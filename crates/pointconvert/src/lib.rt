@@ -1,4 +1,6 @@
 // A v0 of the pointer form, written as the strict form of its event.
+#![tactic(auto)]
+
 ghost use Rattle.std.specs.Prelude.{◌+◌, ◌≤◌, ◌≡◌, length};
 ghost use Rattle.scan.specs.Choice.{shown};
 ghost use Rattle.buffer.specs.inner.Store.{Wrote};

@@ -1,4 +1,6 @@
 // The words, pointers, tables and fields of the pointer form at places of the input, each looked at by itself.
+#![tactic(auto)]
+
 ghost use Rattle.std.specs.Prelude.{◌≡◌};
 ghost use Rattle.utf8.specs.inner.Width.{is_utf8};
 ghost use Rattle.notepack.specs.inner.Answers.{element_read};

@@ -1,6 +1,8 @@
 // The reader of the pointer form, in time linear in the input, although pointers may share what they name. The tags are
 // walked plainly first, as long as what they name is together no longer than the data. Past that, two tables of the
 // data's words, each filled backwards once, answer for each text and each tag in constant time.
+#![tactic(auto)]
+
 ghost use Rattle.std.specs.Prelude.{◌+◌, ◌*◌, ◌/◌, ◌≤◌, ◌≡◌, length};
 ghost use Rattle.scan.specs.Choice.{pick, and_then, shown};
 ghost use Rattle.utf8.specs.inner.Width.{is_utf8};

@@ -1,5 +1,7 @@
 // The v0 of a packed event in the pointer form: measured first, and written where it has at most 65,536 bytes and there
 // is room for it.
+#![tactic(auto)]
+
 ghost use Rattle.std.specs.Prelude.{◌+◌, ◌*◌, ◌≤◌, ◌≡◌, length};
 ghost use Rattle.buffer.specs.inner.Store.{Wrote};
 ghost use Rattle.buffer.specs.Entry.{writes, leaves};

@@ -1,4 +1,6 @@
 // Which of two records is kept: the current one is the one that is shown.
+#![tactic(auto)]
+
 ghost use Rattle.std.specs.Prelude.{◌≡◌, take};
 ghost use Rattle.keys.specs.Key.{same_key};
 ghost use Rattle.keys.specs.inner.Place.{key_at, key_there};

@@ -118,7 +118,7 @@ pub span_run : (p : ℕ → Bool) (P : ℕ → Type 0) → ((b : ℕ) → P b �
 unfolding run_at run
 span_run p P good s {a} none here stop =
     dite (dec_lt a (length s)) (λ h. rw (rest_more s a h, stop h)) (λ n. rw (rest_none s a (omega (arith, n))))
-span_run p P good s {a} (also {b = b} k g) (step h e r) stop = rw (rest_more s a h, e, good b k) (span_run p P good s g r stop)
+span_run p P good s {a} {c} (also {b = b} k g) (step h e r) stop = rw (rest_more s a h, e, good b k) (span_run p P good s {a = a + 1} {c = c} g r stop)
 
 -- consumes: what is run over is a span of bytes that pass
 pub run_span : (p : ℕ → Bool) (P : ℕ → Type 0) → ((b : ℕ) → p b ≡ true → P b) → (s : List ℕ) (a : ℕ)

@@ -21,7 +21,7 @@ join (step h e p) q = step h e (join p q)
 
 pub cut : {s : List ℕ} {a c : ℕ} (l : List ℕ) {m : List ℕ} → Span s a (l ++ m) c → (b : ℕ) × Span s a l b × Span s b m c
 cut {a = a} [] p = (a, here, p)
-cut (x ∷ l) (step h e p) = let r = cut l p in (r.0, step h e r.1, r.2)
+cut {s = s} {a = a} {c = c} (x ∷ l) {m = m} (step h e p) = let r = cut {s = s} {a = a + 1} {c = c} l {m = m} p in (r.0, step h e r.1, r.2)
 
 pub open_span : {s : List ℕ} {a b c : ℕ} {l : List ℕ} → Span s a (b ∷ l) c → (a < length s) × (get_or s a 0 ≡ b) × Span s (a + 1) l c
 open_span (step h e p) = (h, e, p)
@@ -51,10 +51,13 @@ span_fits here = omega arith
 span_fits (step h e p) = omega (arith, span_fits p)
 
 pub span_unique : {s : List ℕ} {a c : ℕ} {l m : List ℕ} → Span s a l c → Span s a m c → l ≡ m
-span_unique here here = refl
-span_unique here (step h e p) = absurd (omega (arith, span_length p))
-span_unique (step h e p) here = absurd (omega (arith, span_length p))
-span_unique (step h e p) (step k f q) = let u = span_unique p q in cc
+span_unique p q = at_ends p q refl
+  where
+    at_ends : {s : List ℕ} {a c d : ℕ} {l m : List ℕ} → Span s a l c → Span s a m d → c ≡ d → l ≡ m
+    at_ends here here e = refl
+    at_ends here (step h f p) e = absurd (omega (arith, span_length p))
+    at_ends (step h f p) here e = absurd (omega (arith, span_length p))
+    at_ends (step h f p) (step k g q) e = let u = at_ends p q e in cc
 
 -- what the bytes from a on begin with
 pub from_span : {s : List ℕ} {a c : ℕ} {l : List ℕ} → Span s a l c → drop a s ≡ l ++ drop c s

@@ -1,4 +1,6 @@
 // Bytes at a place of a lent input. Every function is total: a place past the end reads as the end.
+#![tactic(auto)]
+
 ghost use Rattle.std.specs.Prelude.{◌-◌, ◌≤◌, min, ◌≡◌, length, take, drop};
 ghost use Rattle.scan.specs.Choice.{pick};
 ghost use Rattle.scan.specs.Place.{byte_at, stands_at, within, run_at};

@@ -1,4 +1,6 @@
 // SHA-256 (FIPS 180-4) of a message that comes in consecutive pieces.
+#![tactic(auto)]
+
 ghost use Rattle.std.specs.Prelude.{◌≡◌, ◌+◌, ◌^◌, ◌<◌, ◌≤◌, ◌++◌, length, take};
 ghost use Rattle.buffer.specs.inner.Store.{Wrote};
 ghost use Rattle.sha256.specs.Operations.{plus, Ch, Maj, Σ0, Σ1, σ0, σ1};

@@ -1,4 +1,6 @@
 // A SHA-256 state in 104 lent bytes: starting, one piece more, finishing.
+#![tactic(auto)]
+
 ghost use Rattle.std.specs.Prelude.{◌+◌, ◌≤◌, ◌≡◌, length};
 ghost use Rattle.buffer.specs.inner.Store.{Wrote};
 ghost use Rattle.buffer.specs.Entry.{written, filled, writes, leaves};

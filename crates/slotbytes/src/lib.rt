@@ -1,4 +1,6 @@
 // A table's 64 slots as 1,024 lent bytes.
+#![tactic(auto)]
+
 ghost use Rattle.std.specs.Prelude.{◌<◌, ◌*◌, ◌≡◌, take, drop};
 ghost use Rattle.buffer.specs.inner.Store.{Wrote};
 ghost use Rattle.slotbytes.specs.SlotBytes.{slot_of, slots_in, slot_bytes, slots_bytes};

@@ -1,4 +1,6 @@
 // A lent table of slots, changed one slot at a time. No function here names a field of a slot.
+#![tactic(auto)]
+
 ghost use Rattle.std.specs.Prelude.{◌≡◌, length, set, replicate};
 ghost use Rattle.slots.specs.Slots.{whole};
 

@@ -1,4 +1,6 @@
 // The strict form of a packed event: the question whether bytes are it, and the writer.
+#![tactic(auto)]
+
 ghost use Rattle.std.specs.Prelude.{◌≡◌};
 ghost use Rattle.scan.specs.Choice.{shown};
 ghost use Rattle.buffer.specs.inner.Store.{Wrote};

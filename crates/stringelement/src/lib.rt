@@ -1,5 +1,7 @@
 // The strict element whose text a spelled string stands for: its length, and the element written. Most strings have no
 // escape and are taken as they stand.
+#![tactic(auto)]
+
 ghost use Rattle.std.specs.Prelude.{◌+◌, ◌≤◌, ◌≡◌, length, take, drop};
 ghost use Rattle.buffer.specs.inner.Store.{Wrote};
 ghost use Rattle.jsontext.specs.inner.Escape.{unescape};

@@ -1,4 +1,6 @@
 // The string form of a packed event, bare or versioned: its writer and its reader. The caller says which of the two.
+#![tactic(auto)]
+
 ghost use Rattle.std.specs.Prelude.{◌≤◌, ◌≡◌, ◌++◌, length};
 ghost use Rattle.scan.specs.Place.{stands_at};
 ghost use Rattle.buffer.specs.inner.Store.{Wrote};

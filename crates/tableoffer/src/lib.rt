@@ -1,4 +1,6 @@
 // An offer to a table of 64 slots, by value, and its lent cells: what it comes to, and the one cell that changes.
+#![tactic(auto)]
+
 ghost use Rattle.std.specs.Prelude.{◌<◌, ◌≡◌, length};
 ghost use Rattle.scan.specs.Choice.{refused};
 ghost use Rattle.archive.specs.Archive.{is_second};

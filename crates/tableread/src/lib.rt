@@ -1,4 +1,6 @@
 // What the slots of a table hold, each read once: the bad ones, the free ones, and the one with a name.
+#![tactic(auto)]
+
 ghost use Rattle.std.specs.Prelude.{◌<◌, ◌≡◌};
 ghost use Rattle.hexdigits.specs.Hex.{hexes};
 ghost use Rattle.archive.specs.Archive.{same_name, is_ephemeral};

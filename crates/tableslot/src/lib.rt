@@ -1,4 +1,6 @@
 // The event that a slot of a table holds, as a part of the lent cells.
+#![tactic(auto)]
+
 ghost use Rattle.std.specs.Prelude.{◌≡◌};
 ghost use Rattle.table.specs.Standing.{stand_of};
 ghost use Rattle.tableslot.specs.inner.Answers.{slot_read, known_stand, stand_bytes};

@@ -1,4 +1,6 @@
 // UTF-8 by RFC 3629: the check of a text, one sequence at a place, and the bytes of a scalar value.
+#![tactic(auto)]
+
 mod windows;
 
 ghost use Rattle.std.specs.Prelude.{◌-◌, ◌≤◌, ◌≡◌, length};

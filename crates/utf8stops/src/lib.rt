@@ -1,4 +1,6 @@
 // Where well-formed text stops, for every text that starts at a multiple of 8: found once for all, in one pass.
+#![tactic(auto)]
+
 ghost use Rattle.std.specs.Prelude.{◌+◌, ◌%◌, ◌≤◌, ◌<◌, ◌≡◌, true, ◌++◌, length, drop};
 ghost use Rattle.utf8stops.specs.Stops.{stop_at, ends_at, words, stop_list, has_room, stops_left};
 ghost use Rattle.utf8stops.specs.inner.Pass.{Told, Ascii};

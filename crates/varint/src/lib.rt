@@ -1,4 +1,6 @@
 // Varints: ULEB128 in one to ten bytes, as short as can be, read at a cursor and written.
+#![tactic(auto)]
+
 ghost use Rattle.std.specs.Prelude.{◌≤◌, ◌≡◌, length};
 ghost use Rattle.buffer.specs.inner.Store.{Wrote};
 ghost use Rattle.varint.specs.Uleb.{uleb};

@@ -1,5 +1,7 @@
 // The versioned form: the byte 01, then the bare form. Where the bare bytes of a packed input start, what is seen of
 // them, and the moves between the two forms. No crate below knows of versions.
+#![tactic(auto)]
+
 ghost use Rattle.std.specs.Prelude.{◌+◌, ◌≤◌, ◌<◌, ◌^◌, ◌≡◌, length, drop};
 ghost use Rattle.buffer.specs.Entry.{written, filled};
 ghost use Rattle.event.specs.inner.Told.{writing};

@@ -1,4 +1,6 @@
 // Which of two records is kept, where each may be bare or versioned: the caller says of each which it is.
+#![tactic(auto)]
+
 ghost use Rattle.std.specs.Prelude.{◌≡◌};
 ghost use Rattle.rivals.specs.inner.Answers.{rivals_read, kept_bytes};
 ghost use Rattle.versionedrivals.specs.Rivals.{rivals_given};

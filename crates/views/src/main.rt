@@ -1,5 +1,7 @@
 // Two packed records of one length on standard input: what is seen of the first, which is kept, and what a table holds
 // after both were offered.
+#![tactic(auto)]
+
 use event::Writing;
 use libc::{STDIN_FILENO, STDOUT_FILENO};
 use slots::Slot;

@@ -1,0 +1,16 @@
+use Prim.Native.Nat.{◌-◌}
+use mathlib.Core.Path.{◌≡◌}
+use borrow.Author.Rules.{rules}
+use lib.ListN.{length}
+use Rattle.scan.specs.Place.{within, run_at}
+use Rattle.scan.proofs.PlaceLaws.{runs}
+use Rattle.scan.proofs.run_end.Goals as goal
+
+pub loop-i-preserved : goal.loop-i-preserved
+loop-i-preserved c = search runs
+
+pub returns-after-loop-i : goal.returns-after-loop-i
+returns-after-loop-i c = search runs
+
+pub returns-else-is_within : goal.returns-else-is_within
+returns-else-is_within c = search runs
