@@ -11,7 +11,7 @@ import os
 import re
 import sys
 
-CRATES = {"hex": "hexdigits", "base64": "base64text"}
+CRATES = {"hex": "hexdigits", "base64": "base64text", "json": "jsonevent"}
 # names that would fall together with another, and how they are spelled
 OTHER = {}
 HERE = os.path.dirname(os.path.realpath(__file__))

@@ -4,8 +4,8 @@ use mathlib.Core.Path.{◌≡◌, sym, ◌∙◌}
 use Rattle.scan.specs.Choice.{shown}
 use Rattle.scan.proofs.Many.{shown_same}
 use Rattle.event.specs.Event.{Event, Valid}
-use Rattle.json.specs.Object.{read_json}
-use Rattle.json.proofs.Whole.{complete}
+use Rattle.jsonevent.specs.Object.{read_json}
+use Rattle.jsonevent.proofs.Whole.{complete}
 use Rattle.nson.specs.Nson.{nson}
 use Rattle.nson.specs.Carries.{Carries}
 use Rattle.nson.proofs.Sound.{accepted}

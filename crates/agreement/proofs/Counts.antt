@@ -15,8 +15,8 @@ use Rattle.scan.specs.Compare.{same_bytes}
 use Rattle.event.specs.Event.{Text, Tag, Event, Valid}
 use Rattle.jsontext.proofs.OneValue.{chars_one, one_value}
 use Rattle.jsontext.specs.Grammar as json
-use Rattle.json.specs.Meaning.{Values, IsHex, is_hex, Each, IsArray, is_array, once}
-use Rattle.json.proofs.OneEvent.{values_one}
+use Rattle.jsonevent.specs.Meaning.{Values, IsHex, is_hex, Each, IsArray, is_array, once}
+use Rattle.jsonevent.proofs.OneEvent.{values_one}
 use Rattle.nson.specs.Nson.{Counts, escaped_size, counts, descriptors, nson_field}
 use Rattle.nson.specs.Carries.{Carries}
 use Rattle.nson.specs.Read.{read_nson}

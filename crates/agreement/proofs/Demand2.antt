@@ -19,8 +19,8 @@ use Rattle.notepack.proofs.StrictLaws.{reads_again, equal_exactly}
 use Rattle.notepack.proofs.Seen.{seen}
 use Rattle.strict.proofs.Laws.{strict_exactly}
 use Rattle.jsontext.proofs.OneValue.{one_value}
-use Rattle.json.proofs.Whole as whole
-use Rattle.json.proofs.OneEvent.{event_one}
+use Rattle.jsonevent.proofs.Whole as whole
+use Rattle.jsonevent.proofs.OneEvent.{event_one}
 use Rattle.agreement.specs.Demand2.{Demand2}
 use Rattle.agreement.proofs.Entries.{fits}
 use Rattle.agreement.proofs.Stored.{elements_decide, strict_elements}

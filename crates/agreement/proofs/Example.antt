@@ -21,11 +21,11 @@ use Rattle.jsontext.specs.Token.{is_space, space_at, word_at, digits_or, minus_a
 use Rattle.jsontext.specs.Text.{chars_at, string_at}
 use Rattle.jsontext.specs.Value as value
 use Rattle.jsontext.specs.Grammar as json
-use Rattle.json.specs.Meaning.{Values, Once, once}
-use Rattle.json.proofs.OneEvent.{values_one}
-use Rattle.json.specs.Field.{text_at, is_hex_of, hex_at, digits_only, whole_of, whole_at, after_item, items_at, inside_at, array_at, one_or_more, tag_at, tags_standing, index_in, field_of, field_at}
-use Rattle.json.specs.Object as object
-use Rattle.json.specs.inner.Closing as closing
+use Rattle.jsonevent.specs.Meaning.{Values, Once, once}
+use Rattle.jsonevent.proofs.OneEvent.{values_one}
+use Rattle.jsonevent.specs.Field.{text_at, is_hex_of, hex_at, digits_only, whole_of, whole_at, after_item, items_at, inside_at, array_at, one_or_more, tag_at, tags_standing, index_in, field_of, field_at}
+use Rattle.jsonevent.specs.Object as object
+use Rattle.jsonevent.specs.inner.Closing as closing
 use Rattle.nson.specs.Nson.{Counts, head_text, body_text, nson}
 use Rattle.nson.specs.Read.{read_nson}
 use Rattle.nson.proofs.Example.{example_read, example_refused}

@@ -11,8 +11,8 @@ use Rattle.event.specs.Event.{Text, Event}
 use Rattle.scan.proofs.CompareLaws.{same_same}
 use Rattle.jsontext.proofs.OneValue.{chars_one, one_value}
 use Rattle.jsontext.specs.Grammar as json
-use Rattle.json.specs.Meaning.{Values, no_value, named, other, Once, once, Says, Shallow, no_member, known, ignored, IsEvent, is_event}
-use Rattle.json.proofs.Whole.{sound, complete}
+use Rattle.jsonevent.specs.Meaning.{Values, no_value, named, other, Once, once, Says, Shallow, no_member, known, ignored, IsEvent, is_event}
+use Rattle.jsonevent.proofs.Whole.{sound, complete}
 use Rattle.agreement.specs.Counted.{OtherField, ended, kept, removed, added}
 use Rattle.agreement.specs.Demand3.{FieldIgnored}
 

@@ -14,7 +14,7 @@ use Rattle.decimal.proofs.Spelling.{decimal_digits, number_decimal}
 use Rattle.scan.specs.Compare.{same_bytes}
 use Rattle.event.specs.Event.{Text, Tag, Event, ValidTag, Valid}
 use Rattle.jsontext.specs.Grammar as json
-use Rattle.json.specs.Meaning.{Values, IsText, is_text, IsHex, is_hex, IsNumber, is_number, Each, is_array, IsTag, once, Says, first, later, Shallow, no_member, known, ignored, IsEvent, is_event}
+use Rattle.jsonevent.specs.Meaning.{Values, IsText, is_text, IsHex, is_hex, IsNumber, is_number, Each, is_array, IsTag, once, Says, first, later, Shallow, no_member, known, ignored, IsEvent, is_event}
 use Rattle.nson.specs.Nson.{counts, nson_field}
 use Rattle.nson.specs.Carries.{Fits, Carries}
 use Rattle.jsontext.proofs.Compact.{hexes_chars, name_chars, items}

@@ -8,7 +8,7 @@ use Rattle.scan.specs.Compare.{same_bytes}
 use Rattle.event.specs.Event.{Text}
 use Rattle.scan.proofs.CompareLaws.{same_same, bytes_same}
 use Rattle.jsontext.specs.Grammar as json
-use Rattle.json.specs.Meaning.{Values, no_value, named, other}
+use Rattle.jsonevent.specs.Meaning.{Values, no_value, named, other}
 use Rattle.jsontext.proofs.Compact.{letters, name_chars}
 
 -- whether every name is of letters alone

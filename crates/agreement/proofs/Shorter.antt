@@ -21,13 +21,13 @@ use Rattle.event.specs.Event.{Text, Tag, Event, ValidTag}
 use Rattle.jsontext.specs.Grammar as json
 use Rattle.jsontext.proofs.Meaning.{chars_same}
 use Rattle.notepack.specs.Strict.{pack_element, pack_elements, pack_tag, pack_tags, pack}
-use Rattle.json.specs.Meaning.{IsText, is_text, IsHex, is_hex, IsNumber, is_number, Each, IsArray, is_array, IsTag, IsEvent}
-use Rattle.json.specs.Field.{Value, missing, bytes, number, tags, text, Fields, field}
-use Rattle.json.specs.Object.{read_json}
-use Rattle.json.specs.inner.Closing.{is_missing}
-use Rattle.json.proofs.Says.{FieldSays, id_says, pubkey_says, sig_says, time_says, kind_says, tags_says, content_says, ignored_says, fields_of}
-use Rattle.json.proofs.Tracks.{Tracks, no_more, then, event_tracks, no_event}
-use Rattle.json.proofs.Whole.{sound}
+use Rattle.jsonevent.specs.Meaning.{IsText, is_text, IsHex, is_hex, IsNumber, is_number, Each, IsArray, is_array, IsTag, IsEvent}
+use Rattle.jsonevent.specs.Field.{Value, missing, bytes, number, tags, text, Fields, field}
+use Rattle.jsonevent.specs.Object.{read_json}
+use Rattle.jsonevent.specs.inner.Closing.{is_missing}
+use Rattle.jsonevent.proofs.Says.{FieldSays, id_says, pubkey_says, sig_says, time_says, kind_says, tags_says, content_says, ignored_says, fields_of}
+use Rattle.jsonevent.proofs.Tracks.{Tracks, no_more, then, event_tracks, no_event}
+use Rattle.jsonevent.proofs.Whole.{sound}
 use Rattle.agreement.specs.Demand3.{TextEnough}
 use Rattle.agreement.proofs.Agree.{both_accept}
 

@@ -3,7 +3,7 @@
 use Rattle.std.specs.Prelude.{ℕ, ◌+◌, ◌≤◌, List, ◌∷◌, length}
 use Rattle.scan.specs.Ascii.{ascii}
 use Rattle.jsontext.specs.Grammar as json
-use Rattle.json.specs.Meaning.{IsHex, IsArray, Once}
+use Rattle.jsonevent.specs.Meaning.{IsHex, IsArray, Once}
 use Rattle.nson.specs.Nson.{Counts, descriptors}
 
 -- members that differ in nson fields alone: k is m with some taken away and others put in, wherever they stand. A new

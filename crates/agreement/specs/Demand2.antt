@@ -12,8 +12,8 @@ use Rattle.notepack.specs.Unpack.{unpack}
 use Rattle.notepack.specs.Seen.{Seen}
 use Rattle.strict.specs.Strict.{strict}
 use Rattle.canonical.specs.Canonical.{canonical}
-use Rattle.json.specs.Meaning.{IsEvent}
-use Rattle.json.specs.Object.{read_json}
+use Rattle.jsonevent.specs.Meaning.{IsEvent}
+use Rattle.jsonevent.specs.Object.{read_json}
 use Rattle.agreement.specs.Stored.{Stored, packed_with, stored_strict}
 
 pub record Demand2 : Type 0 where

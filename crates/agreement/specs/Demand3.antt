@@ -7,11 +7,11 @@ use Rattle.event.specs.Event.{Event}
 use Rattle.jsontext.specs.Grammar as json
 use Rattle.notepack.specs.Unpack.{unpack}
 use Rattle.notepack.specs.Strict.{pack}
-use Rattle.json.specs.Object.{read_json}
+use Rattle.jsonevent.specs.Object.{read_json}
 use Rattle.nson.specs.Nson.{Counts, nson}
 use Rattle.nson.specs.Carries.{Carries}
 use Rattle.nson.specs.Read.{byte_here, counts_at, read_nson}
-use Rattle.json.specs.Entries.{json_reads, json_leaves}
+use Rattle.jsonevent.specs.Entries.{json_reads, json_leaves}
 use Rattle.buffer.specs.Entry.{writes, leaves}
 use Rattle.nson.specs.Entries.{nson_reads, nson_leaves, carried, nson_writes, writer_leaves}
 use Rattle.agreement.specs.Counted.{OtherField, TrueCounts, FieldHolds}

@@ -20,9 +20,9 @@ use Rattle.event.specs.Event.{Event}
 use Rattle.scan.proofs.CompareLaws.{same_same}
 use Rattle.scan.proofs.Many.{shown_same}
 use Rattle.notepack.specs.Strict.{pack}
-use Rattle.json.specs.Object.{read_json}
-use Rattle.json.specs.Entries.{json_leaves}
-use Rattle.json.specs.inner.Needs.{json_needs}
+use Rattle.jsonevent.specs.Object.{read_json}
+use Rattle.jsonevent.specs.Entries.{json_leaves}
+use Rattle.jsonevent.specs.inner.Needs.{json_needs}
 use Rattle.nson.specs.Read.{read_nson}
 use Rattle.nson.specs.Entries.{nson_leaves}
 use Rattle.nson.specs.inner.Needs.{nson_needs}

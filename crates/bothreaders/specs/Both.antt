@@ -7,7 +7,7 @@ use Rattle.buffer.specs.Entry.{filled}
 use Rattle.scan.specs.Compare.{same_bytes}
 use Rattle.event.specs.Event.{Event}
 use Rattle.notepack.specs.Strict.{pack}
-use Rattle.json.specs.Object.{read_json}
+use Rattle.jsonevent.specs.Object.{read_json}
 use Rattle.nson.specs.Read.{read_nson}
 
 -- 1: the plain JSON reader shows the event and the NSON reader does not (or another, which rule 12.3.1 rules out); 2:

@@ -5,7 +5,7 @@
 ghost use Rattle.std.specs.Prelude.{◌≡◌, take};
 ghost use Rattle.scan.specs.Choice.{refused};
 ghost use Rattle.scan.specs.Compare.{same_bytes};
-ghost use Rattle.json.specs.Entries.{json_leaves};
+ghost use Rattle.jsonevent.specs.Entries.{json_leaves};
 ghost use Rattle.nson.specs.Entries.{nson_leaves};
 ghost use Rattle.bothreaders.specs.Both.{both, both_first, both_second};
 ghost use Rattle.bothreaders.specs.inner.Answers.{both_read};

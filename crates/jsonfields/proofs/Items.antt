@@ -18,7 +18,7 @@ use Rattle.event.specs.inner.Told.{told}
 use Rattle.jsontext.specs.Token.{space_at}
 use Rattle.scan.proofs.Fits.{byte_positive}
 use Rattle.jsontext.proofs.TokenLaws.{space_onward}
-use Rattle.json.specs.Field.{under, after_item, items_at, inside_at}
+use Rattle.jsonevent.specs.Field.{under, after_item, items_at, inside_at}
 use Rattle.jsonfields.specs.declared.Cursor.{Cursor}
 use Rattle.jsonfields.specs.declared.Sized.{Sized}
 use Rattle.jsonfields.specs.declared.LenRead.{LenRead}

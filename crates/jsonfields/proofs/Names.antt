@@ -21,9 +21,9 @@ use Rattle.scan.proofs.PlaceLaws.{span_stands, stands_span}
 use Rattle.buffer.specs.inner.Store.{Buffer, Wrote}
 use Rattle.buffer.proofs.Laws.{puts_eq}
 use Rattle.event.specs.Event.{Text}
-use Rattle.json.specs.Meaning.{names}
-use Rattle.json.specs.Field.{index_in, field_of}
-use Rattle.json.proofs.Names.{name, number_name, name_number, by_seven}
+use Rattle.jsonevent.specs.Meaning.{names}
+use Rattle.jsonevent.specs.Field.{index_in, field_of}
+use Rattle.jsonevent.proofs.Names.{name, number_name, name_number, by_seven}
 use Rattle.jsonfields.specs.declared.Field.{Field}
 use Rattle.jsonfields.specs.declared.Field.TheVariants as field-by
 use Rattle.jsonfields.specs.inner.Spots.{field_number}

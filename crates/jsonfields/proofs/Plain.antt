@@ -15,7 +15,7 @@ use Rattle.jsontext.specs.declared.Spelled.{Spelled}
 use Rattle.jsontext.specs.inner.Escape.{unescape}
 use Rattle.jsontext.specs.Text.{string_at}
 use Rattle.jsonstring.proofs.PlainLaws.{digits_own}
-use Rattle.json.specs.Field.{under, text_of, text_at, is_hex_of}
+use Rattle.jsonevent.specs.Field.{under, text_of, text_at, is_hex_of}
 use Rattle.jsonfields.specs.inner.Size.{element_size}
 
 -- ---- digits are their own text

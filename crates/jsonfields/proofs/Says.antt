@@ -26,7 +26,7 @@ use Rattle.jsontext.specs.Token.{space_at, Done}
 use Rattle.jsontext.specs.Text.{string_at}
 use Rattle.jsontext.specs.Value.{value_at}
 use Rattle.jsontext.proofs.TokenLaws.{space_onward}
-use Rattle.json.specs.Field.{Value, missing, bytes, number, tags, text, under, text_of, text_at, is_hex_of, hex_at, whole_at, inside_at, array_at, tag_at, tags_standing, field_at}
+use Rattle.jsonevent.specs.Field.{Value, missing, bytes, number, tags, text, under, text_of, text_at, is_hex_of, hex_at, whole_at, inside_at, array_at, tag_at, tags_standing, field_at}
 use Rattle.jsonfields.specs.declared.Spot.{Spot}
 use Rattle.jsonfields.specs.inner.Size.{tag_size, sized}
 use Rattle.jsonfields.specs.inner.Spots.{hex_spot, text_spot, number_spot, tags_spot, ignored_spot, spelled_of, hex_spot_at, tags_spot_at, spot_at}

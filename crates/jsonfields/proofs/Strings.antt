@@ -26,7 +26,7 @@ use Rattle.jsontext.specs.Text.{string_at}
 use Rattle.jsontext.proofs.Meaning.{unescape_chars, chars_same}
 use Rattle.jsontext.proofs.TextLaws.{string_reads}
 use Rattle.jsonunescape.proofs.Unescape.{run_onward, run_inside, run_slash, length_run, unescape_end, taken, length_escape}
-use Rattle.json.specs.Field.{text_of, text_at}
+use Rattle.jsonevent.specs.Field.{text_of, text_at}
 use Rattle.jsonfields.specs.inner.Size.{element_size}
 
 -- ---- general: belongs to crate jsontext

@@ -33,7 +33,7 @@ use Rattle.jsontext.specs.Token.{space_at, skip_number, past, Done}
 use Rattle.jsontext.specs.Grammar as json
 use Rattle.jsontext.proofs.TokenLaws.{number_consumes, space_onward}
 use Rattle.jsontext.proofs.FirstByte.{begins_value, some_bytes}
-use Rattle.json.specs.Field.{text_at, is_hex_of, digits_only, whole_of, whole_at, items_at, inside_at, array_at, one_or_more, tag_at, under}
+use Rattle.jsonevent.specs.Field.{text_at, is_hex_of, digits_only, whole_of, whole_at, items_at, inside_at, array_at, one_or_more, tag_at, under}
 use Rattle.jsonfields.specs.declared.Sized.{Sized}
 use Rattle.jsonfields.specs.declared.Cursor as own
 use Rattle.jsonfields.specs.declared.SizedRead.{SizedRead}

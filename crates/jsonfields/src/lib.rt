@@ -7,7 +7,7 @@ ghost use Rattle.scan.specs.Choice.{pick};
 ghost use Rattle.jsontext.specs.Token.{space_at};
 ghost use Rattle.jsontext.specs.Text.{string_at};
 ghost use Rattle.jsontext.specs.Value.{value_at};
-ghost use Rattle.json.specs.Field.{under, text_of, text_at, is_hex_of, whole_of, whole_at, inside_at, tag_at, field_of};
+ghost use Rattle.jsonevent.specs.Field.{under, text_of, text_at, is_hex_of, whole_of, whole_at, inside_at, tag_at, field_of};
 ghost use Rattle.jsonfields.specs.inner.Size.{element_size, tag_size, sized};
 ghost use Rattle.jsonfields.specs.inner.Spots.{field_number, number_spot, text_spot, ignored_spot, hex_spot_at, tags_spot_at, spot_at};
 ghost use Rattle.jsonfields.specs.inner.Answers.{name_read, len_read, sized_read, spot_read};

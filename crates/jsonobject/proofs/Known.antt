@@ -14,9 +14,9 @@ use Rattle.varint.specs.Uleb.{uleb}
 use Rattle.hexdigits.specs.Hex.{unhex}
 use Rattle.event.specs.Event.{Event}
 use Rattle.notepack.specs.Strict.{pack, pack_tags}
-use Rattle.json.specs.Field.{Value, missing, text_of, field}
-use Rattle.json.specs.Object.{no_fields}
-use Rattle.json.specs.inner.Closing.{is_missing, close_at}
+use Rattle.jsonevent.specs.Field.{Value, missing, text_of, field}
+use Rattle.jsonevent.specs.Object.{no_fields}
+use Rattle.jsonevent.specs.inner.Closing.{is_missing, close_at}
 use Rattle.jsonfields.specs.declared.Spot.{Spot}
 use Rattle.jsonfields.specs.inner.Spots.{spelled_of}
 use Rattle.jsonfields.proofs.Names.{by_eight}

@@ -18,8 +18,8 @@ use Rattle.event.specs.declared.Refusal.{Refusal}
 use Rattle.event.specs.inner.Told.{told}
 use Rattle.jsontext.specs.Token.{space_at}
 use Rattle.jsontext.proofs.TokenLaws.{space_onward, space_inside}
-use Rattle.json.specs.Field.{under, text_at, field_of}
-use Rattle.json.proofs.FieldSound.{field_says}
+use Rattle.jsonevent.specs.Field.{under, text_at, field_of}
+use Rattle.jsonevent.proofs.FieldSound.{field_says}
 use Rattle.jsonfields.specs.declared.Spot.{Spot}
 use Rattle.jsonfields.specs.inner.Spots.{spot_at}
 use Rattle.jsonfields.proofs.Strings.{string_ends, text_string}

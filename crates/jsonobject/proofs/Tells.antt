@@ -13,9 +13,9 @@ use Rattle.scan.proofs.Reading.{read_same}
 use Rattle.event.specs.Event.{Text, Event}
 use Rattle.notepack.specs.Strict.{pack}
 use Rattle.jsontext.specs.Token.{space_at}
-use Rattle.json.specs.Field.{under, text_at, field_of, field_at, field}
-use Rattle.json.specs.Object.{no_fields, colon_at, member_at, after_member, members_at, inside_at, object_at}
-use Rattle.json.specs.inner.Closing.{is_missing, close_at}
+use Rattle.jsonevent.specs.Field.{under, text_at, field_of, field_at, field}
+use Rattle.jsonevent.specs.Object.{no_fields, colon_at, member_at, after_member, members_at, inside_at, object_at}
+use Rattle.jsonevent.specs.inner.Closing.{is_missing, close_at}
 use Rattle.jsonfields.specs.declared.Spot.{Spot}
 use Rattle.jsonfields.specs.inner.Spots.{spot_at}
 use Rattle.jsonfields.proofs.Items.{never_shown, under_read}

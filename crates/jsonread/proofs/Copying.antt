@@ -20,7 +20,7 @@ use Rattle.jsontext.specs.declared.Spelled.{Spelled}
 use Rattle.jsontext.specs.Token.{space_at}
 use Rattle.jsontext.specs.Text.{string_at}
 use Rattle.scan.proofs.Fits.{byte_positive}
-use Rattle.json.specs.Field.{text_of, text_at, tag_at}
+use Rattle.jsonevent.specs.Field.{text_of, text_at, tag_at}
 use Rattle.jsonread.specs.inner.Copy.{behind_at, next_at, text_end, count_texts, texts_text, json_texts_end, json_tag_text, json_tags_text}
 use Rattle.jsonfields.proofs.Strings.{string_ends, text_string}
 use Rattle.jsonfields.proofs.Values.{tag_took}

@@ -17,8 +17,8 @@ use Rattle.buffer.specs.Entry.{writes, leaves}
 use Rattle.buffer.proofs.EntryLaws.{short, fitted}
 use Rattle.notepack.specs.Strict.{pack}
 use Rattle.jsontext.specs.Token.{space_at}
-use Rattle.json.specs.Field.{under}
-use Rattle.json.specs.Object.{whole_at, read_json}
+use Rattle.jsonevent.specs.Field.{under}
+use Rattle.jsonevent.specs.Object.{whole_at, read_json}
 use Rattle.jsonfields.proofs.Items.{never_shown}
 use Rattle.jsonobject.specs.inner.Spotted.{Object, object_spots_at}
 use Rattle.jsonobject.proofs.Tells.{event_in, object_said, object_len}

@@ -15,7 +15,7 @@ use Rattle.notepack.specs.Strict.{pack, pack_tags}
 use Rattle.jsontext.specs.declared.Spelled.{Spelled}
 use Rattle.jsontext.specs.Token.{space_at}
 use Rattle.jsontext.specs.Text.{string_at}
-use Rattle.json.specs.Field.{under, text_of, inside_at, tag_at}
+use Rattle.jsonevent.specs.Field.{under, text_of, inside_at, tag_at}
 use Rattle.jsonfields.specs.declared.Spot.{Spot}
 use Rattle.jsonfields.specs.inner.Size.{tag_size, sized}
 use Rattle.jsonfields.specs.inner.Spots.{text_spot, tags_spot, spelled_of, tags_spot_at, spot_at}

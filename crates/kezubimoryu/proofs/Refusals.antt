@@ -33,13 +33,13 @@ use Rattle.nson.specs.Nson.{nson}
 use Rattle.nson.specs.inner.Decision.{carries}
 use Rattle.nson.specs.Entries.{carried}
 use Rattle.nson.proofs.Telling.{nson_tells}
-use Rattle.json.specs.Object.{read_json}
+use Rattle.jsonevent.specs.Object.{read_json}
 use Rattle.pointer.specs.Entries.{within65536, convertible}
 use Rattle.pointer.specs.Written.{pointer_form}
 use Rattle.pointer.proofs.Telling.{form_tells}
 use Rattle.pointer.proofs.ViewTelling.{texts_tell, element_tells, convertible_tells}
-use Rattle.json.specs.inner.Numbers.{json_numbers}
-use Rattle.json.proofs.Telling.{json_tells}
+use Rattle.jsonevent.specs.inner.Numbers.{json_numbers}
+use Rattle.jsonevent.proofs.Telling.{json_tells}
 use Rattle.bothreaders.specs.Both.{Compared, compared, both_of, first_of, second_of, both, both_first, both_second}
 use Rattle.nson.specs.Read.{read_nson}
 use Rattle.versionedrivals.proofs.Telling.{rivals_given_tell}

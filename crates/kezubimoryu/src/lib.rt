@@ -23,7 +23,7 @@ ghost use Rattle.pointer.specs.Entries.{pointer_texts, pointer_element, within65
 ghost use Rattle.pointer.specs.Written.{pointer_form};
 ghost use Rattle.nson.specs.Nson.{nson};
 ghost use Rattle.nson.specs.Entries.{nson_reads, nson_leaves, carried};
-ghost use Rattle.json.specs.Entries.{json_reads, json_leaves};
+ghost use Rattle.jsonevent.specs.Entries.{json_reads, json_leaves};
 ghost use Rattle.bothreaders.specs.Both.{both, both_first, both_second};
 ghost use Rattle.versionedrivals.specs.Rivals.{rivals_given};
 ghost use Rattle.table.specs.Offer.{outcome_of, cells_after};

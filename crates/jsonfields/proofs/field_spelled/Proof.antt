@@ -3,7 +3,7 @@
 use mathlib.Core.Path.{ap, ◌∙◌}
 use native.Mathlib.Omega.{arith}
 use borrow.Author.Rules.{rules}
-use Rattle.json.specs.Field.{text_of, field_of}
+use Rattle.jsonevent.specs.Field.{text_of, field_of}
 use Rattle.jsonfields.proofs.Names.{long_name, wrote_part}
 use Rattle.jsonfields.proofs.field_spelled.Statement.{statement}
 use Rattle.jsonfields.proofs.field_spelled.Tie as tie

@@ -8,7 +8,7 @@ use Rattle.jsontext.specs.declared.Spelled.{Spelled}
 use Rattle.jsontext.specs.Token.{space_at}
 use Rattle.jsontext.specs.Text.{string_at}
 use Rattle.jsontext.specs.Value.{value_at}
-use Rattle.json.specs.Field.{under, text_of, is_hex_of, whole_at, inside_at, tag_at}
+use Rattle.jsonevent.specs.Field.{under, text_of, is_hex_of, whole_at, inside_at, tag_at}
 use Rattle.jsonfields.specs.inner.Size.{tag_size, sized}
 use Rattle.jsonfields.specs.declared.Sized.{Sized}
 use Rattle.jsonfields.specs.declared.Spot.{Spot}

@@ -4,7 +4,7 @@ use Rattle.std.specs.Prelude.{ℕ, zero, suc, ◌+◌, Bool, true, false, List, 
 use Rattle.scan.specs.Choice.{pick, Answer, refused, Read, read, and_then}
 use Rattle.scan.specs.Place.{byte_at}
 use Rattle.jsontext.specs.Token.{space_at}
-use Rattle.json.specs.Field.{under, text_at, field_of}
+use Rattle.jsonevent.specs.Field.{under, text_at, field_of}
 use Rattle.jsonfields.specs.declared.Spot.{Spot}
 use Rattle.jsonfields.specs.inner.Spots.{spot_at}
 use Rattle.jsonobject.specs.declared.Fields.{Fields}

@@ -8,7 +8,7 @@ use Rattle.hexdigits.specs.Hex.{unhex}
 use Rattle.notepack.specs.Strict.{pack_element}
 use Rattle.jsontext.specs.Token.{space_at}
 use Rattle.jsontext.specs.Text.{string_at}
-use Rattle.json.specs.Field.{text_of}
+use Rattle.jsonevent.specs.Field.{text_of}
 use Rattle.jsonfields.specs.declared.Spot.{Spot}
 use Rattle.jsonfields.specs.inner.Spots.{spelled_of}
 use Rattle.jsonobject.specs.declared.Fields.{Fields}

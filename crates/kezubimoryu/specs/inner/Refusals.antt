@@ -25,8 +25,8 @@ use Rattle.canonical.specs.Canonical.{canonical}
 use Rattle.nson.specs.inner.Numbers.{nson_numbers}
 use Rattle.nson.specs.Nson.{nson}
 use Rattle.nson.specs.Entries.{nson_reads, carried}
-use Rattle.json.specs.inner.Numbers.{json_numbers}
-use Rattle.json.specs.Entries.{json_reads}
+use Rattle.jsonevent.specs.inner.Numbers.{json_numbers}
+use Rattle.jsonevent.specs.Entries.{json_reads}
 use Rattle.bothreaders.specs.Both.{both, both_first, both_second}
 use Rattle.versionedrivals.specs.Rivals.{rivals_given}
 use Rattle.versionedrivals.specs.inner.Telling.{GivenTell}

@@ -5,7 +5,7 @@ use mathlib.Core.Path.{refl}
 use native.Mathlib.Omega.{arith}
 use borrow.Author.Rules.{rules}
 use Rattle.scan.proofs.Fits.{next_fits}
-use Rattle.json.specs.Field.{tag_at}
+use Rattle.jsonevent.specs.Field.{tag_at}
 use Rattle.jsonfields.specs.inner.Size.{tag_size}
 use Rattle.jsonfields.proofs.Items.{InItems, items_none, items_start, items_refused, items_closed, items_other, items_full, items_room, items_again}
 use Rattle.jsonfields.proofs.Values.{tag_bound}

@@ -2,7 +2,7 @@
 -- By the reading of a text under a measure; a plain string is its own text.
 use mathlib.Core.Path.{sym, ap, ◌∙◌}
 use borrow.Author.Rules.{rules}
-use Rattle.json.specs.Field.{field_of}
+use Rattle.jsonevent.specs.Field.{field_of}
 use Rattle.jsonstring.specs.inner.Answers.{text_read}
 use Rattle.jsonstring.proofs.PlainLaws.{told_own}
 use Rattle.jsonfields.proofs.Plain.{text_of_lem, no_text}

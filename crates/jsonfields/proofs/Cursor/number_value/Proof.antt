@@ -1,6 +1,6 @@
 -- `number_value` reads a number, and what its digits spell.
 -- By the definition; a number takes a byte or more.
-use Rattle.json.specs.Field.{whole_at}
+use Rattle.jsonevent.specs.Field.{whole_at}
 use mathlib.Core.Path.{sym, ap, ◌∙◌}
 use native.Mathlib.Omega.{arith}
 use borrow.Author.Rules.{rules}

@@ -6,7 +6,7 @@ use mathlib.Core.Path.{refl}
 use native.Mathlib.Omega.{arith}
 use borrow.Author.Rules.{rules}
 use Rattle.scan.proofs.Fits.{next_fits}
-use Rattle.json.specs.Field.{text_at}
+use Rattle.jsonevent.specs.Field.{text_at}
 use Rattle.jsonfields.specs.inner.Size.{element_size}
 use Rattle.jsonfields.proofs.Items.{InItems, items_none, items_start, items_refused, items_closed, items_other, items_full, items_room, items_again}
 use Rattle.jsonfields.proofs.Strings.{text_bound}

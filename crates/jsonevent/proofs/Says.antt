@@ -11,10 +11,10 @@ use Rattle.scan.specs.Bytes.{All}
 use Rattle.utf8.specs.Utf8.{Utf8}
 use Rattle.event.specs.Event.{Text, Tag, Event, Bytes, ValidTag, Valid}
 use Rattle.jsontext.specs.Grammar as json
-use Rattle.json.specs.Meaning.{IsText, IsHex, IsNumber, IsArray, IsTag, Once, once, Says}
-use Rattle.json.specs.Field.{Value, missing, bytes, number, tags, text, Fields, field}
-use Rattle.json.specs.inner.Closing.{is_missing}
-use Rattle.json.proofs.Names.{name, by_seven}
+use Rattle.jsonevent.specs.Meaning.{IsText, IsHex, IsNumber, IsArray, IsTag, Once, once, Says}
+use Rattle.jsonevent.specs.Field.{Value, missing, bytes, number, tags, text, Fields, field}
+use Rattle.jsonevent.specs.inner.Closing.{is_missing}
+use Rattle.jsonevent.proofs.Names.{name, by_seven}
 
 -- what the value of field k says. From 7 on the name is ignored, and so is the value, which nests at most 16 deep.
 pub data FieldSays : ℕ → json.Json → Value → Type 0 where

@@ -12,7 +12,7 @@ use Rattle.jsontext.specs.inner.Escape.{unescape}
 use Rattle.jsontext.specs.Token.{space_at, skip_number}
 use Rattle.jsontext.specs.Text.{string_at}
 use Rattle.jsontext.specs.Value.{value_at}
-use Rattle.json.specs.Meaning.{names}
+use Rattle.jsonevent.specs.Meaning.{names}
 
 -- the text of a spelled string
 abbrev pub text_of : List ℕ → Spelled → Text

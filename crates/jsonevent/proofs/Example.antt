@@ -17,10 +17,10 @@ use Rattle.jsontext.specs.Token.{is_space, space_at, word_at, digits_or, minus_a
 use Rattle.decimal.specs.Decimal.{is_digit}
 use Rattle.jsontext.specs.Text.{chars_at, string_at}
 use Rattle.jsontext.specs.Value as value
-use Rattle.json.specs.Field.{text_at, is_hex_of, hex_at, digits_only, whole_of, whole_at, after_item, items_at, inside_at, array_at, one_or_more, tag_at, tags_standing, index_in, field_of, field_at}
-use Rattle.json.specs.Object as object
-use Rattle.json.specs.inner.Closing as closing
-use Rattle.json.proofs.Whole.{Shows, sound}
+use Rattle.jsonevent.specs.Field.{text_at, is_hex_of, hex_at, digits_only, whole_of, whole_at, after_item, items_at, inside_at, array_at, one_or_more, tag_at, tags_standing, index_in, field_of, field_at}
+use Rattle.jsonevent.specs.Object as object
+use Rattle.jsonevent.specs.inner.Closing as closing
+use Rattle.jsonevent.proofs.Whole.{Shows, sound}
 
 abbrev quoted : List ℕ → List ℕ
 quoted l = 0x22 ∷ (l ++ (0x22 ∷ []))

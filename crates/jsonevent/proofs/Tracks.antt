@@ -15,12 +15,12 @@ use Rattle.event.specs.Event.{Text, Event}
 use Rattle.jsontext.specs.Grammar as json
 use Rattle.jsontext.proofs.OneValue.{chars_one}
 use Rattle.jsontext.proofs.Meaning.{unescape_chars}
-use Rattle.json.specs.Meaning.{Values, no_value, named, other, Once, once, Shallow, no_member, known, ignored, IsEvent, is_event}
-use Rattle.json.specs.Field.{Value, missing, field_of, Fields, field}
-use Rattle.json.specs.Object.{no_fields}
-use Rattle.json.specs.inner.Closing.{is_missing}
-use Rattle.json.proofs.Names.{name, by_seven, name_number, number_name, known_number, number_known}
-use Rattle.json.proofs.Says.{FieldSays, ignored_says, says_some, says_shallow, fields_of, Holds, holds, says_all, all_says}
+use Rattle.jsonevent.specs.Meaning.{Values, no_value, named, other, Once, once, Shallow, no_member, known, ignored, IsEvent, is_event}
+use Rattle.jsonevent.specs.Field.{Value, missing, field_of, Fields, field}
+use Rattle.jsonevent.specs.Object.{no_fields}
+use Rattle.jsonevent.specs.inner.Closing.{is_missing}
+use Rattle.jsonevent.proofs.Names.{name, by_seven, name_number, number_name, known_number, number_known}
+use Rattle.jsonevent.proofs.Says.{FieldSays, ignored_says, says_some, says_shallow, fields_of, Holds, holds, says_all, all_says}
 
 -- a name that was missing before its member, and what its value says
 pub data Tracks : Fields → json.Members → Fields → Type 0 where

@@ -4,7 +4,7 @@ use Rattle.std.specs.Prelude.{ℕ, List}
 use Rattle.scan.specs.Choice.{Answer}
 use Rattle.buffer.specs.Entry.{writes, leaves}
 use Rattle.notepack.specs.Strict.{pack}
-use Rattle.json.specs.Object.{read_json}
+use Rattle.jsonevent.specs.Object.{read_json}
 
 -- its answer, and what it leaves in d
 abbrev pub json_reads : List ℕ → List ℕ → Answer ℕ

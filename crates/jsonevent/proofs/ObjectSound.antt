@@ -17,14 +17,14 @@ use Rattle.jsontext.specs.Grammar as json
 use Rattle.jsontext.specs.Token.{space_at}
 use Rattle.jsontext.proofs.TokenLaws.{bind, space_consumes}
 use Rattle.jsontext.proofs.FirstByte.{begins_member, some_bytes}
-use Rattle.json.specs.Meaning.{IsEvent}
-use Rattle.json.specs.Field.{Value, field_of, Fields, field}
-use Rattle.json.specs.Object.{no_fields, colon_at, member_at, after_member, members_at, inside_at, object_at}
-use Rattle.json.specs.inner.Closing.{is_missing}
-use Rattle.json.proofs.Says.{FieldSays, Holds}
-use Rattle.json.proofs.Tracks.{Tracks, no_more, then, tracks_event}
-use Rattle.json.proofs.Closing.{Closes, closes, lacks, close_told}
-use Rattle.json.proofs.FieldSound.{Saying, saying, Quotes, quotes, text_consumes, field_says, says_bytes}
+use Rattle.jsonevent.specs.Meaning.{IsEvent}
+use Rattle.jsonevent.specs.Field.{Value, field_of, Fields, field}
+use Rattle.jsonevent.specs.Object.{no_fields, colon_at, member_at, after_member, members_at, inside_at, object_at}
+use Rattle.jsonevent.specs.inner.Closing.{is_missing}
+use Rattle.jsonevent.proofs.Says.{FieldSays, Holds}
+use Rattle.jsonevent.proofs.Tracks.{Tracks, no_more, then, tracks_event}
+use Rattle.jsonevent.proofs.Closing.{Closes, closes, lacks, close_told}
+use Rattle.jsonevent.proofs.FieldSound.{Saying, saying, Quotes, quotes, text_consumes, field_says, says_bytes}
 
 -- ---- a member
 

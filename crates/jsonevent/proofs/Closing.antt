@@ -4,10 +4,10 @@ use Prim.Native.Nat.{ℕ, ◌+◌}
 use mathlib.Core.Path.{◌≡◌, refl}
 use Rattle.scan.specs.Choice.{Answer, shown, refused, Read, read, and_then}
 use Rattle.event.specs.Event.{Event}
-use Rattle.json.specs.Field.{Value, missing, bytes, number, tags, text, Fields, field}
-use Rattle.json.specs.inner.Closing.{close_at, bytes_in, number_in, tags_in, text_in}
-use Rattle.json.proofs.Names.{by_seven}
-use Rattle.json.proofs.Says.{fields_of, Holds, holds}
+use Rattle.jsonevent.specs.Field.{Value, missing, bytes, number, tags, text, Fields, field}
+use Rattle.jsonevent.specs.inner.Closing.{close_at, bytes_in, number_in, tags_in, text_in}
+use Rattle.jsonevent.proofs.Names.{by_seven}
+use Rattle.jsonevent.proofs.Says.{fields_of, Holds, holds}
 
 -- ---- one field
 

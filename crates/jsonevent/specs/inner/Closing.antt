@@ -6,7 +6,7 @@
 use Rattle.std.specs.Prelude.{ℕ, ◌+◌, Bool, true, false, List, []}
 use Rattle.scan.specs.Choice.{Answer, shown, refused, Read, read, and_then}
 use Rattle.event.specs.Event.{Text, Tag, Event}
-use Rattle.json.specs.Field.{Value, missing, bytes, number, tags, text, Fields, field}
+use Rattle.jsonevent.specs.Field.{Value, missing, bytes, number, tags, text, Fields, field}
 
 abbrev pub bytes_in : ℕ → Value → Answer (List ℕ)
 bytes_in at missing = refused 15 at

@@ -18,14 +18,14 @@ use Rattle.jsontext.specs.Token.{space_at}
 use Rattle.jsontext.proofs.TokenLaws.{Stop, stop_brace, space_accepts}
 use Rattle.jsontext.proofs.FirstByte.{first_at, begins_value, begins_members}
 use Rattle.jsontext.proofs.ValueComplete.{ws_stop, not_space, separator_accepts, separator_stop, comma_solid, colon_solid, brace_solid, separator_some}
-use Rattle.json.specs.Meaning.{IsEvent, is_event}
-use Rattle.json.specs.Field.{Value, field_of, Fields, field}
-use Rattle.json.specs.Object.{colon_at, member_at, after_member, members_at, inside_at, object_at}
-use Rattle.json.specs.inner.Closing.{is_missing, close_at}
-use Rattle.json.proofs.Says.{FieldSays}
-use Rattle.json.proofs.Tracks.{Tracks, no_more, then, no_event, event_tracks}
-use Rattle.json.proofs.Closing.{close_event}
-use Rattle.json.proofs.FieldComplete.{quoted_accepts, field_accepts}
+use Rattle.jsonevent.specs.Meaning.{IsEvent, is_event}
+use Rattle.jsonevent.specs.Field.{Value, field_of, Fields, field}
+use Rattle.jsonevent.specs.Object.{colon_at, member_at, after_member, members_at, inside_at, object_at}
+use Rattle.jsonevent.specs.inner.Closing.{is_missing, close_at}
+use Rattle.jsonevent.proofs.Says.{FieldSays}
+use Rattle.jsonevent.proofs.Tracks.{Tracks, no_more, then, no_event, event_tracks}
+use Rattle.jsonevent.proofs.Closing.{close_event}
+use Rattle.jsonevent.proofs.FieldComplete.{quoted_accepts, field_accepts}
 
 -- a member whose name was missing is read, and its field is remembered
 member_accepts : (f : Fields) {n t : List ℕ} {v : json.Json} {x : Value} {s l : List ℕ} {a c : ℕ} → json.SpellsMember n v l → json.Chars n t

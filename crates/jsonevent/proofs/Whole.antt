@@ -21,11 +21,11 @@ use Rattle.jsontext.specs.Token.{is_space, space_at}
 use Rattle.jsontext.proofs.OneValue.{end_solid}
 use Rattle.jsontext.proofs.TokenLaws.{bind, space_consumes, space_accepts}
 use Rattle.jsontext.proofs.FirstByte.{first_at, begins_value}
-use Rattle.json.specs.Meaning.{IsEvent}
-use Rattle.json.specs.Object.{whole_at, read_json}
-use Rattle.json.proofs.FieldSound.{Saying, saying}
-use Rattle.json.proofs.ObjectSound.{object_consumes}
-use Rattle.json.proofs.ObjectComplete.{object_accepts}
+use Rattle.jsonevent.specs.Meaning.{IsEvent}
+use Rattle.jsonevent.specs.Object.{whole_at, read_json}
+use Rattle.jsonevent.proofs.FieldSound.{Saying, saying}
+use Rattle.jsonevent.proofs.ObjectSound.{object_consumes}
+use Rattle.jsonevent.proofs.ObjectComplete.{object_accepts}
 
 -- s is a JSON text that is the event e, and is not too long
 pub record Shows (s : List ℕ) (e : Event) : Type 0 where

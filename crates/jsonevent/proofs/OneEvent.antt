@@ -19,7 +19,7 @@ use Rattle.jsontext.proofs.TokenLaws.{Stop, stop_end, space_accepts}
 use Rattle.jsontext.proofs.FirstByte.{first_at, begins_value}
 use Rattle.jsontext.proofs.ValueComplete.{ws_stop}
 use Rattle.jsontext.proofs.OneValue.{chars_one, one_value}
-use Rattle.json.specs.Meaning.{Values, no_value, named, other, IsText, is_text, IsHex, is_hex, IsNumber, is_number, Each, none, also, IsArray, is_array, Once, once, IsEvent, is_event}
+use Rattle.jsonevent.specs.Meaning.{Values, no_value, named, other, IsText, is_text, IsHex, is_hex, IsNumber, is_number, Each, none, also, IsArray, is_array, Once, once, IsEvent, is_event}
 
 -- ---- a value is one event
 

@@ -31,9 +31,9 @@ use Rattle.jsontext.proofs.TextLaws.{StringAt, string_is, string_consumes, quote
 use Rattle.jsontext.proofs.FirstByte.{begins_value, some_bytes}
 use Rattle.jsontext.proofs.ValueSound.{Some, some, value_consumes}
 use Rattle.jsontext.proofs.Meaning.{unescape_chars, chars_utf8, chars_same}
-use Rattle.json.specs.Meaning.{IsText, is_text, IsHex, is_hex, IsNumber, is_number, Each, none, also, IsArray, is_array, IsTag}
-use Rattle.json.specs.Field.{text_of, text_at, is_hex_of, hex_at, digits_only, whole_of, whole_at, after_item, items_at, inside_at, array_at, one_or_more, tag_at, tags_standing, Value, missing, bytes, number, tags, text, under, field_at}
-use Rattle.json.proofs.Says.{FieldSays, id_says, pubkey_says, sig_says, time_says, kind_says, tags_says, content_says, ignored_says}
+use Rattle.jsonevent.specs.Meaning.{IsText, is_text, IsHex, is_hex, IsNumber, is_number, Each, none, also, IsArray, is_array, IsTag}
+use Rattle.jsonevent.specs.Field.{text_of, text_at, is_hex_of, hex_at, digits_only, whole_of, whole_at, after_item, items_at, inside_at, array_at, one_or_more, tag_at, tags_standing, Value, missing, bytes, number, tags, text, under, field_at}
+use Rattle.jsonevent.proofs.Says.{FieldSays, id_says, pubkey_says, sig_says, time_says, kind_says, tags_says, content_says, ignored_says}
 
 -- the bytes spell a value that says x
 pub data Saying {A : Type 0} (Is : json.Json → A → Type 0) (x : A) (l : List ℕ) : Type 0 where

@@ -25,10 +25,10 @@ use Rattle.jsontext.proofs.TextLaws.{string_accepts, quoted_part}
 use Rattle.jsontext.proofs.FirstByte.{first_at, begins_items}
 use Rattle.jsontext.proofs.ValueComplete.{value_accepts, separator_accepts, not_space, comma_solid, bracket_solid}
 use Rattle.jsontext.proofs.Meaning.{unescape_chars}
-use Rattle.json.specs.Meaning.{IsText, is_text, IsHex, is_hex, IsNumber, is_number, Each, none, also, IsArray, is_array, IsTag}
-use Rattle.json.specs.Field.{text_at, is_hex_of, hex_at, digits_only, whole_of, whole_at, after_item, items_at, inside_at, array_at, one_or_more, tag_at, tags_standing, Value, field_at}
-use Rattle.json.proofs.Says.{FieldSays, id_says, pubkey_says, sig_says, time_says, kind_says, tags_says, content_says, ignored_says}
-use Rattle.json.proofs.FieldSound.{Within, within, span_part}
+use Rattle.jsonevent.specs.Meaning.{IsText, is_text, IsHex, is_hex, IsNumber, is_number, Each, none, also, IsArray, is_array, IsTag}
+use Rattle.jsonevent.specs.Field.{text_at, is_hex_of, hex_at, digits_only, whole_of, whole_at, after_item, items_at, inside_at, array_at, one_or_more, tag_at, tags_standing, Value, field_at}
+use Rattle.jsonevent.proofs.Says.{FieldSays, id_says, pubkey_says, sig_says, time_says, kind_says, tags_says, content_says, ignored_says}
+use Rattle.jsonevent.proofs.FieldSound.{Within, within, span_part}
 
 -- ---- texts
 

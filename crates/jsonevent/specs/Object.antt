@@ -5,8 +5,8 @@ use Rattle.scan.specs.Choice.{pick, Answer, shown, refused, Read, read, and_then
 use Rattle.scan.specs.Place.{byte_at}
 use Rattle.event.specs.Event.{Event}
 use Rattle.jsontext.specs.Token.{space_at}
-use Rattle.json.specs.Field.{missing, text_at, field_of, field_at, Fields, field}
-use Rattle.json.specs.inner.Closing.{is_missing, close_at}
+use Rattle.jsonevent.specs.Field.{missing, text_at, field_of, field_at, Fields, field}
+use Rattle.jsonevent.specs.inner.Closing.{is_missing, close_at}
 
 abbrev pub no_fields : Fields
 no_fields = missing ∷ missing ∷ missing ∷ missing ∷ missing ∷ missing ∷ missing ∷ []

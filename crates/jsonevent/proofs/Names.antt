@@ -10,8 +10,8 @@ use Rattle.scan.proofs.Step.{pick_by}
 use Rattle.scan.specs.Compare.{same_bytes}
 use Rattle.event.specs.Event.{Text}
 use Rattle.scan.proofs.CompareLaws.{same_same, bytes_same}
-use Rattle.json.specs.Meaning.{names, OneOf, first, later}
-use Rattle.json.specs.Field.{index_in, field_of}
+use Rattle.jsonevent.specs.Meaning.{names, OneOf, first, later}
+use Rattle.jsonevent.specs.Field.{index_in, field_of}
 
 -- the name of field number k
 abbrev pub name : ℕ → Text

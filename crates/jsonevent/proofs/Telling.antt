@@ -17,12 +17,12 @@ use Rattle.jsontext.specs.Token.{space_at}
 use Rattle.jsontext.specs.inner.Numbers.{value_numbers}
 use Rattle.jsontext.proofs.TokenLaws.{space_inside}
 use Rattle.jsontext.proofs.Telling.{byte_inside, space_behind, number_tells, string_tells, value_tells}
-use Rattle.json.specs.Field.{text_at, is_hex_of, hex_at, digits_only, whole_of, whole_at, after_item, items_at, inside_at, array_at, one_or_more, tag_at, tags_standing, under, field_of, field_at, Fields, field}
-use Rattle.json.specs.Object.{no_fields, colon_at, member_at, after_member, members_at, object_at, read_json}
-use Rattle.json.specs.inner.Closing.{is_missing}
-use Rattle.json.specs.inner.Numbers.{json_numbers}
-use Rattle.json.specs.Object as object
-use Rattle.json.proofs.Closing.{Closes, closes, lacks, close_told}
+use Rattle.jsonevent.specs.Field.{text_at, is_hex_of, hex_at, digits_only, whole_of, whole_at, after_item, items_at, inside_at, array_at, one_or_more, tag_at, tags_standing, under, field_of, field_at, Fields, field}
+use Rattle.jsonevent.specs.Object.{no_fields, colon_at, member_at, after_member, members_at, object_at, read_json}
+use Rattle.jsonevent.specs.inner.Closing.{is_missing}
+use Rattle.jsonevent.specs.inner.Numbers.{json_numbers}
+use Rattle.jsonevent.specs.Object as object
+use Rattle.jsonevent.proofs.Closing.{Closes, closes, lacks, close_told}
 
 module _ (s : List ℕ) where
   abbrev In : {A : Type 0} → Answer (Read A) → Type 0

@@ -2,7 +2,7 @@
 use Rattle.std.specs.Prelude.{ℕ, List, length}
 use Rattle.scan.specs.Choice.{Answer, shown, and_then}
 use Rattle.notepack.specs.Strict.{pack}
-use Rattle.json.specs.Object.{read_json}
+use Rattle.jsonevent.specs.Object.{read_json}
 
 -- the length that it needs, whatever is lent
 abbrev pub json_needs : List ℕ → Answer ℕ

@@ -21,17 +21,17 @@ use Rattle.jsontext.proofs.TokenLaws.{Stop, space_accepts, number_accepts}
 use Rattle.jsontext.proofs.TextLaws.{string_ill_formed}
 use Rattle.jsontext.proofs.FirstByte.{first_at, begins_value, begins_items, begins_members}
 use Rattle.jsontext.proofs.ValueComplete.{not_space, separator_accepts, comma_solid, brace_solid}
-use Rattle.json.specs.Meaning.{IsText, Each, none, also, is_array, IsTag, IsEvent}
-use Rattle.json.specs.Field.{text_at, is_hex_of, hex_at, digits_only, whole_of, whole_at, after_item, items_at, inside_at, array_at, one_or_more, tag_at, tags_standing, field_of, field_at, Fields, field}
-use Rattle.json.specs.Object.{no_fields, member_at, object_at, read_json}
-use Rattle.json.specs.inner.Closing.{is_missing, close_at}
-use Rattle.json.specs.Object as object
-use Rattle.json.proofs.Says.{holds}
-use Rattle.json.proofs.Tracks.{Tracks, some_field}
-use Rattle.json.proofs.Closing.{Closes, closes, lacks, close_told}
-use Rattle.json.proofs.FieldSound.{Within, span_part}
-use Rattle.json.proofs.FieldComplete.{quoted_accepts, text_accepts, digits_only_lem, each_some, array_accepts, tag_accepts}
-use Rattle.json.proofs.ObjectComplete.{members_accept, object_accepts}
+use Rattle.jsonevent.specs.Meaning.{IsText, Each, none, also, is_array, IsTag, IsEvent}
+use Rattle.jsonevent.specs.Field.{text_at, is_hex_of, hex_at, digits_only, whole_of, whole_at, after_item, items_at, inside_at, array_at, one_or_more, tag_at, tags_standing, field_of, field_at, Fields, field}
+use Rattle.jsonevent.specs.Object.{no_fields, member_at, object_at, read_json}
+use Rattle.jsonevent.specs.inner.Closing.{is_missing, close_at}
+use Rattle.jsonevent.specs.Object as object
+use Rattle.jsonevent.proofs.Says.{holds}
+use Rattle.jsonevent.proofs.Tracks.{Tracks, some_field}
+use Rattle.jsonevent.proofs.Closing.{Closes, closes, lacks, close_told}
+use Rattle.jsonevent.proofs.FieldSound.{Within, span_part}
+use Rattle.jsonevent.proofs.FieldComplete.{quoted_accepts, text_accepts, digits_only_lem, each_some, array_accepts, tag_accepts}
+use Rattle.jsonevent.proofs.ObjectComplete.{members_accept, object_accepts}
 
 -- 1 at 0: over 65,536 bytes
 pub too_long : (s : List ℕ) → 65_536 < length s → read_json s ≡ refused 1 0
