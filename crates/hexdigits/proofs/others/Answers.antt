@@ -1,0 +1,17 @@
+use Prim.Native.Nat.{◌+◌, ◌-◌, ◌≤◌}
+use mathlib.Core.Path.{◌≡◌}
+use native.Mathlib.Omega.{arith}
+use borrow.Author.Rules.{rules}
+use lib.ListN.{length, drop}
+use Rattle.hexdigits.specs.inner.Block.{others_of}
+use Rattle.hexdigits.proofs.BlockLaws.{other_again, other_left}
+use Rattle.hexdigits.proofs.others.Goals as goal
+
+pub loop-i-init : goal.loop-i-init
+loop-i-init c = (omega arith, omega arith, omega arith)
+
+pub loop-i-preserved : goal.loop-i-preserved
+loop-i-preserved c = (omega arith, omega arith, rw c.is_other-n.ensures.value (search other_again))
+
+pub returns : goal.returns
+returns c = search other_left

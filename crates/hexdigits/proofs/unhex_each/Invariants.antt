@@ -1,0 +1,18 @@
+-- `unhex_each` stores a byte for each two digits. The invariant: what is left to write are the bytes of t from i on,
+-- and the place is `at + i / 2`.
+-- A turn is `unhex-two` and one byte stored; a last digit alone is no byte, by `unhex-ended`.
+use Prim.Native.Nat.{◌+◌, ◌*◌, ◌-◌, ◌≤◌}
+use mathlib.Core.Path.{◌≡◌, refl}
+use native.Mathlib.Omega.{arith}
+use borrow.Author.Rules.{rules}
+use lib.ListN.{length, drop, length-set}
+use Rattle.buffer.proofs.Laws.{Left, start, byte, done}
+use Rattle.hexdigits.specs.Hex.{unhex}
+use Rattle.hexdigits.proofs.Turn.{unhex_two, unhex_ended}
+use Rattle.hexdigits.proofs.unhex_each.Given as goal
+
+abbrev pub invariant-loop-i : goal.invariant-loop-i
+invariant-loop-i l = (l.i ≤ length l.t) × (2 * l.o ≡ 2 * l.at + l.i) × (length l.out ≡ length l.initial.out) × Left l.initial.out l.at (unhex l.t) l.out l.o (unhex (drop l.i l.t))
+
+abbrev pub decreases-loop-i : goal.decreases-loop-i
+decreases-loop-i l = length l.t - l.i
