@@ -27,7 +27,7 @@ const K: [u32; 64] = [
 const LIMIT: u64 = 2_305_843_009_213_693_952;
 
 // The eight words of a hash value, or of the working variables.
-#[derive(Drop)]
+#[derive(Clone, Copy)]
 pub struct Words {
     pub a: u32,
     pub b: u32,
@@ -291,7 +291,7 @@ fn put_long(out: &mut [u8], at: usize, n: u64) -> usize
 
 // The state between the pieces of a message of `count` bytes so far. Of `pending` the first `count % 64` bytes wait for
 // their block.
-#[derive(Drop)]
+#[derive(Clone, Copy)]
 pub struct Hash {
     pub chain: Words,
     pub pending: [u8; 64],
@@ -399,7 +399,7 @@ fn finish_words(s: Hash) -> Words
 }
 
 // What finishing tells: the hash value, or that the message is too long.
-#[derive(Drop)]
+#[derive(Clone, Copy)]
 pub enum Finished {
     Digest(Words),
     TooLong,

@@ -2,12 +2,8 @@
 use Rattle.std.proofs.Common.{refl}
 use Rattle.sha256.specs.Constants.{initial}
 use Rattle.sha256.specs.Pieces.{started}
-use Rattle.sha256.proofs.start.Statement.{statement}
-use Rattle.sha256.proofs.start.Tie as tie
+use Rattle.sha256.proofs.start.Goals as goal
 
-returns : tie.Need-returns
+pub returns : goal.returns
 unfolding started initial
 returns c = refl
-
-pub start_spec : {M : Type 1} → statement M
-start_spec = tie.close (tie.spec returns)

@@ -1,0 +1,12 @@
+-- `compress_block` is what one block does to the hash value: its words are loaded, the rounds are gone through over the
+-- schedule, and the words are added.
+use Rattle.std.proofs.Common.{◌∙◌, rules}
+use Rattle.sha256.specs.Compression.{compress}
+use Rattle.sha256.proofs.compress_block.Goals as goal
+
+pub returns : goal.returns
+unfolding compress
+returns c =
+    let gone = c in
+    let loaded = gone in
+    c.add_words.ensures ∙ rw (gone.all_rounds-v.ensures, loaded.load.ensures)

@@ -1,0 +1,11 @@
+-- `put_long` writes eight bytes: two words, the high one first. By composition.
+use Rattle.std.proofs.Common.{rules}
+use Rattle.buffer.proofs.Laws.{then}
+use Rattle.sha256.specs.Message.{long_bytes}
+use Rattle.sha256.proofs.put_long.Goals as goal
+
+pub returns : goal.returns
+unfolding long_bytes
+returns c =
+    let b = c in
+    then b.put_word-a.ensures b.put_word.ensures
