@@ -1,9 +1,0 @@
--- `encoded_len` is the law of the length.
-use mathlib.Core.Path.{sym}
-use borrow.Author.Rules.{rules}
-use Rattle.base64text.proofs.Texts.{length_encoded}
-use Rattle.base64text.proofs.encoded_len.Statement.{statement}
-use Rattle.base64text.proofs.encoded_len.Tie as tie
-
-pub encoded_len_spec : {M : Type 1} → statement M
-encoded_len_spec = tie.close (tie.spec (λ c. search rules) (λ c. search rules) (λ c. search rules) (λ c. search rules) (λ c. sym (length_encoded _)))
