@@ -23,7 +23,7 @@ spelled_digits (suc left) r (last {b = b} h) k f = rw (lt-ltb b 128 h)
 spelled_digits zero r (more h z u) k f = absurd (omega (arith, digits_one u))
 spelled_digits (suc left) r (more {b = b} {n = n} {l = l} h z u) k f =
     let e : 128 + b - 128 ≡ b = omega arith in
-    let i = spelled_digits left r u (omega arith) (omega (arith, f, pow-succ' 128 left)) in
+    let i = spelled_digits {n = n} {l = l} left r u (omega arith) (omega (arith, f, pow-succ' 128 left)) in
     rw (le-ltb (128 + b) 128 (omega arith), e, i, ne_eqb n 0 (λ q. omega (arith, z, q)))
 
 -- what t spells, where it is a number, is spelled by the bytes in front, if they are bytes
