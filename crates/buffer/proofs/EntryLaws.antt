@@ -1,14 +1,14 @@
 -- An entry that measured its text and refused where it does not fit leaves the text from the start and the rest
 -- unchanged.
 -- The one place where `puts` is turned into `++`.
-use Prim.Native.Nat.{ℕ, ◌+◌, ◌<◌, ◌≤◌}
+use Prim.Native.Nat.{ℕ, ◌<◌, ◌≤◌}
 use mathlib.Core.Path.{◌≡◌, ap, ◌∙◌}
 use mathlib.Core.List.{List, ◌++◌}
 use native.Mathlib.Nat.{zero-add}
 use native.Mathlib.Omega.{arith}
 use lib.ListN.{length, drop}
 use borrow.Author.Tests.{le-leb, lt-leb}
-use Rattle.scan.specs.Choice.{Answer, shown, refused}
+use Rattle.scan.specs.Choice.{shown, refused}
 use Rattle.buffer.specs.inner.Store.{Buffer, puts, Wrote}
 use Rattle.buffer.specs.Entry.{written, filled}
 use Rattle.buffer.proofs.Laws.{puts_eq}

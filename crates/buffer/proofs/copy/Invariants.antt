@@ -1,11 +1,9 @@
 -- `copy` writes all of s. The invariant: what is left to write is s from i on, and the place is `at + i`.
 -- Each turn is the law `byte`; the room is arithmetic on the requirement.
 use Prim.Native.Nat.{◌≤◌, ◌+◌, ◌-◌}
-use mathlib.Core.Path.{◌≡◌, refl}
-use native.Mathlib.Omega.{arith}
-use lib.ListN.{length, drop, length-set, drop_of_length-le}
-use Rattle.scan.proofs.Step.{rest_more}
-use Rattle.buffer.proofs.Laws.{Left, start, byte, done}
+use mathlib.Core.Path.{◌≡◌}
+use lib.ListN.{length, drop}
+use Rattle.buffer.proofs.Laws.{Left}
 use Rattle.buffer.proofs.copy.Given as goal
 
 abbrev pub invariant-loop-i : goal.invariant-loop-i

@@ -1,6 +1,5 @@
 -- `put_byte` stores its byte where there is room, and leaves a full buffer as it is.
 -- Each return is one law of `puts`: `stored` and `full`.
-use borrow.Author.Rules.{rules}
 use Rattle.buffer.proofs.Laws.{stored, full}
 use Rattle.buffer.proofs.put_byte.Goals as goal
 

@@ -1,7 +1,6 @@
 -- `put_bytes` copies all of s where it fits, and else as much as there is room for.
 -- `cut`: what is behind the buffer's end does not matter.
 use native.Mathlib.Omega.{arith}
-use borrow.Author.Rules.{rules}
 use lib.ListN.{length-take}
 use Rattle.buffer.proofs.Laws.{full, cut}
 use Rattle.buffer.proofs.put_bytes.Goals as goal

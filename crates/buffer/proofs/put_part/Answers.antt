@@ -1,6 +1,5 @@
 -- `put_part` writes `take n (drop from s)`, the bytes that `scan::part` hands back.
 -- By the promises of the two functions it calls.
-use borrow.Author.Rules.{rules}
 use Rattle.buffer.proofs.put_part.Goals as goal
 
 pub returns : goal.returns

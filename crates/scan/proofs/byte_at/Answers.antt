@@ -1,6 +1,5 @@
 -- `byte_at` reads the byte at its place, and past the end the 0 that `get_or` gives.
 -- By `tests`: each return under the test that leads to it.
-use borrow.Author.Rules.{rules}
 use Rattle.scan.proofs.Step.{tests}
 use Rattle.scan.proofs.byte_at.Goals as goal
 

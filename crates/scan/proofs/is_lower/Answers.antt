@@ -1,8 +1,5 @@
-use Prim.Native.Nat.{◌≤◌, ◌-◌}
-use mathlib.Core.Path.{◌≡◌, refl}
+use mathlib.Core.Path.{refl}
 use native.Mathlib.Omega.{arith}
-use lib.ListN.{length, drop}
-use Rattle.scan.specs.Compare.{lower}
 use Rattle.scan.proofs.CompareLaws.{lowers}
 use Rattle.scan.proofs.is_lower.Goals as goal
 

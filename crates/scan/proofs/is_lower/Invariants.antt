@@ -2,11 +2,9 @@
 -- left of both.
 -- Each turn and each end is one law of `lowers`.
 use Prim.Native.Nat.{◌≤◌, ◌-◌}
-use mathlib.Core.Path.{◌≡◌, refl}
-use native.Mathlib.Omega.{arith}
+use mathlib.Core.Path.{◌≡◌}
 use lib.ListN.{length, drop}
 use Rattle.scan.specs.Compare.{lower}
-use Rattle.scan.proofs.CompareLaws.{lowers}
 use Rattle.scan.proofs.is_lower.Given as goal
 
 abbrev pub invariant-loop-i : goal.invariant-loop-i

@@ -1,8 +1,3 @@
-use Prim.Native.Nat.{◌-◌}
-use mathlib.Core.Path.{◌≡◌}
-use borrow.Author.Rules.{rules}
-use lib.ListN.{length}
-use Rattle.scan.specs.Place.{within, run_at}
 use Rattle.scan.proofs.PlaceLaws.{runs}
 use Rattle.scan.proofs.run_end.Goals as goal
 

@@ -3,10 +3,8 @@
 -- Each turn is one law of `runs`, which takes what the loop knows.
 use Prim.Native.Nat.{◌-◌}
 use mathlib.Core.Path.{◌≡◌}
-use borrow.Author.Rules.{rules}
 use lib.ListN.{length}
 use Rattle.scan.specs.Place.{within, run_at}
-use Rattle.scan.proofs.PlaceLaws.{runs}
 use Rattle.scan.proofs.run_end.Given as goal
 
 abbrev pub invariant-loop-i : goal.invariant-loop-i

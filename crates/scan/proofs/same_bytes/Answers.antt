@@ -1,8 +1,5 @@
-use Prim.Native.Nat.{◌≤◌, ◌-◌}
-use mathlib.Core.Path.{◌≡◌, refl}
+use mathlib.Core.Path.{refl}
 use native.Mathlib.Omega.{arith}
-use lib.ListN.{length, drop}
-use Rattle.scan.specs.Compare.{same_bytes}
 use Rattle.scan.proofs.CompareLaws.{sames}
 use Rattle.scan.proofs.same_bytes.Goals as goal
 

@@ -2,11 +2,9 @@
 -- of both.
 -- Each turn and each end is one law of `sames`.
 use Prim.Native.Nat.{◌≤◌, ◌-◌}
-use mathlib.Core.Path.{◌≡◌, refl}
-use native.Mathlib.Omega.{arith}
+use mathlib.Core.Path.{◌≡◌}
 use lib.ListN.{length, drop}
 use Rattle.scan.specs.Compare.{same_bytes}
-use Rattle.scan.proofs.CompareLaws.{sames}
 use Rattle.scan.proofs.same_bytes.Given as goal
 
 abbrev pub invariant-loop-i : goal.invariant-loop-i

@@ -1,10 +1,6 @@
-use Prim.Native.Nat.{◌+◌, ◌-◌, ◌≤◌}
-use mathlib.Core.Path.{◌≡◌}
+use Prim.Native.Nat.{◌+◌}
 use native.Mathlib.Nat.{add-zero, add_assoc}
 use native.Mathlib.Omega.{arith}
-use borrow.Author.Rules.{rules}
-use lib.ListN.{length, drop}
-use Rattle.scan.specs.Place.{begins, stands_at}
 use Rattle.scan.proofs.PlaceLaws.{stands_start, stands_again, stands_other, stands_whole, stands_short}
 use Rattle.scan.proofs.stands_at.Goals as goal
 

@@ -3,12 +3,8 @@
 -- Each turn is one law of `stands`, which takes what the loop knows.
 use Prim.Native.Nat.{◌+◌, ◌-◌, ◌≤◌}
 use mathlib.Core.Path.{◌≡◌}
-use native.Mathlib.Nat.{add-zero, add_assoc}
-use native.Mathlib.Omega.{arith}
-use borrow.Author.Rules.{rules}
 use lib.ListN.{length, drop}
 use Rattle.scan.specs.Place.{begins, stands_at}
-use Rattle.scan.proofs.PlaceLaws.{stands_start, stands_again, stands_other, stands_whole, stands_short}
 use Rattle.scan.proofs.stands_at.Given as goal
 
 abbrev pub invariant-loop-j : goal.invariant-loop-j
