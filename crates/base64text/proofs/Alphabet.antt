@@ -11,8 +11,7 @@ use native.Mathlib.Decide.{dec_lt}
 use mathlib.Core.Logic.{dite}
 use lib.ListN.{length, get_or, take, drop}
 use lib.Dec.{ltb, eqb}
-use borrow.Author.Tests.{eqb-true, ltb-true, lt-ltb, le-ltb}
-use Rattle.scan.specs.Ascii.{ascii}
+use borrow.Author.Tests.{eqb-true, ltb-true, le-ltb}
 use Rattle.scan.specs.Bytes.{All, none, also}
 use Rattle.scan.specs.Choice.{pick}
 use Rattle.scan.specs.Place.{within, run, run_at}
@@ -22,7 +21,7 @@ use Rattle.scan.proofs.PlaceLaws.{run_over, run_stops}
 use Rattle.scan.proofs.BlockLaws.{block_none}
 use Rattle.base64text.specs.Base64.{alphabet, character_of, six_bits, in_alphabet}
 use Rattle.base64text.specs.inner.Tables.{bits_from, bits_table, is_outside}
-use Rattle.base64text.proofs.Below.{every, every_at}
+use Rattle.base64text.proofs.Below.{every_at}
 
 pub alphabet_long : (t : List ℕ) → t ≡ alphabet → length t ≡ 64
 unfolding alphabet

@@ -1,6 +1,6 @@
 -- The turns and the ends of the loops over the words of a block, the schedule, the rounds and the blocks.
 -- Each law opens the definition once; the premises are what the loop's record has.
-use Rattle.std.proofs.Common.{◌≡◌, ℕ, zero, suc, ◌+◌, ◌-◌, ◌*◌, ◌/◌, ◌%◌, ◌<◌, ◌≤◌, List, [], ◌∷◌, ◌++◌, length, get_or, take, drop, set, sym, refl, ap, ◌∙◌, append-nil, add-one, arith, length-append, length-take-le, take_all, get_or-take, drop-drop, take-suc-set}
+use Rattle.std.proofs.Common.{◌≡◌, ℕ, zero, suc, ◌+◌, ◌-◌, ◌*◌, ◌/◌, ◌%◌, ◌<◌, ◌≤◌, List, [], ◌∷◌, ◌++◌, length, get_or, take, drop, set, sym, refl, ap, ◌∙◌, append-nil, add-one, arith, length-append, length-take-le, get_or-take, drop-drop, take-suc-set}
 use lib.ListN.{get_or-append}
 use lib.Seq.{append_snoc}
 use Rattle.scan.proofs.Step.{rest_more, rest_none}

@@ -1,5 +1,5 @@
 -- FIPS 180-4, sections 5.1.1 and 6.2: the padding behind a message of whole bytes, and its digest. Assumes nothing.
-use Rattle.std.specs.Prelude.{ℕ, ◌+◌, ◌-◌, ◌*◌, ◌/◌, ◌%◌, ◌^◌, List, [], ◌∷◌, ◌++◌, length, replicate}
+use Rattle.std.specs.Prelude.{ℕ, ◌-◌, ◌*◌, ◌/◌, ◌%◌, ◌^◌, List, [], ◌∷◌, ◌++◌, length, replicate}
 use Rattle.sha256.specs.declared.Words.{Words}
 use Rattle.sha256.specs.Constants.{initial}
 use Rattle.sha256.specs.Compression.{blocks}

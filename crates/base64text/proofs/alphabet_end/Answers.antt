@@ -1,9 +1,7 @@
-use Prim.Native.Nat.{◌+◌, ◌-◌, ◌≤◌}
-use mathlib.Core.Path.{◌≡◌, refl, sym, ◌∙◌}
+use Prim.Native.Nat.{◌+◌}
+use mathlib.Core.Path.{refl, sym, ◌∙◌}
 use native.Mathlib.Omega.{arith}
-use borrow.Author.Rules.{rules}
 use lib.ListN.{length, length-take, length-drop}
-use Rattle.scan.specs.Place.{run_at}
 use Rattle.scan.proofs.PlaceLaws.{run_left}
 use Rattle.base64text.specs.Base64.{in_alphabet}
 use Rattle.base64text.proofs.Alphabet.{block_passed}

@@ -1,14 +1,10 @@
 -- `alphabet_end` passes blocks in which no byte counts, and looks byte by byte where one does.
 -- The invariant is one equation: the run from the start ends where the run from here does. A block is `block-passed`.
-use Prim.Native.Nat.{◌+◌, ◌-◌, ◌≤◌}
-use mathlib.Core.Path.{◌≡◌, refl, sym, ◌∙◌}
-use native.Mathlib.Omega.{arith}
-use borrow.Author.Rules.{rules}
-use lib.ListN.{length, length-take, length-drop}
+use Prim.Native.Nat.{◌-◌, ◌≤◌}
+use mathlib.Core.Path.{◌≡◌}
+use lib.ListN.{length}
 use Rattle.scan.specs.Place.{run_at}
-use Rattle.scan.proofs.PlaceLaws.{run_left}
 use Rattle.base64text.specs.Base64.{in_alphabet}
-use Rattle.base64text.proofs.Alphabet.{block_passed}
 use Rattle.base64text.proofs.alphabet_end.Given as goal
 
 abbrev pub invariant-loop-i : goal.invariant-loop-i

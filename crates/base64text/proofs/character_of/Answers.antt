@@ -1,6 +1,5 @@
 -- `character_of` takes the character from the alphabet: the lower six bits are a place in it.
 use native.Mathlib.Omega.{arith}
-use borrow.Author.Rules.{rules}
 use Rattle.base64text.specs.Base64.{character_of}
 use Rattle.base64text.proofs.Alphabet.{alphabet_long}
 use Rattle.base64text.proofs.character_of.Goals as goal

@@ -3,11 +3,8 @@
 -- A byte adds 0 or 1, so the sum is at most i and fits a byte.
 use Prim.Native.Nat.{◌+◌, ◌-◌, ◌≤◌}
 use mathlib.Core.Path.{◌≡◌}
-use native.Mathlib.Omega.{arith}
-use borrow.Author.Rules.{rules}
 use lib.ListN.{length, drop}
 use Rattle.scan.specs.inner.Blocks.{sum_of}
-use Rattle.scan.proofs.BlockLaws.{sum_again, sum_left}
 use Rattle.base64text.specs.inner.Tables.{is_outside}
 use Rattle.base64text.proofs.count_outside.Given as goal
 

@@ -1,7 +1,6 @@
 -- `decode_group` writes the bytes of the first four characters one by one, and ends where the text does.
 -- Each end is the law of a group of that length.
 use native.Mathlib.Omega.{arith}
-use borrow.Author.Rules.{rules}
 use Rattle.buffer.proofs.Laws.{then, nothing}
 use Rattle.base64text.proofs.Turns.{few_decoded, two_decoded, three_decoded, four_decoded}
 use Rattle.base64text.proofs.decode_group.Goals as goal

@@ -1,9 +1,7 @@
-use Prim.Native.Nat.{◌≤◌, ◌+◌, ◌-◌, ◌*◌, ◌/◌, ◌%◌}
-use mathlib.Core.Path.{◌≡◌, refl}
+use mathlib.Core.Path.{refl}
 use native.Mathlib.Omega.{arith}
-use borrow.Author.Rules.{rules}
-use lib.ListN.{length, drop, length-set, drop_of_length-le}
-use Rattle.buffer.proofs.Laws.{Left, start, done, also}
+use lib.ListN.{length-set, drop_of_length-le}
+use Rattle.buffer.proofs.Laws.{start, done, also}
 use Rattle.base64text.specs.Base64.{decoded}
 use Rattle.base64text.proofs.Turns.{decode_turn, three_bytes}
 use Rattle.base64text.proofs.decode_groups.Goals as goal

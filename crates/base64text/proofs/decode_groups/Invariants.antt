@@ -1,13 +1,10 @@
 -- `decode_groups` turns four characters into three bytes a turn. The invariant: what is left to write is the decoding of the rest,
 -- and the place moves by the groups passed. A turn is `decode-turn` and three stores.
 use Prim.Native.Nat.{◌≤◌, ◌+◌, ◌-◌, ◌*◌, ◌/◌, ◌%◌}
-use mathlib.Core.Path.{◌≡◌, refl}
-use native.Mathlib.Omega.{arith}
-use borrow.Author.Rules.{rules}
-use lib.ListN.{length, drop, length-set, drop_of_length-le}
-use Rattle.buffer.proofs.Laws.{Left, start, done, also}
+use mathlib.Core.Path.{◌≡◌}
+use lib.ListN.{length, drop}
+use Rattle.buffer.proofs.Laws.{Left}
 use Rattle.base64text.specs.Base64.{decoded}
-use Rattle.base64text.proofs.Turns.{decode_turn, three_bytes}
 use Rattle.base64text.proofs.decode_groups.Given as goal
 
 abbrev pub invariant-loop-i : goal.invariant-loop-i

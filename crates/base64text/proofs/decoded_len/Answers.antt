@@ -1,6 +1,5 @@
 -- `decoded_len` is the law of the length.
 use mathlib.Core.Path.{sym}
-use borrow.Author.Rules.{rules}
 use Rattle.base64text.proofs.Texts.{length_decoded}
 use Rattle.base64text.proofs.decoded_len.Goals as goal
 

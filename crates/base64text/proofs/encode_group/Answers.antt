@@ -1,7 +1,6 @@
 -- `encode_group` writes the characters of the first three bytes one by one, and ends where the bytes do.
 -- Each end is the law of a group of that length.
 use native.Mathlib.Omega.{arith}
-use borrow.Author.Rules.{rules}
 use Rattle.buffer.proofs.Laws.{then, nothing}
 use Rattle.base64text.proofs.Turns.{none_encoded, one_encoded, two_encoded, three_encoded}
 use Rattle.base64text.proofs.encode_group.Goals as goal

@@ -1,9 +1,8 @@
-use Prim.Native.Nat.{◌≤◌, ◌+◌, ◌-◌, ◌*◌, ◌/◌, ◌%◌}
-use mathlib.Core.Path.{◌≡◌, refl}
+use Prim.Native.Nat.{◌+◌}
+use mathlib.Core.Path.{refl}
 use native.Mathlib.Omega.{arith}
-use borrow.Author.Rules.{rules}
-use lib.ListN.{length, drop, length-set, drop_of_length-le}
-use Rattle.buffer.proofs.Laws.{Left, start, done, also}
+use lib.ListN.{length-set, drop_of_length-le}
+use Rattle.buffer.proofs.Laws.{start, done, also}
 use Rattle.base64text.specs.Base64.{encoded}
 use Rattle.base64text.proofs.Turns.{encode_turn, four_bytes}
 use Rattle.base64text.proofs.encode_groups.Goals as goal

@@ -1,13 +1,10 @@
 -- `encode_groups` turns three bytes into four characters a turn. The invariant: what is left to write is the encoding of the rest,
 -- and the place moves by the groups passed. A turn is `encode-turn` and four stores.
 use Prim.Native.Nat.{◌≤◌, ◌+◌, ◌-◌, ◌*◌, ◌/◌, ◌%◌}
-use mathlib.Core.Path.{◌≡◌, refl}
-use native.Mathlib.Omega.{arith}
-use borrow.Author.Rules.{rules}
-use lib.ListN.{length, drop, length-set, drop_of_length-le}
-use Rattle.buffer.proofs.Laws.{Left, start, done, also}
+use mathlib.Core.Path.{◌≡◌}
+use lib.ListN.{length, drop}
+use Rattle.buffer.proofs.Laws.{Left}
 use Rattle.base64text.specs.Base64.{encoded}
-use Rattle.base64text.proofs.Turns.{encode_turn, four_bytes}
 use Rattle.base64text.proofs.encode_groups.Given as goal
 
 abbrev pub invariant-loop-i : goal.invariant-loop-i

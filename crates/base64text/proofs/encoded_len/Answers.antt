@@ -1,6 +1,5 @@
 -- `encoded_len` is the law of the length.
 use mathlib.Core.Path.{sym}
-use borrow.Author.Rules.{rules}
 use Rattle.base64text.proofs.Texts.{length_encoded}
 use Rattle.base64text.proofs.encoded_len.Goals as goal
 

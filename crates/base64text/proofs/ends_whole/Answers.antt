@@ -1,8 +1,6 @@
 -- `ends_whole` looks at what the length leaves after division by 4, and then at the last character.
 -- Each outcome is the law of that remainder.
-use mathlib.Core.Path.{sym, ◌∙◌}
 use native.Mathlib.Omega.{arith}
-use borrow.Author.Rules.{rules}
 use Rattle.base64text.proofs.Texts.{ends_none, ends_lone, ends_two, ends_three}
 use Rattle.base64text.proofs.ends_whole.Goals as goal
 

@@ -1,8 +1,4 @@
-use Prim.Native.Nat.{◌-◌}
-use mathlib.Core.Path.{◌≡◌, refl, sym}
-use borrow.Author.Rules.{rules}
-use lib.ListN.{length}
-use Rattle.scan.specs.Place.{run_at}
+use mathlib.Core.Path.{refl, sym}
 use Rattle.scan.proofs.PlaceLaws.{run_again, run_left, run_broke}
 use Rattle.base64text.specs.Base64.{in_alphabet}
 use Rattle.base64text.proofs.Alphabet.{counts_in, counts_out}

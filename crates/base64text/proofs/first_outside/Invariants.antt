@@ -2,13 +2,10 @@
 -- here does.
 -- Each turn is a law of runs, by what the byte counts.
 use Prim.Native.Nat.{◌-◌}
-use mathlib.Core.Path.{◌≡◌, refl, sym}
-use borrow.Author.Rules.{rules}
+use mathlib.Core.Path.{◌≡◌}
 use lib.ListN.{length}
 use Rattle.scan.specs.Place.{run_at}
-use Rattle.scan.proofs.PlaceLaws.{run_again, run_left, run_broke}
 use Rattle.base64text.specs.Base64.{in_alphabet}
-use Rattle.base64text.proofs.Alphabet.{counts_in, counts_out}
 use Rattle.base64text.proofs.first_outside.Given as goal
 
 abbrev pub invariant-loop-i : goal.invariant-loop-i

@@ -1,7 +1,6 @@
 -- `is_outside` goes by the ranges of the alphabet: `range-outside`, with the tests that were passed on the way.
 use mathlib.Core.Path.{sym, ◌∙◌}
 use native.Mathlib.Omega.{arith}
-use borrow.Author.Rules.{rules}
 use borrow.Author.Tests.{eq-eqb, ne_eqb}
 use Rattle.base64text.proofs.Alphabet.{range_outside}
 use Rattle.base64text.proofs.is_outside.Goals as goal

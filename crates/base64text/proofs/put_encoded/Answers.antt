@@ -1,10 +1,8 @@
 -- `put_encoded` writes as many whole groups as there is room for, and then one group more, whatever of it fits.
 -- `encoded-cut`: what is behind the buffer's end does not matter. The table that is lent is the definition's, computed.
-use Prim.Native.Nat.{◌-◌, ◌/◌}
 use mathlib.Core.Path.{refl, sym}
 use native.Mathlib.Omega.{arith}
-use borrow.Author.Rules.{rules}
-use lib.ListN.{length, length-take}
+use lib.ListN.{length}
 use Rattle.scan.proofs.Step.{rest_whole}
 use Rattle.buffer.proofs.Laws.{full}
 use Rattle.base64text.specs.Base64.{alphabet}

@@ -1,7 +1,6 @@
 -- `six_bits` goes by the ranges of the alphabet: `range-bits`, with the tests that were passed on the way.
 use mathlib.Core.Path.{sym, ◌∙◌}
 use native.Mathlib.Omega.{arith}
-use borrow.Author.Rules.{rules}
 use borrow.Author.Tests.{eq-eqb, ne_eqb}
 use Rattle.scan.proofs.PlaceLaws.{low_enough, within_bounds}
 use Rattle.base64text.proofs.Alphabet.{range_bits}

@@ -1,5 +1,4 @@
 -- `add_words` adds two hash values word by word: eight calls, each of which is one field.
-use Rattle.std.proofs.Common.{rules}
 use Rattle.sha256.specs.Compression.{add_words}
 use Rattle.sha256.proofs.add_words.Goals as goal
 

@@ -1,6 +1,5 @@
-use Rattle.std.proofs.Common.{◌≡◌, ◌-◌, ◌%◌, ◌≤◌, take, refl, arith, rules}
-use Rattle.sha256.specs.Compression.{schedule, rounds}
-use Rattle.sha256.proofs.Turns.{Going, going_start, going_turn, going_done}
+use Rattle.std.proofs.Common.{refl, arith}
+use Rattle.sha256.proofs.Turns.{going_start, going_turn, going_done}
 use Rattle.sha256.proofs.all_rounds.Goals as goal
 
 pub loop-t-init : goal.loop-t-init

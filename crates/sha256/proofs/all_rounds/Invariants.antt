@@ -1,9 +1,9 @@
 -- `all_rounds` makes the schedule and goes through the rounds, eight of each in a turn. The invariant is `Going`: what is
 -- made is the schedule's start, and the rounds that are left give the result.
 -- Each turn is `going-turn`, the last sixteen rounds are `going_done`.
-use Rattle.std.proofs.Common.{◌≡◌, ◌-◌, ◌%◌, ◌≤◌, take, refl, arith, rules}
+use Rattle.std.proofs.Common.{◌≡◌, ◌-◌, ◌%◌, ◌≤◌, take}
 use Rattle.sha256.specs.Compression.{schedule, rounds}
-use Rattle.sha256.proofs.Turns.{Going, going_start, going_turn, going_done}
+use Rattle.sha256.proofs.Turns.{Going}
 use Rattle.sha256.proofs.all_rounds.Given as goal
 
 abbrev pub invariant-loop-t : goal.invariant-loop-t

@@ -1,5 +1,5 @@
 -- `block_of` puts two parts into a block of zeros: they stand at its start, and the zeros behind them stay.
-use Rattle.std.proofs.Common.{◌≤◌, ◌++◌, length, arith, length-append, rules}
+use Rattle.std.proofs.Common.{◌≤◌, ◌++◌, length, arith, length-append}
 use Rattle.buffer.proofs.Laws.{then}
 use Rattle.sha256.proofs.Filling.{block_filled}
 use Rattle.sha256.proofs.block_of.Goals as goal

@@ -1,6 +1,6 @@
 -- `compress_block` is what one block does to the hash value: its words are loaded, the rounds are gone through over the
 -- schedule, and the words are added.
-use Rattle.std.proofs.Common.{◌∙◌, rules}
+use Rattle.std.proofs.Common.{◌∙◌}
 use Rattle.sha256.specs.Compression.{compress}
 use Rattle.sha256.proofs.compress_block.Goals as goal
 

@@ -1,7 +1,6 @@
 -- `eight_rounds` goes through eight rounds, one after the other, as `rounds` does.
 -- By what each call promises; the table that is lent is the constants.
-use Rattle.std.proofs.Common.{◌≡◌, ℕ, List, length, arith, rules}
-use Rattle.sha256.specs.Constants.{constants}
+use Rattle.std.proofs.Common.{arith}
 use Rattle.sha256.proofs.Turns.{eight_done, long}
 use Rattle.sha256.proofs.eight_rounds.Goals as goal
 

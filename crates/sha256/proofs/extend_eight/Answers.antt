@@ -1,5 +1,4 @@
-use Rattle.std.proofs.Common.{◌≡◌, ◌+◌, ◌-◌, ◌≤◌, length, take, refl, ap, ◌∙◌, arith, length-set, rules}
-use Rattle.sha256.specs.Compression.{schedule}
+use Rattle.std.proofs.Common.{refl, arith, length-set}
 use Rattle.sha256.proofs.Turns.{schedule_turn, schedule_done, schedule_start}
 use Rattle.sha256.proofs.extend_eight.Goals as goal
 

@@ -1,8 +1,7 @@
 -- `extend_eight` makes eight more words of the schedule. The invariant: what the first i words are extended to is the
 -- schedule of t + 8. Each turn is `schedule-turn`, the end `schedule-done`.
-use Rattle.std.proofs.Common.{◌≡◌, ◌+◌, ◌-◌, ◌≤◌, length, take, refl, ap, ◌∙◌, arith, length-set, rules}
+use Rattle.std.proofs.Common.{◌≡◌, ◌+◌, ◌-◌, ◌≤◌, length, take}
 use Rattle.sha256.specs.Compression.{schedule}
-use Rattle.sha256.proofs.Turns.{schedule_turn, schedule_done, schedule_start}
 use Rattle.sha256.proofs.extend_eight.Given as goal
 
 abbrev pub invariant-loop-i : goal.invariant-loop-i

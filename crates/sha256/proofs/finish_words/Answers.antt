@@ -1,10 +1,10 @@
 -- `finish_words` hashes what waits and the padding. Four writers in a row put both into a buffer of two blocks;
 -- `padded` says what then stands there.
-use Rattle.std.proofs.Common.{◌≡◌, length, sym, ap, ◌∙◌, arith, length-take, length-take-le, rules}
+use Rattle.std.proofs.Common.{ap, ◌∙◌, arith, length-take, rules}
 use Rattle.buffer.proofs.Laws.{then}
 use Rattle.sha256.specs.Message.{hashed}
 use Rattle.sha256.specs.Pieces.{final_words}
-use Rattle.sha256.proofs.Filling.{Padded, padded}
+use Rattle.sha256.proofs.Filling.{padded}
 use Rattle.sha256.proofs.finish_words.Goals as goal
 
 pub slice_bounds-put_bytes-end-4 : goal.slice_bounds-put_bytes-end-4

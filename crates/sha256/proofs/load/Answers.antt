@@ -1,5 +1,4 @@
-use Rattle.std.proofs.Common.{◌≡◌, ◌-◌, ◌*◌, ◌≤◌, ◌++◌, length, take, drop, refl, arith, length-set, rules}
-use Rattle.sha256.specs.Compression.{words_of}
+use Rattle.std.proofs.Common.{refl, arith, length-set}
 use Rattle.sha256.proofs.Turns.{words_turn, words_done}
 use Rattle.sha256.proofs.load.Goals as goal
 

@@ -1,8 +1,7 @@
 -- `load` stores the block's words. The invariant: those stored so far, and those of the bytes that are left, are all.
 -- Each turn is `words-turn`, the end `words-done`.
-use Rattle.std.proofs.Common.{◌≡◌, ◌-◌, ◌*◌, ◌≤◌, ◌++◌, length, take, drop, refl, arith, length-set, rules}
+use Rattle.std.proofs.Common.{◌≡◌, ◌-◌, ◌*◌, ◌≤◌, ◌++◌, length, take, drop}
 use Rattle.sha256.specs.Compression.{words_of}
-use Rattle.sha256.proofs.Turns.{words_turn, words_done}
 use Rattle.sha256.proofs.load.Given as goal
 
 abbrev pub invariant-loop-t : goal.invariant-loop-t

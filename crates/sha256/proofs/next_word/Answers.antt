@@ -1,5 +1,4 @@
 -- `next_word` is word t of the schedule (6.2.2, step 1): five calls, in the order of the definition.
-use Rattle.std.proofs.Common.{rules}
 use Rattle.sha256.specs.Compression.{next_word}
 use Rattle.sha256.proofs.next_word.Goals as goal
 

@@ -1,5 +1,4 @@
 -- `one_round` is the round of 6.2.2: eleven calls, in the order of the definition.
-use Rattle.std.proofs.Common.{rules}
 use Rattle.sha256.specs.Compression.{round}
 use Rattle.sha256.proofs.one_round.Goals as goal
 

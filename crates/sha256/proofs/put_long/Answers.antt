@@ -1,5 +1,4 @@
 -- `put_long` writes eight bytes: two words, the high one first. By composition.
-use Rattle.std.proofs.Common.{rules}
 use Rattle.buffer.proofs.Laws.{then}
 use Rattle.sha256.specs.Message.{long_bytes}
 use Rattle.sha256.proofs.put_long.Goals as goal

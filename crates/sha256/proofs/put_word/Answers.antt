@@ -1,5 +1,4 @@
 -- `put_word` writes four bytes, the highest first. By composition of four writers of one byte.
-use Rattle.std.proofs.Common.{rules}
 use Rattle.buffer.proofs.Laws.{then}
 use Rattle.sha256.specs.Message.{word_bytes}
 use Rattle.sha256.proofs.put_word.Goals as goal

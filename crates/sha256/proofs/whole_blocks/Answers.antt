@@ -1,7 +1,6 @@
-use Rattle.std.proofs.Common.{◌≡◌, ◌-◌, ◌/◌, ◌≤◌, length, drop, refl, arith, length-drop, length-take, rules}
+use Rattle.std.proofs.Common.{drop, refl, arith, length-drop, length-take, rules}
 use native.Mathlib.Nat.{sub-zero}
 use Rattle.sha256.specs.Constants.{constants}
-use Rattle.sha256.specs.Compression.{blocks}
 use Rattle.sha256.specs.Message.{hashed}
 use Rattle.sha256.proofs.Turns.{blocks_turn, blocks_done}
 use Rattle.sha256.proofs.whole_blocks.Goals as goal

@@ -1,11 +1,7 @@
 -- `whole_blocks` hashes block after block. The invariant: the blocks that are left, from the value so far, give the
 -- result. Each turn is `blocks-turn`, the end `blocks-done`.
-use Rattle.std.proofs.Common.{◌≡◌, ◌-◌, ◌/◌, ◌≤◌, length, drop, refl, arith, length-drop, length-take, rules}
-use native.Mathlib.Nat.{sub-zero}
-use Rattle.sha256.specs.Constants.{constants}
+use Rattle.std.proofs.Common.{◌≡◌, ◌-◌, ◌/◌, ◌≤◌, length, drop}
 use Rattle.sha256.specs.Compression.{blocks}
-use Rattle.sha256.specs.Message.{hashed}
-use Rattle.sha256.proofs.Turns.{blocks_turn, blocks_done}
 use Rattle.sha256.proofs.whole_blocks.Given as goal
 
 abbrev pub invariant-loop-i : goal.invariant-loop-i
