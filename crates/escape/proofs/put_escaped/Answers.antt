@@ -1,0 +1,7 @@
+-- `put_escaped` writes an escaped text.
+-- By its flag.
+use borrow.Author.Rules.{rules}
+use Rattle.escape.proofs.put_escaped.Goals as goal
+
+pub returns : goal.returns
+returns c = rw c.is_canonical.ensures at c.put_escaped_by.ensures
