@@ -1,38 +1,17 @@
--- What the walks over slots share: a slot's machine value and size, a list that is replaced from the front one element
--- at a time (`replaced`), and which table `whole` is. Assumes nothing.
+-- A list that is replaced from the front one element at a time (`replaced`), and which table `whole` is. Assumes
+-- nothing.
 use mathlib.Core.Path.{◌≡◌, refl, sym, ap}
+use Rattle.std.proofs.Common.{◌≢◌, add-one}
 use mathlib.Core.Bool.{false}
-use Prim.Native.Nat.{ℕ, zero, suc, ◌<◌}
+use Prim.Native.Nat.{ℕ, zero, suc, ◌+◌, ◌<◌}
 use native.Mathlib.Omega.{arith}
 use native.Mathlib.Nat.{not-suc-le-zero, le_of_suc-le-suc}
 use mathlib.Core.List.{List, [], ◌∷◌, ◌++◌}
-use lib.ListN.{length, set, get_or, take, drop}
+use lib.ListN.{length, set, get_or, take, drop, replicate, length-replicate, get_or-replicate}
 use lib.Dec.{eqb}
-use borrow.Author.Tests.{eq-eqb}
-use package.mir.Val.{Val}
-use denote.RattleType.{RattleType}
-use denote.Array.{Array}
-use denote.Memory.{mem}
-use denote.Struct.Laws as LL
+use borrow.Author.Tests.{eq-eqb, ne_eqb}
 use Rattle.slots.specs.declared.Slot.{Slot}
 use Rattle.slots.specs.Slots.{whole}
-use Rattle.slots.specs.contracts.Slot as T
-use Rattle.slots.proofs.Slot.TheLaws as T'
-
--- a slot's machine value
-abbrev pub val : Slot → Val
-val = LL.val T.the_type T'.the_laws
-
-abbrev pub vals : Slot → List Val
-vals = LL.vals T.the_type T'.the_laws
-
--- its size in memory, in bytes
-abbrev pub bytes : ℕ
-bytes = (mem T.the_row).size
-
--- an array of slots by value
-abbrev pub Slots : RattleType
-Slots = Array T.the_row 64
 
 -- the list d with its first i elements replaced by those of s
 abbrev pub replaced : {X : Type 0} → List X → List X → ℕ → List X
@@ -77,3 +56,23 @@ whole_64 l t h = rw (eq-eqb (length l) 64 h)
 pub whole_other : (l t : List Slot) → eqb (length l) 64 ≡ false → whole l t ≡ t
 unfolding whole
 whole_other l t h = rw h
+
+-- the next slot of a fill is stored
+pub fill_more : {X : Type 0} (v : X) (d : List X) (i : ℕ) → i < length d
+    → set (replaced (replicate (length d) v) d i) i v ≡ replaced (replicate (length d) v) d (i + 1)
+fill_more v d i h =
+    rw (add-one i)
+    (replaced_set (replicate (length d) v) d i v v (rw (length-replicate (length d) v) h) (length-replicate (length d) v)
+    (get_or-replicate (length d) i v v h))
+
+-- the next slot of a copy is stored
+pub copy_more : {X : Type 0} (s d : List X) (i : ℕ) (z : X) → i < length s → length s ≡ length d
+    → set (replaced s d i) i (get_or s i z) ≡ replaced s d (i + 1)
+copy_more s d i z h e = rw (add-one i) (replaced_set s d i (get_or s i z) z h e refl)
+
+-- a fill that is done, and a copy that is done
+pub replaced_whole : {X : Type 0} (s d : List X) (i : ℕ) → length s ≡ length d → i ≡ length s → replaced s d i ≡ s
+replaced_whole s d i e h = rw h (replaced_all s d e)
+
+pub whole_not_64 : (l t : List Slot) → length l ≢ 64 → whole l t ≡ t
+whole_not_64 l t h = whole_other l t (ne_eqb (length l) 64 h)

@@ -5,7 +5,7 @@ ghost use Rattle.std.specs.Prelude.{◌≡◌, length, set, replicate};
 ghost use Rattle.slots.specs.Slots.{whole};
 
 // What a table says of one slot.
-#[derive(Drop)]
+#[derive(Clone, Copy)]
 pub struct Slot {
     // 0: free; any other number: used
     pub mark: u8,
