@@ -2,10 +2,8 @@
 -- A turn takes one digit off, by `length_more`; the last is `length_last`.
 use Prim.Native.Nat.{◌+◌, ◌≤◌}
 use mathlib.Core.Path.{◌≡◌}
-use native.Mathlib.Omega.{arith}
 use lib.ListN.{length}
 use Rattle.decimal.specs.Decimal.{decimal}
-use Rattle.decimal.proofs.Spelling.{length_last, length_more, length_u64}
 use Rattle.decimal.proofs.decimal_len.Given as goal
 
 abbrev pub invariant-loop-rest : goal.invariant-loop-rest

@@ -1,9 +1,8 @@
-use Prim.Native.Nat.{◌+◌, ◌-◌, ◌/◌, ◌%◌, ◌≤◌}
-use mathlib.Core.Path.{◌≡◌, refl}
-use mathlib.Core.List.{[], ◌++◌, append-nil}
+use Prim.Native.Nat.{◌+◌, ◌-◌, ◌/◌, ◌%◌}
+use mathlib.Core.Path.{refl}
+use mathlib.Core.List.{[], append-nil}
 use native.Mathlib.Omega.{arith}
-use borrow.Author.Rules.{rules}
-use lib.ListN.{length, drop, length-set}
+use lib.ListN.{length-set}
 use lib.Seq.{take_all}
 use Rattle.buffer.proofs.Laws.{back}
 use Rattle.decimal.specs.Decimal.{decimal}

@@ -1,16 +1,11 @@
 -- `put_decimal` fills an array from the back with the digits and writes them: the digits of what is left and those in
 -- the array are the digits of n.
 -- A turn is `decimal-more` and the law `back`; the array has room for them by `length-u64`.
-use Prim.Native.Nat.{◌+◌, ◌-◌, ◌/◌, ◌%◌, ◌≤◌}
-use mathlib.Core.Path.{◌≡◌, refl}
-use mathlib.Core.List.{[], ◌++◌, append-nil}
-use native.Mathlib.Omega.{arith}
-use borrow.Author.Rules.{rules}
-use lib.ListN.{length, drop, length-set}
-use lib.Seq.{take_all}
-use Rattle.buffer.proofs.Laws.{back}
+use Prim.Native.Nat.{◌+◌, ◌≤◌}
+use mathlib.Core.Path.{◌≡◌}
+use mathlib.Core.List.{◌++◌}
+use lib.ListN.{length, drop}
 use Rattle.decimal.specs.Decimal.{decimal}
-use Rattle.decimal.proofs.Spelling.{decimal_last, decimal_more, length_last, length_more, length_u64}
 use Rattle.decimal.proofs.put_decimal.Given as goal
 
 abbrev pub invariant-loop-rest : goal.invariant-loop-rest

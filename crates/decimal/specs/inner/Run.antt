@@ -1,5 +1,5 @@
 -- The run of digits at a place, as the code reads it. Assumes nothing.
-use Rattle.std.specs.Prelude.{ℕ, ◌-◌, List, [], take, drop, leb, eqb}
+use Rattle.std.specs.Prelude.{ℕ, ◌-◌, List, take, drop, leb, eqb}
 use Rattle.scan.specs.Choice.{pick}
 use Rattle.scan.specs.Place.{run_at}
 use Rattle.decimal.specs.declared.DecimalRead.{DecimalRead}

@@ -5,7 +5,6 @@ use lib.ListN.{drop}
 use lib.Seq.{take-take}
 use Rattle.littleendian.specs.LittleEndian.{number_of}
 use Rattle.littleendian.proofs.Laws.{number_eight_at}
-use borrow.Author.Rules.{rules}
 use Rattle.littleendian.proofs.number_at.Goals as goal
 
 pub returns-then-s-at-ge8 : goal.returns-then-s-at-ge8

@@ -1,7 +1,6 @@
 -- `number_of` tells the number of the first eight bytes: each call puts one byte before the number of those behind it,
 -- and `number-eight` has the eight steps.
 use mathlib.Core.Path.{sym}
-use borrow.Author.Rules.{rules}
 use Rattle.littleendian.proofs.Laws.{number_eight}
 use Rattle.littleendian.proofs.number_of.Goals as goal
 

@@ -1,7 +1,4 @@
-use native.Mathlib.Omega.{arith}
-use borrow.Author.Rules.{rules}
-use Rattle.buffer.proofs.Laws.{Left, start, one, done, also, same}
-use Rattle.littleendian.specs.LittleEndian.{low_first}
+use Rattle.buffer.proofs.Laws.{start, one, done, also, same}
 use Rattle.littleendian.proofs.Laws.{low_more, low_none}
 use Rattle.littleendian.proofs.put_number.Goals as goal
 

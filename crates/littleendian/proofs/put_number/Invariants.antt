@@ -1,10 +1,7 @@
 -- `put_number` writes the lowest bytes of its number. The invariant: what is left to write is the lowest bytes of the
 -- rest. Each turn is `low-more`, the end `low-none`.
-use native.Mathlib.Omega.{arith}
-use borrow.Author.Rules.{rules}
-use Rattle.buffer.proofs.Laws.{Left, start, one, done, also, same}
+use Rattle.buffer.proofs.Laws.{Left}
 use Rattle.littleendian.specs.LittleEndian.{low_first}
-use Rattle.littleendian.proofs.Laws.{low_more, low_none}
 use Rattle.littleendian.proofs.put_number.Given as goal
 
 abbrev pub invariant-loop-left : goal.invariant-loop-left

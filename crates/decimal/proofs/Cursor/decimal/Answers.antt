@@ -1,9 +1,6 @@
-use Prim.Native.Nat.{◌-◌}
 use mathlib.Core.Path.{sym, ◌∙◌}
 use native.Mathlib.Omega.{arith}
-use borrow.Author.Rules.{rules}
-use lib.ListN.{length}
-use Rattle.decimal.proofs.Turn.{Reading, turns, reading_start, digit_least, tens_fit, value_fits, reading_none, reading_number}
+use Rattle.decimal.proofs.Turn.{turns, reading_start, digit_least, tens_fit, value_fits, reading_none, reading_number}
 use Rattle.decimal.proofs.Cursor.decimal.Goals as goal
 use Rattle.decimal.proofs.Cursor.decimal.Goals.{else-loop-i-test, then-loop-i-test+else-is_within}
 

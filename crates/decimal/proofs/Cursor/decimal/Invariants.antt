@@ -3,12 +3,8 @@
 -- Each turn and each return is one law of `Turn`; no digit stands where the loop ended, whether the input ended there
 -- or a byte was no digit.
 use Prim.Native.Nat.{◌-◌}
-use mathlib.Core.Path.{sym, ◌∙◌}
-use mathlib.Core.Logic.{⊎_elim}
-use native.Mathlib.Omega.{arith}
-use borrow.Author.Rules.{rules}
 use lib.ListN.{length}
-use Rattle.decimal.proofs.Turn.{Reading, turns, reading_start, digit_least, tens_fit, value_fits, reading_none, reading_number}
+use Rattle.decimal.proofs.Turn.{Reading}
 use Rattle.decimal.proofs.Cursor.decimal.Given as goal
 
 abbrev pub invariant-loop-i : goal.invariant-loop-i
