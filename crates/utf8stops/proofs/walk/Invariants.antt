@@ -1,0 +1,15 @@
+-- `walk` goes sequence by sequence. The invariant: the stop from the start is the stop from here.
+-- It ends where no sequence stands (`walked_stop`), or at a multiple of 8, which the table tells.
+use Prim.Native.Nat.{◌-◌}
+use mathlib.Core.Path.{sym, ◌∙◌}
+use native.Mathlib.Omega.{arith}
+use lib.ListN.{length}
+use borrow.Author.Rules.{rules}
+use Rattle.utf8stops.proofs.Pass.{Walked, walked_none, walked_more, walked_stop, told_later}
+use Rattle.utf8stops.proofs.walk.Given as goal
+
+abbrev pub invariant-loop-at : goal.invariant-loop-at
+invariant-loop-at l = Walked l.d l.at l.p
+
+abbrev pub decreases-loop-at : goal.decreases-loop-at
+decreases-loop-at l = length l.d - l.p
