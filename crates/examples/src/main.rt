@@ -1,87 +1,82 @@
 // The checked examples of varints and elements (rule 12.4), run by the proved functions: each line is what was found.
 #![tactic(auto)]
 
-use libc::STDOUT_FILENO;
+use std::io;
 use varint::{Cursor, VarintRead};
 
-fn say(text: &[u8]) {
-    io::write_all(STDOUT_FILENO, text);
-}
-
-fn say_number(n: u64) {
+fn say_number(rt: &impl Print, n: u64) -> io::Result<()> {
     let mut digits = [0u8; 20];
     let k = decimal::put_decimal(&mut digits, 0, n);
-    say(scan::part(&digits, 0, k));
+    rt.write_all(scan::part(&digits, 0, k))
 }
 
 // Each byte as a space and two digits.
-fn say_bytes(b: &[u8]) {
-    let mut i = 0;
-    while i < b.len() {
-        say_byte(b[i]);
-        i += 1;
+fn say_bytes(rt: &impl Print, bytes: &[u8]) -> io::Result<()> {
+    for b in bytes {
+        say_byte(rt, *b)?;
     }
+    Ok(())
 }
 
-fn say_byte(b: u8) {
+fn say_byte(rt: &impl Print, b: u8) -> io::Result<()> {
     let text = [b' ', hexdigits::digit_of(b / 16), hexdigits::digit_of(b)];
-    say(&text);
+    rt.write_all(&text)
 }
 
 // The shortest spelling of a number.
-fn spelled(label: &[u8], n: u64) {
-    say(label);
-    say_number(n);
-    say(b" is");
+fn spelled(rt: &impl Print, label: &[u8], n: u64) -> io::Result<()> {
+    rt.write_all(label)?;
+    say_number(rt, n)?;
+    rt.write_all(b" is")?;
     let mut bytes = [0u8; 10];
     let k = varint::put_varint(&mut bytes, 0, n);
-    say_bytes(scan::part(&bytes, 0, k));
-    say(b"\n");
+    say_bytes(rt, scan::part(&bytes, 0, k))?;
+    rt.write_all(b"\n")
 }
 
 // What a spelling reads as.
-fn read(label: &[u8], bytes: &[u8]) {
-    say(label);
-    say_bytes(bytes);
+fn read(rt: &impl Print, label: &[u8], bytes: &[u8]) -> io::Result<()> {
+    rt.write_all(label)?;
+    say_bytes(rt, bytes)?;
     let found = Cursor { at: 0 }.varint(bytes);
     match found {
         VarintRead::Value(n, _) => {
-            say(b" reads as ");
-            say_number(n);
-            say(b"\n");
+            rt.write_all(b" reads as ")?;
+            say_number(rt, n)?;
         }
         VarintRead::Refused(r) => {
-            say(b" is refusal ");
-            say_number(r.number as u64);
-            say(b" at ");
-            say_number(r.place as u64);
-            say(b"\n");
+            rt.write_all(b" is refusal ")?;
+            say_number(rt, r.number as u64)?;
+            rt.write_all(b" at ")?;
+            say_number(rt, r.place as u64)?;
         }
     }
+    rt.write_all(b"\n")
 }
 
 // The strict element of a text.
-fn element(label: &[u8], text: &[u8]) {
-    say(label);
-    say(b"'");
-    say(text);
-    say(b"' is");
+fn element(rt: &impl Print, label: &[u8], text: &[u8]) -> io::Result<()> {
+    rt.write_all(label)?;
+    rt.write_all(b"'")?;
+    rt.write_all(text)?;
+    rt.write_all(b"' is")?;
     let mut bytes = [0u8; 16];
     let k = strict::put_packed_text(&mut bytes, 0, text);
-    say_bytes(scan::part(&bytes, 0, k));
-    say(b"\n");
+    say_bytes(rt, scan::part(&bytes, 0, k))?;
+    rt.write_all(b"\n")
 }
 
-fn main() {
-    spelled(b"(1) ", 0);
-    spelled(b"(2) ", 127);
-    spelled(b"(3) ", 128);
-    spelled(b"(4) ", 1720000000);
-    read(b"(5)", b"\xff\xff\xff\xff\xff\xff\xff\xff\xff\x02");
-    read(b"(6)", b"\x80");
-    read(b"(7)", b"\x80\x00");
-    element(b"(8) ", b"ab");
-    element(b"(9) ", b"AB");
-    element(b"(10) ", b"abc");
-    element(b"(11) ", b"");
+// A write that fails ends the program with the error.
+fn main(rt: HostRuntime) -> io::Result<()> {
+    spelled(&rt, b"(1) ", 0)?;
+    spelled(&rt, b"(2) ", 127)?;
+    spelled(&rt, b"(3) ", 128)?;
+    spelled(&rt, b"(4) ", 1720000000)?;
+    read(&rt, b"(5)", b"\xff\xff\xff\xff\xff\xff\xff\xff\xff\x02")?;
+    read(&rt, b"(6)", b"\x80")?;
+    read(&rt, b"(7)", b"\x80\x00")?;
+    element(&rt, b"(8) ", b"ab")?;
+    element(&rt, b"(9) ", b"AB")?;
+    element(&rt, b"(10) ", b"abc")?;
+    element(&rt, b"(11) ", b"")
 }

@@ -7,8 +7,9 @@ ghost use Rattle.notepack.specs.Views.{numbers_of};
 ghost use Rattle.lister.specs.Listing.{numbers_text, refusal_text, listing};
 
 use event::Refusal;
-use libc::{STDIN_FILENO, STDOUT_FILENO};
 use notepack::{Head, HeadRead};
+use std::io;
+use std::io::Read;
 
 // The four lines of an event's numbers.
 fn put_numbers(out: &mut [u8], at: usize, h: Head) -> usize
@@ -50,11 +51,12 @@ fn list(out: &mut [u8], s: &[u8]) -> usize
     }
 }
 
-// One byte more than the limit is read, so that a longer input is refused with 1 and the program still ends.
-fn main() {
-    let mut input = [0u8; 65537];
-    let n = io::read_full(STDIN_FILENO, &mut input);
+// One byte more than the limit is read, so that a longer input is refused with 1 and the program still ends. A read or a
+// write that fails ends it with the error.
+fn main(rt: HostRuntime) -> io::Result<()> {
+    let mut input = Vec::new(rt.alloc());
+    rt.stdin().take(65537).read_to_end(&mut input)?;
     let mut text = [0u8; 128];
-    let k = list(&mut text, scan::part(&input, 0, n));
-    io::write_all(STDOUT_FILENO, scan::part(&text, 0, k));
+    let k = list(&mut text, &input);
+    rt.write_all(scan::part(&text, 0, k))
 }

@@ -3,37 +3,34 @@
 #![tactic(auto)]
 
 use event::Writing;
-use libc::{STDIN_FILENO, STDOUT_FILENO};
 use slots::Slot;
-
-fn say(text: &[u8]) {
-    io::write_all(STDOUT_FILENO, text);
-}
+use std::io;
+use std::io::Read;
 
 // Bytes as hex, as many as have room.
-fn say_hex(bytes: &[u8]) {
+fn say_hex(rt: &impl Print, bytes: &[u8]) -> io::Result<()> {
     let mut text = [0u8; 128];
     let k = hexdigits::put_hex(&mut text, 0, bytes);
-    say(scan::part(&text, 0, k));
+    rt.write_all(scan::part(&text, 0, k))
 }
 
 // The content of a record.
-fn content(label: &[u8], s: &[u8]) {
-    say(label);
-    say(notepack::content(s));
-    say(b"\n");
+fn content(rt: &impl Print, label: &[u8], s: &[u8]) -> io::Result<()> {
+    rt.write_all(label)?;
+    rt.write_all(notepack::content(s))?;
+    rt.write_all(b"\n")
 }
 
 // The payload of element j of tag i, as hex.
-fn element(label: &[u8], s: &[u8], i: u64, j: u64) {
-    say(label);
-    say_hex(notepack::element(s, i, j));
-    say(b"\n");
+fn element(rt: &impl Print, label: &[u8], s: &[u8], i: u64, j: u64) -> io::Result<()> {
+    rt.write_all(label)?;
+    say_hex(rt, notepack::element(s, i, j))?;
+    rt.write_all(b"\n")
 }
 
 // The content of that one of two records which is kept.
-fn kept<'a>(label: &[u8], s: &'a [u8], t: &'a [u8]) {
-    content(label, rivals::choose(s, t));
+fn kept<'a>(rt: &impl Print, label: &[u8], s: &'a [u8], t: &'a [u8]) -> io::Result<()> {
+    content(rt, label, rivals::choose(s, t))
 }
 
 // How many bytes a move wrote.
@@ -46,21 +43,24 @@ fn moved(w: Writing) -> usize {
 
 // What is seen of the versioned form of a record: its content, an element, and the first byte of what is kept beside a
 // bare one, which is handed back as it was lent.
-fn other_form(label: &[u8], s: &[u8], t: &[u8]) {
+fn other_form(rt: &impl Print, label: &[u8], s: &[u8], t: &[u8]) -> io::Result<()> {
     let mut form = [0u8; 65537];
     let n = moved(versioned::to_versioned(s, &mut form));
     let v = scan::part(&form, 0, n);
-    say(label);
-    say(versioned::content(v, false));
-    say(b", ");
-    say_hex(versioned::element(v, false, 0, 1));
-    say(b", ");
-    say_hex(scan::part(versionedrivals::choose(v, false, t, true), 0, 1));
-    say(b"\n");
+    rt.write_all(label)?;
+    rt.write_all(versioned::content(v, false))?;
+    rt.write_all(b", ")?;
+    say_hex(rt, versioned::element(v, false, 0, 1))?;
+    rt.write_all(b", ")?;
+    say_hex(
+        rt,
+        scan::part(versionedrivals::choose(v, false, t, true), 0, 1),
+    )?;
+    rt.write_all(b"\n")
 }
 
 // The content of what slot 0 of a table holds after two records were offered to it.
-fn tabled(label: &[u8], s: &[u8], t: &[u8]) {
+fn tabled(rt: &impl Print, label: &[u8], s: &[u8], t: &[u8]) -> io::Result<()> {
     let mut cells = [0u8; 65536];
     let free = Slot {
         mark: 0,
@@ -71,26 +71,32 @@ fn tabled(label: &[u8], s: &[u8], t: &[u8]) {
     let once = first.slots;
     let second = lenttable::offer_in(once, &mut cells, t);
     let twice = second.slots;
-    content(label, tableslot::slot_event(twice, &cells, 0));
+    content(rt, label, tableslot::slot_event(twice, &cells, 0))
 }
 
-fn main() {
-    let mut input = [0u8; 65537];
-    let n = io::read_full(STDIN_FILENO, &mut input);
+// At most 65,537 bytes are read. A read or a write that fails ends the program with the error.
+fn main(rt: HostRuntime) -> io::Result<()> {
+    let mut input = Vec::new(rt.alloc());
+    let n = rt.stdin().take(65537).read_to_end(&mut input)?;
     let half = n / 2;
     let first = scan::part(&input, 0, half);
     let second = scan::part(&input, half, half);
-    content(b"content: ", first);
-    element(b"tag 0, element 0: ", first, 0, 0);
-    element(b"tag 0, element 1: ", first, 0, 1);
-    element(b"no element 2: ", first, 0, 2);
-    element(b"no tag 1: ", first, 1, 0);
-    kept(b"first and second: ", first, second);
-    kept(b"second and first: ", second, first);
-    kept(b"first and itself: ", first, first);
-    kept(b"cut short and second: ", scan::part(first, 0, 127), second);
-    other_form(b"the first versioned: ", first, second);
-    other_form(b"the second versioned: ", second, first);
-    tabled(b"a table, first and second: ", first, second);
-    tabled(b"a table, second and first: ", second, first);
+    content(&rt, b"content: ", first)?;
+    element(&rt, b"tag 0, element 0: ", first, 0, 0)?;
+    element(&rt, b"tag 0, element 1: ", first, 0, 1)?;
+    element(&rt, b"no element 2: ", first, 0, 2)?;
+    element(&rt, b"no tag 1: ", first, 1, 0)?;
+    kept(&rt, b"first and second: ", first, second)?;
+    kept(&rt, b"second and first: ", second, first)?;
+    kept(&rt, b"first and itself: ", first, first)?;
+    kept(
+        &rt,
+        b"cut short and second: ",
+        scan::part(first, 0, 127),
+        second,
+    )?;
+    other_form(&rt, b"the first versioned: ", first, second)?;
+    other_form(&rt, b"the second versioned: ", second, first)?;
+    tabled(&rt, b"a table, first and second: ", first, second)?;
+    tabled(&rt, b"a table, second and first: ", second, first)
 }
