@@ -1,6 +1,6 @@
 -- The decimal spelling: its digits, its length, and that it reads back to its number and is the only one without a
 -- leading zero.
--- Everything goes by `decimal-last` and `decimal-more`: a number below 10 is one digit, and any other is the spelling
+-- Everything goes by `decimal_last` and `decimal_more`: a number below 10 is one digit, and any other is the spelling
 -- of n / 10 and then n % 10.
 use Prim.Native.Nat.{ℕ, zero, suc, ◌+◌, ◌*◌, ◌-◌, ◌/◌, ◌%◌, ◌^◌, ◌<◌, ◌≤◌}
 use mathlib.Core.Path.{◌≡◌, refl, sym, ap, ◌∙◌}

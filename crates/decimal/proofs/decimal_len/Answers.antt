@@ -7,5 +7,4 @@ loop-rest-preserved c = omega (arith, length_more c.loop-rest.rest c.loop-rest-t
 
 pub returns : goal.returns
 returns c =
-    let start = c in
-    omega (arith, length_last c.loop-rest.rest c.loop-rest-test.false, length_u64 start.args.n start.ranges.n.fits)
+    omega (arith, length_last c.loop-rest.rest c.loop-rest-test.false, length_u64 c.args.n c.ranges.n.fits)

@@ -1,5 +1,5 @@
 -- `fits_behind` compares as `leb` does, with no number above max on the way.
--- By `behind-fits`: value * 10 + d ≤ max exactly if value ≤ (max - d) / 10, where d ≤ max.
+-- By `behind_fits`: value * 10 + d ≤ max exactly if value ≤ (max - d) / 10, where d ≤ max.
 use Rattle.decimal.proofs.Turn.{behind_fits, behind_over}
 use Rattle.decimal.proofs.fits_behind.Goals as goal
 

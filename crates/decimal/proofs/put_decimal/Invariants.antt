@@ -1,6 +1,6 @@
 -- `put_decimal` fills an array from the back with the digits and writes them: the digits of what is left and those in
 -- the array are the digits of n.
--- A turn is `decimal-more` and the law `back`; the array has room for them by `length-u64`.
+-- A turn is `decimal_more` and the law `back`; the array has room for them by `length_u64`.
 use Prim.Native.Nat.{◌+◌, ◌≤◌}
 use mathlib.Core.Path.{◌≡◌}
 use mathlib.Core.List.{◌++◌}

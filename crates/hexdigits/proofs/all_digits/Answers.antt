@@ -1,9 +1,7 @@
-use Prim.Native.Nat.{◌+◌, ◌-◌, ◌≤◌}
-use mathlib.Core.Path.{◌≡◌, refl}
+use Prim.Native.Nat.{◌+◌}
+use mathlib.Core.Path.{refl}
 use native.Mathlib.Omega.{arith}
-use borrow.Author.Rules.{rules}
-use lib.ListN.{length, drop, length-take, length-drop}
-use Rattle.hexdigits.specs.Hex.{all_digits}
+use lib.ListN.{length-take, length-drop}
 use Rattle.hexdigits.proofs.BlockLaws.{digits_none, digits_first, digits_more, digits_end, digits_last}
 use Rattle.hexdigits.proofs.all_digits.Goals as goal
 

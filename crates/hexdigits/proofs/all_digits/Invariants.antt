@@ -1,13 +1,10 @@
 -- `all_digits` tests block by block. The invariant is one equation: the whole text passes exactly if the text from here
 -- does.
 -- Each turn and each return is one law of a block.
-use Prim.Native.Nat.{◌+◌, ◌-◌, ◌≤◌}
-use mathlib.Core.Path.{◌≡◌, refl}
-use native.Mathlib.Omega.{arith}
-use borrow.Author.Rules.{rules}
-use lib.ListN.{length, drop, length-take, length-drop}
+use Prim.Native.Nat.{◌-◌, ◌≤◌}
+use mathlib.Core.Path.{◌≡◌}
+use lib.ListN.{length, drop}
 use Rattle.hexdigits.specs.Hex.{all_digits}
-use Rattle.hexdigits.proofs.BlockLaws.{digits_none, digits_first, digits_more, digits_end, digits_last}
 use Rattle.hexdigits.proofs.all_digits.Given as goal
 
 abbrev pub invariant-loop-i : goal.invariant-loop-i

@@ -1,6 +1,5 @@
--- `digit_of` makes the test of `digitOf` on the lower four bits.
+-- `digit_of` makes the test of `digit_of` on the lower four bits.
 -- By `tests`: each return under the test that leads to it.
-use borrow.Author.Rules.{rules}
 use Rattle.scan.proofs.Step.{tests}
 use Rattle.hexdigits.proofs.digit_of.Goals as goal
 

@@ -1,6 +1,5 @@
--- `goes_as_bytes` makes the tests of `goesAsBytes`, in its order.
+-- `goes_as_bytes` makes the tests of `goes_as_bytes`, in its order.
 -- Each return is under the tests that lead to it; the last of them is `all_digits`.
-use borrow.Author.Rules.{rules}
 use borrow.Author.Tests.{eq-eqb, ne_eqb}
 use Rattle.hexdigits.specs.Hex.{goes_as_bytes}
 use Rattle.hexdigits.proofs.goes_as_bytes.Goals as goal
@@ -8,10 +7,6 @@ use Rattle.hexdigits.proofs.goes_as_bytes.Goals as goal
 pub returns-then-t-eq0 : goal.returns-then-t-eq0
 unfolding goes_as_bytes
 returns-then-t-eq0 c = search eq-eqb
-
-pub all_digits-requires : goal.all_digits-requires
-unfolding goes_as_bytes
-all_digits-requires c = search rules
 
 pub returns-then-t-eq0-2 : goal.returns-then-t-eq0-2
 unfolding goes_as_bytes

@@ -2,15 +2,11 @@
 -- place is `at + 2 * i`.
 -- A turn is two bytes of it, by `two_bytes`; the room is arithmetic on the requirement. The upper half of a byte is
 -- below 16.
-use Prim.Native.Nat.{◌+◌, ◌*◌, ◌-◌, ◌/◌, ◌%◌, ◌≤◌}
-use mathlib.Core.Path.{◌≡◌, refl}
-use native.Mathlib.Omega.{arith}
-use borrow.Author.Rules.{rules}
-use lib.ListN.{length, drop, get_or, length-set, drop_of_length-le}
-use Rattle.scan.proofs.Step.{rest_more}
-use Rattle.buffer.proofs.Laws.{Left, start, done}
+use Prim.Native.Nat.{◌+◌, ◌*◌, ◌-◌, ◌≤◌}
+use mathlib.Core.Path.{◌≡◌}
+use lib.ListN.{length, drop}
+use Rattle.buffer.proofs.Laws.{Left}
 use Rattle.hexdigits.specs.Hex.{hexes}
-use Rattle.buffer.proofs.OverLaws.{two_bytes}
 use Rattle.hexdigits.proofs.hex_all.Given as goal
 
 abbrev pub invariant-loop-i : goal.invariant-loop-i

@@ -1,14 +1,9 @@
--- `is_other` makes the test of `isOther`.
+-- `is_other` makes the test of `is_other`.
 -- By `tests`: each return under the test that leads to it.
 use native.Mathlib.Omega.{arith}
-use borrow.Author.Rules.{rules}
 use borrow.Author.Tests.{lt-ltb, le-ltb}
 use Rattle.hexdigits.specs.inner.Block.{is_other}
 use Rattle.hexdigits.proofs.is_other.Goals as goal
-
-pub value_of-requires : goal.value_of-requires
-unfolding is_other
-value_of-requires c = search rules
 
 pub returns-then-value_of-lt16 : goal.returns-then-value_of-lt16
 unfolding is_other

@@ -1,9 +1,4 @@
-use Prim.Native.Nat.{◌+◌, ◌-◌, ◌≤◌}
-use mathlib.Core.Path.{◌≡◌}
 use native.Mathlib.Omega.{arith}
-use borrow.Author.Rules.{rules}
-use lib.ListN.{length, drop}
-use Rattle.hexdigits.specs.inner.Block.{others_of}
 use Rattle.hexdigits.proofs.BlockLaws.{other_again, other_left}
 use Rattle.hexdigits.proofs.others.Goals as goal
 

@@ -3,11 +3,8 @@
 -- A byte adds 0 or 1, so the sum is at most i and fits a byte.
 use Prim.Native.Nat.{◌+◌, ◌-◌, ◌≤◌}
 use mathlib.Core.Path.{◌≡◌}
-use native.Mathlib.Omega.{arith}
-use borrow.Author.Rules.{rules}
 use lib.ListN.{length, drop}
 use Rattle.hexdigits.specs.inner.Block.{others_of}
-use Rattle.hexdigits.proofs.BlockLaws.{other_again, other_left}
 use Rattle.hexdigits.proofs.others.Given as goal
 
 abbrev pub invariant-loop-i : goal.invariant-loop-i

@@ -1,9 +1,8 @@
 -- `put_hex` writes all the digits where they fit, and else as many as there is room for.
--- `hexes-cut`: what is behind the buffer's end does not matter.
+-- `hexes_cut`: what is behind the buffer's end does not matter.
 use Prim.Native.Nat.{◌-◌, ◌/◌, ◌%◌}
 use mathlib.Core.Path.{◌≡◌}
 use native.Mathlib.Omega.{arith}
-use borrow.Author.Rules.{rules}
 use lib.ListN.{length, get_or, length-take}
 use Rattle.buffer.proofs.Laws.{full}
 use Rattle.hexdigits.proofs.Turn.{hexes_cut}
@@ -20,11 +19,9 @@ hex_all-o-requires c = simp length-take (omega arith)
 
 pub returns : goal.returns
 returns c =
-    let p = c in
-    let f = p in
-    let a = f.args in
+    let a = c.args in
     let room = (length a.out.now - a.at) / 2 in
     let b = get_or a.s.now room 0 in
-    let upper : b / 16 % 16 ≡ b / 16 = omega (arith, p.shared_slice_known-2-1.given room) in
-    let digit = rw (p.digit_of.ensures, upper) at c.put_byte.ensures in
-    hexes_cut a.s.now room (omega arith) (omega arith) f.hex_all-o.ensures digit
+    let upper : b / 16 % 16 ≡ b / 16 = omega (arith, c.type_inv.s room) in
+    let digit = rw (c.digit_of.ensures, upper) at c.put_byte.ensures in
+    hexes_cut a.s.now room (omega arith) (omega arith) c.hex_all-o.ensures digit

@@ -1,11 +1,9 @@
-use Prim.Native.Nat.{◌+◌, ◌*◌, ◌-◌, ◌/◌, ◌≤◌}
-use mathlib.Core.Path.{◌≡◌, refl, ap}
+use Prim.Native.Nat.{◌+◌, ◌*◌, ◌/◌}
+use mathlib.Core.Path.{◌≡◌, refl}
 use native.Mathlib.Nat.{add-zero, add_assoc}
 use native.Mathlib.Omega.{arith}
-use borrow.Author.Rules.{rules}
-use lib.ListN.{length, drop, length-set}
-use Rattle.buffer.proofs.Laws.{Left, start, byte, also, done}
-use Rattle.hexdigits.specs.inner.Block.{pairs_of}
+use lib.ListN.{length, length-set}
+use Rattle.buffer.proofs.Laws.{start, byte, also, done}
 use Rattle.hexdigits.proofs.Pairs.{pairs_two, pairs_ended}
 use Rattle.hexdigits.proofs.put_pairs.Goals as goal
 

@@ -1,15 +1,11 @@
 -- `put_pairs` stores a byte for each two values. The invariant: what is left to write are the bytes of v from place 2 *
 -- i on.
--- A turn is `pairs-two` and one byte stored; a last value alone is no byte, by `pairs-ended`.
+-- A turn is `pairs_two` and one byte stored; a last value alone is no byte, by `pairs_ended`.
 use Prim.Native.Nat.{◌+◌, ◌*◌, ◌-◌, ◌/◌, ◌≤◌}
-use mathlib.Core.Path.{◌≡◌, refl, ap}
-use native.Mathlib.Nat.{add-zero, add_assoc}
-use native.Mathlib.Omega.{arith}
-use borrow.Author.Rules.{rules}
-use lib.ListN.{length, drop, length-set}
-use Rattle.buffer.proofs.Laws.{Left, start, byte, also, done}
+use mathlib.Core.Path.{◌≡◌}
+use lib.ListN.{length, drop}
+use Rattle.buffer.proofs.Laws.{Left}
 use Rattle.hexdigits.specs.inner.Block.{pairs_of}
-use Rattle.hexdigits.proofs.Pairs.{pairs_two, pairs_ended}
 use Rattle.hexdigits.proofs.put_pairs.Given as goal
 
 abbrev pub invariant-loop-i : goal.invariant-loop-i

@@ -1,8 +1,7 @@
 -- `put_unhex` writes all the bytes where they fit, and else as many as there is room for.
--- `unhex-cut`: what is behind the buffer's end does not matter.
+-- `unhex_cut`: what is behind the buffer's end does not matter.
 use Prim.Native.Nat.{◌-◌}
 use native.Mathlib.Omega.{arith}
-use borrow.Author.Rules.{rules}
 use lib.ListN.{length, length-take}
 use Rattle.buffer.proofs.Laws.{full}
 use Rattle.hexdigits.proofs.Turn.{unhex_cut}

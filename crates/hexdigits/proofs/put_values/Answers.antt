@@ -1,10 +1,7 @@
-use Prim.Native.Nat.{◌-◌, ◌≤◌}
-use mathlib.Core.Path.{◌≡◌, refl}
+use mathlib.Core.Path.{refl}
 use native.Mathlib.Omega.{arith}
-use borrow.Author.Rules.{rules}
-use lib.ListN.{length, drop, length-set}
-use Rattle.buffer.proofs.Laws.{Left, start, byte, also, done}
-use Rattle.hexdigits.specs.inner.Block.{values_of}
+use lib.ListN.{length-set}
+use Rattle.buffer.proofs.Laws.{start, byte, also, done}
 use Rattle.hexdigits.proofs.Pairs.{values_more, values_ended}
 use Rattle.hexdigits.proofs.put_values.Goals as goal
 

@@ -1,13 +1,10 @@
 -- `put_values` stores the value of each digit. The invariant: what is left to write are the values of t from i on.
--- A turn is `values-more` and one byte stored.
+-- A turn is `values_more` and one byte stored.
 use Prim.Native.Nat.{◌-◌, ◌≤◌}
-use mathlib.Core.Path.{◌≡◌, refl}
-use native.Mathlib.Omega.{arith}
-use borrow.Author.Rules.{rules}
-use lib.ListN.{length, drop, length-set}
-use Rattle.buffer.proofs.Laws.{Left, start, byte, also, done}
+use mathlib.Core.Path.{◌≡◌}
+use lib.ListN.{length, drop}
+use Rattle.buffer.proofs.Laws.{Left}
 use Rattle.hexdigits.specs.inner.Block.{values_of}
-use Rattle.hexdigits.proofs.Pairs.{values_more, values_ended}
 use Rattle.hexdigits.proofs.put_values.Given as goal
 
 abbrev pub invariant-loop-i : goal.invariant-loop-i

@@ -1,10 +1,7 @@
-use Prim.Native.Nat.{◌+◌, ◌*◌, ◌-◌, ◌≤◌}
-use mathlib.Core.Path.{◌≡◌, refl, ◌∙◌}
+use mathlib.Core.Path.{refl, ◌∙◌}
 use native.Mathlib.Omega.{arith}
-use borrow.Author.Rules.{rules}
-use lib.ListN.{length, drop, length-take, length-drop}
-use Rattle.buffer.proofs.Laws.{Left, start, kept}
-use Rattle.hexdigits.specs.Hex.{unhex}
+use lib.ListN.{length-take, length-drop}
+use Rattle.buffer.proofs.Laws.{start}
 use Rattle.hexdigits.proofs.Pairs.{block_written, rest_written}
 use Rattle.hexdigits.proofs.unhex_all.Goals as goal
 

@@ -1,14 +1,11 @@
 -- `unhex_all` goes in blocks of 64 digits. The invariant: what is left to write are the bytes of t from i on, and the
 -- place is `at + i / 2`.
--- A turn is `unhex-block-on` and the block written; the rest is written pair by pair.
+-- A turn is `unhex_block_on` and the block written; the rest is written pair by pair.
 use Prim.Native.Nat.{◌+◌, ◌*◌, ◌-◌, ◌≤◌}
-use mathlib.Core.Path.{◌≡◌, refl, ◌∙◌}
-use native.Mathlib.Omega.{arith}
-use borrow.Author.Rules.{rules}
-use lib.ListN.{length, drop, length-take, length-drop}
-use Rattle.buffer.proofs.Laws.{Left, start, kept}
+use mathlib.Core.Path.{◌≡◌}
+use lib.ListN.{length, drop}
+use Rattle.buffer.proofs.Laws.{Left}
 use Rattle.hexdigits.specs.Hex.{unhex}
-use Rattle.hexdigits.proofs.Pairs.{block_written, rest_written}
 use Rattle.hexdigits.proofs.unhex_all.Given as goal
 
 abbrev pub invariant-loop-i : goal.invariant-loop-i

@@ -1,12 +1,9 @@
 -- `unhex_block` has the values of 64 digits in a buffer of its own, which they fill, and writes the bytes of those.
--- `pairs-values`: they are the digits' bytes.
+-- `pairs_values`: they are the digits' bytes.
 use mathlib.Core.Path.{◌≡◌, ap, ◌∙◌}
 use native.Mathlib.Omega.{arith}
-use borrow.Author.Rules.{rules}
 use lib.ListN.{length}
-use Rattle.buffer.specs.inner.Store.{Wrote}
-use Rattle.hexdigits.specs.Hex.{unhex}
-use Rattle.hexdigits.specs.inner.Block.{values_of, pairs_of}
+use Rattle.hexdigits.specs.inner.Block.{pairs_of}
 use Rattle.buffer.proofs.Places.{all_over}
 use Rattle.hexdigits.proofs.Pairs.{length_values, pairs_values}
 use Rattle.hexdigits.proofs.unhex_block.Goals as goal

@@ -1,10 +1,7 @@
-use Prim.Native.Nat.{◌+◌, ◌*◌, ◌-◌, ◌≤◌}
-use mathlib.Core.Path.{◌≡◌, refl}
+use mathlib.Core.Path.{refl}
 use native.Mathlib.Omega.{arith}
-use borrow.Author.Rules.{rules}
-use lib.ListN.{length, drop, length-set}
-use Rattle.buffer.proofs.Laws.{Left, start, byte, done}
-use Rattle.hexdigits.specs.Hex.{unhex}
+use lib.ListN.{length-set}
+use Rattle.buffer.proofs.Laws.{start, byte, done}
 use Rattle.hexdigits.proofs.Turn.{unhex_two, unhex_ended}
 use Rattle.hexdigits.proofs.unhex_each.Goals as goal
 
@@ -13,9 +10,8 @@ loop-i-init c = (omega arith, omega arith, refl, start)
 
 pub loop-i-preserved : goal.loop-i-preserved
 loop-i-preserved c =
-    let turn = c in
-    let v = turn.loop-i.invariant in
-    let left = rw (unhex_two _ _ turn.loop-i-test.true) at v.3 in
+    let v = c.loop-i.invariant in
+    let left = rw (unhex_two _ _ c.loop-i-test.true) at v.3 in
     (omega arith, omega arith, simp length-set v.2, rw (c.value_of-high.ensures, c.value_of-low.ensures) (byte (omega arith) left))
 
 pub shape_of-out : goal.shape_of-out

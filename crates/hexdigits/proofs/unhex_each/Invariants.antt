@@ -1,14 +1,11 @@
 -- `unhex_each` stores a byte for each two digits. The invariant: what is left to write are the bytes of t from i on,
 -- and the place is `at + i / 2`.
--- A turn is `unhex-two` and one byte stored; a last digit alone is no byte, by `unhex-ended`.
+-- A turn is `unhex_two` and one byte stored; a last digit alone is no byte, by `unhex_ended`.
 use Prim.Native.Nat.{◌+◌, ◌*◌, ◌-◌, ◌≤◌}
-use mathlib.Core.Path.{◌≡◌, refl}
-use native.Mathlib.Omega.{arith}
-use borrow.Author.Rules.{rules}
-use lib.ListN.{length, drop, length-set}
-use Rattle.buffer.proofs.Laws.{Left, start, byte, done}
+use mathlib.Core.Path.{◌≡◌}
+use lib.ListN.{length, drop}
+use Rattle.buffer.proofs.Laws.{Left}
 use Rattle.hexdigits.specs.Hex.{unhex}
-use Rattle.hexdigits.proofs.Turn.{unhex_two, unhex_ended}
 use Rattle.hexdigits.proofs.unhex_each.Given as goal
 
 abbrev pub invariant-loop-i : goal.invariant-loop-i

@@ -1,14 +1,9 @@
 -- `value_of` makes the two tests of `value_of`, in its order.
 -- A byte of a range is at least its lower end, so that no difference falls below 0.
-use borrow.Author.Rules.{rules}
 use native.Mathlib.Omega.{arith}
 use Rattle.hexdigits.specs.Hex.{value_of}
 use Rattle.scan.proofs.PlaceLaws.{low_enough}
 use Rattle.hexdigits.proofs.value_of.Goals as goal
-
-pub is_within-requires : goal.is_within-requires
-unfolding value_of
-is_within-requires c = search rules
 
 pub overflow_sub-result : goal.overflow_sub-result
 unfolding value_of
@@ -17,10 +12,6 @@ overflow_sub-result c = low_enough _ _ _ c.is_within.ensures c.if-is_within.true
 pub returns-then-is_within : goal.returns-then-is_within
 unfolding value_of
 returns-then-is_within c = simp (← c.is_within.ensures, c.if-is_within.true)
-
-pub is_within-requires-2 : goal.is_within-requires-2
-unfolding value_of
-is_within-requires-2 c = search rules
 
 pub overflow_sub-result-then-is_within-2 : goal.overflow_sub-result-then-is_within-2
 unfolding value_of

@@ -1,4 +1,4 @@
--- `number_at` reads eight bytes at a place, by `number-eight-at`; where there are fewer, `number_of` takes what stands.
+-- `number_at` reads eight bytes at a place, by `number_eight_at`; where there are fewer, `number_of` takes what stands.
 use mathlib.Core.Path.{sym, ap, ◌∙◌}
 use native.Mathlib.Omega.{arith}
 use lib.ListN.{drop}

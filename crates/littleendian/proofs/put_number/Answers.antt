@@ -7,9 +7,8 @@ loop-left-init c = start
 
 pub loop-left-preserved : goal.loop-left-preserved
 loop-left-preserved c =
-    let turn = c in
-    let q = turn.loop-left in
-    one (also (low_more q.left q.rest turn.loop-left-test.true) q.invariant) c.put_byte-o.ensures
+    let q = c.loop-left in
+    one (also (low_more q.left q.rest c.loop-left-test.true) q.invariant) c.put_byte-o.ensures
 
 pub shape_of-out : goal.shape_of-out
 shape_of-out c = same c.loop-left.invariant

@@ -1,5 +1,5 @@
 -- `put_number` writes the lowest bytes of its number. The invariant: what is left to write is the lowest bytes of the
--- rest. Each turn is `low-more`, the end `low-none`.
+-- rest. Each turn is `low_more`, the end `low_none`.
 use Rattle.buffer.proofs.Laws.{Left}
 use Rattle.littleendian.specs.LittleEndian.{low_first}
 use Rattle.littleendian.proofs.put_number.Given as goal
