@@ -203,7 +203,7 @@ chars_accept zero start g r h e = absurd (omega arith)
 chars_accept (suc k) start json.no_char here h e = rw e
 chars_accept (suc k) start (json.char {c = c} {l = l} g f) r h e =
     let u = cut c r in
-    char_step k start g u.1 ∙ chars_accept k start f u.2 (omega (arith, length-append c l, char_some g)) e
+    char_step k start g u.1 ∙ chars_accept {l = l} k start f u.2 (omega (arith, length-append c l, char_some g)) e
 
 -- accepts: a string of the grammar is read, and its spelled bytes are told
 pub string_accepts : {s l q : List ℕ} {a c : ℕ} → json.QuotedChars l q → Span s a q c → string_at s a ≡ read (record { from = a + 1; count = length l }) c
@@ -222,7 +222,7 @@ chars_pass zero start g r h = absurd (omega arith)
 chars_pass (suc k) start json.no_char here h = (k, refl)
 chars_pass (suc k) start (json.char {c = c} {l = l} g f) r h =
     let u = cut c r in
-    let v = chars_pass k start f u.2 (omega (arith, length-append c l, char_some g)) in
+    let v = chars_pass {l = l} k start f u.2 (omega (arith, length-append c l, char_some g)) in
     (v.0, char_step k start g u.1 ∙ v.1)
 
 string_open : {s l t : List ℕ} {a i : ℕ} → json.Chars l t → Span s a (0x22 ∷ l) i → (m : ℕ) × (string_at s a ≡ chars_at (suc m) s a i)

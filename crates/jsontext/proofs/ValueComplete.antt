@@ -190,6 +190,7 @@ mutual
 
   items_full : (i : json.Items) {s l : List ℕ} {a b c : ℕ} (d k : ℕ) → json.nesting_of_items i ≤ d → json.SpellsItems i l → Span s a l b → space_at s b ≡ c
       → Stop (get_or s b 0) → get_or s c 0 ≡ 0x5D → length l < k → skip_items 0x5D (skip_item 0x5D (value_at d s) s) k s a ≡ past (c + 1)
+  items_full json.no_item d k h g r e st f n = elim g [ ]
   items_full (json.item v i) {s} {a = a} {b = b} {c = c} d k h (json.last_item g) r e st f n =
       item_last 0x5D (skip_item 0x5D (value_at d s) s) s k a b c (omega arith) (value_full v d (omega arith) g r (λ k z. st)) e f
   items_full (json.item v i) {s} {a = a} {b = b} {c = c} d k h (json.more_items {l = l} {c = m} {r = r} g x es) p e st f n =
@@ -202,6 +203,7 @@ mutual
 
   members_full : (m : json.Members) {s l : List ℕ} {a b c : ℕ} (d k : ℕ) → json.nesting_of_members m ≤ d → json.SpellsMembers m l → Span s a l b → space_at s b ≡ c
       → Stop (get_or s b 0) → get_or s c 0 ≡ 0x7D → length l < k → skip_items 0x7D (skip_item 0x7D (value_at d s) s) k s a ≡ past (c + 1)
+  members_full json.no_member d k h g r e st f t = elim g [ ]
   members_full (json.member n v m) {s} {a = a} {b = b} {c = c} d k h (json.last_member (json.is_member {q = q} {c = o} x y g)) r e st f t =
       let u = cut q r in
       let w = cut o u.2 in

@@ -99,7 +99,7 @@ module _ (d : ℕ) (s : List ℕ) (value_reads : (p : ℕ) → Reads (Some d) s 
       (λ w₂ h₂ q₂. from_reads (value_reads (space_at s (b + 1))) (λ y l e₂ v r₂. named g (json.separator h h₂) v (join r (join (join p (bite 0x3A refl t q₂)) r₂)))))
       (λ f. fails)))
     where
-      named : {x : Spelled} {y : Done} {a b e : ℕ} {q c l : List ℕ} → StringAt a x q → json.Separator 0x3A c → Some d y l → Span s b (q ++ (c ++ l)) e
+      named : {a b e : ℕ} {x : Spelled} {y : Done} {q c l : List ℕ} → StringAt a x q → json.Separator 0x3A c → Some d y l → Span s b (q ++ (c ++ l)) e
           → Reads (SomeMember d) s b (read y e)
       named (string_is g n) k (some v h) r = reads (some_member (json.is_member g k v) h) r
 
