@@ -16,13 +16,13 @@ use event::Refusal;
 use varint::VarintRead;
 
 // A place in the input. A cursor past the end reads as the end.
-#[derive(Drop)]
+#[derive(Clone, Copy)]
 pub struct Cursor {
     pub at: usize,
 }
 
 // A part of the input: raw bytes, whose text is their lowercase hex, or a text itself.
-#[derive(Drop)]
+#[derive(Clone, Copy)]
 pub struct Part {
     pub at: usize,
     pub len: usize,
@@ -30,7 +30,7 @@ pub struct Part {
 }
 
 // What stands in front of the tags, and where they start.
-#[derive(Drop)]
+#[derive(Clone, Copy)]
 pub struct Head {
     pub created_at: u64,
     pub kind: u64,

@@ -1,0 +1,10 @@
+-- `more` adds to the tally.
+-- The same test as the definition.
+use borrow.Author.Rules.{rules}
+use Rattle.notepack.proofs.Tally.more.Goals as goal
+
+pub returns-then-self : goal.returns-then-self
+returns-then-self c = simp c.if-self.true
+
+pub returns : goal.returns
+returns c = simp c.if-self.false

@@ -1,0 +1,12 @@
+-- `element` hands back an element's payload, or none where it is refused.
+-- By what `find_element` found; `scan::part` hands back its bytes.
+use mathlib.Core.Path.{◌≡◌}
+use borrow.Author.Rules.{rules}
+use Rattle.notepack.proofs.element.Goals as goal
+
+pub returns-in-Found : goal.returns-in-Found
+returns-in-Found c =
+    rw (← c.find_element-found.ensures, c.in-Found.is) c.part.ensures
+
+pub returns-in-Refused : goal.returns-in-Refused
+returns-in-Refused c = rw (← c.find_element-found.ensures, c.in-Refused.is)
