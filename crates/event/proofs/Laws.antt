@@ -1,12 +1,12 @@
 -- The laws of the model: two events with equal fields are equal, C's two numbers tell every answer apart.
 -- And each limit of rules 1 rules something out: one past it is not valid.
-use Prim.Native.Nat.{ℕ, ◌≤◌, ◌<◌}
+use Prim.Native.Nat.{ℕ, ◌≤◌}
 use mathlib.Core.Path.{◌≡◌, ap}
 use mathlib.Core.List.{[]}
 use native.Mathlib.Omega.{arith}
 use lib.ListN.{length}
-use Rattle.scan.specs.Choice.{Answer, shown, refused}
-use Rattle.event.specs.Event.{Text, Tag, Event, ValidTag, Valid}
+use Rattle.scan.specs.Choice.{shown, refused}
+use Rattle.event.specs.Event.{Tag, Event, ValidTag, Valid}
 use Rattle.event.specs.Answers.{two_numbers}
 
 -- events whose seven fields are equal are equal

@@ -7,7 +7,7 @@ use mathlib.Core.List.{List, [], ◌∷◌}
 use native.Mathlib.Omega.{arith}
 use lib.Dec.{eqb}
 use borrow.Author.Tests.{eqb-true}
-use Rattle.scan.specs.Choice.{pick, Answer, shown, refused, Read, read, and_then, many}
+use Rattle.scan.specs.Choice.{pick, Answer, refused, Read, and_then, many}
 use Rattle.scan.specs.Bytes.{All, none, also}
 use Rattle.scan.proofs.Step.{pick_true, false_true}
 use Rattle.event.specs.inner.Tells.{among, Tells, value, refusal}

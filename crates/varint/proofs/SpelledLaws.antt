@@ -9,7 +9,7 @@ use native.Mathlib.Omega.{arith}
 use lib.ListN.{length}
 use lib.Dec.{ltb, leb, eqb}
 use borrow.Author.Tests.{lt-ltb, le-ltb, le-leb, ne_eqb, ltb-true, ltb-false, leb-true, eqb-false}
-use Rattle.scan.specs.Bytes.{All, also, IsBytes}
+use Rattle.scan.specs.Bytes.{also, IsBytes}
 use Rattle.scan.proofs.Step.{pick_by}
 use Rattle.varint.specs.Uleb.{Uleb, last, more}
 use Rattle.varint.specs.Varint.{Spelled, number, padded, over, cut, carry, spelled}

@@ -11,7 +11,7 @@ use lib.ListN.{length}
 use lib.Dec.{ltb}
 use borrow.Author.Tests.{lt-ltb, le-ltb}
 use Rattle.scan.specs.Choice.{pick}
-use Rattle.scan.specs.Bytes.{All, none, also, IsBytes}
+use Rattle.scan.specs.Bytes.{none, also, IsBytes}
 use Rattle.varint.specs.Uleb.{Uleb, last, more, Groups, top, below, Spells, uleb_in, uleb}
 
 -- ---- the steps of the shortest spelling

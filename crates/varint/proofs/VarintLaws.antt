@@ -1,16 +1,16 @@
 -- A varint is read at a place exactly where its spelling is the span, and what is written reads back.
 -- The laws of `spelled` at a place, through `Span`; callers speak of `Spells` and `varintAt` alone.
-use Prim.Native.Nat.{ℕ, zero, suc, ◌+◌, ◌^◌, ◌≤◌, ◌<◌}
+use Prim.Native.Nat.{ℕ, ◌+◌, ◌^◌, ◌≤◌, ◌<◌}
 use mathlib.Core.Path.{◌≡◌, refl, sym, ap, ◌∙◌}
 use mathlib.Core.List.{List, ◌++◌}
 use mathlib.Core.Logic.{dite, ◌↔◌}
 use native.Mathlib.Omega.{arith}
 use native.Mathlib.Decide.{dec_lt}
-use lib.ListN.{length, get_or, drop, length-append, length-drop}
+use lib.ListN.{length, drop, length-append, length-drop}
 use lib.Dec.{ltb}
 use borrow.Author.Tests.{lt-ltb, le-ltb}
 use Rattle.scan.specs.Choice.{Answer, shown, refused, Read, read}
-use Rattle.scan.specs.Bytes.{All, Byte, IsBytes}
+use Rattle.scan.specs.Bytes.{IsBytes}
 use Rattle.scan.specs.inner.Span.{Span}
 use Rattle.scan.proofs.Step.{pick_by}
 use Rattle.scan.proofs.SpanLaws.{from_span, to_span, span_length, span_fits, span_unique}

@@ -1,8 +1,4 @@
-use Prim.Native.Nat.{◌-◌}
 use native.Mathlib.Omega.{arith}
-use borrow.Author.Rules.{rules}
-use lib.ListN.{length}
-use Rattle.utf8.specs.inner.Block.{Passed}
 use Rattle.utf8.proofs.BlockLaws.{passed_none, walks}
 use Rattle.utf8.proofs.pass_sequences.Goals as goal
 

@@ -1,7 +1,6 @@
 -- `put_scalar` writes the row of the table that the tests choose; what is no scalar value writes nothing.
 -- Each row is one `put_byte` for each byte, joined by `then`.
 use mathlib.Core.Path.{sym, ◌∙◌}
-use borrow.Author.Rules.{rules}
 use Rattle.buffer.proofs.Laws.{then, nothing}
 use Rattle.utf8.proofs.EncodeLaws.{encode_one, encode_two, encode_surrogate, encode_three, encode_four, encode_past}
 use Rattle.utf8.proofs.put_scalar.Goals as goal

@@ -2,7 +2,6 @@
 -- Each return is one row of the table.
 use mathlib.Core.Path.{refl, sym, ◌∙◌}
 use native.Mathlib.Omega.{arith}
-use borrow.Author.Rules.{rules}
 use Rattle.utf8.proofs.EncodeLaws.{encode_one, encode_two, encode_surrogate, encode_three, encode_four, encode_past}
 use Rattle.utf8.proofs.scalar_len.Goals as goal
 

@@ -4,7 +4,6 @@
 use Prim.Native.Nat.{ℕ, ◌-◌, ◌≤◌}
 use mathlib.Core.Path.{◌≡◌, sym}
 use mathlib.Core.List.{List}
-use borrow.Author.Rules.{rules}
 use lib.ListN.{length}
 use Rattle.utf8.specs.inner.Width.{width_at}
 use Rattle.utf8.proofs.WidthLaws.{width_here, width_none, width_ascii, width_most, width_left}

@@ -1,7 +1,5 @@
 use native.Mathlib.Omega.{arith}
-use borrow.Author.Rules.{rules}
-use Rattle.buffer.proofs.Laws.{Left, start, one, finish, same}
-use Rattle.varint.specs.Uleb.{uleb}
+use Rattle.buffer.proofs.Laws.{start, one, finish, same}
 use Rattle.varint.proofs.UlebLaws.{uleb_last, uleb_more}
 use Rattle.varint.proofs.put_varint.Goals as goal
 

@@ -1,10 +1,7 @@
 -- `put_varint` writes the shortest spelling. The invariant: what is left to write is the spelling of the rest.
 -- Each turn is the step `uleb-more`, the last byte `uleb-last`.
-use native.Mathlib.Omega.{arith}
-use borrow.Author.Rules.{rules}
-use Rattle.buffer.proofs.Laws.{Left, start, one, finish, same}
+use Rattle.buffer.proofs.Laws.{Left}
 use Rattle.varint.specs.Uleb.{uleb}
-use Rattle.varint.proofs.UlebLaws.{uleb_last, uleb_more}
 use Rattle.varint.proofs.put_varint.Given as goal
 
 abbrev pub invariant-loop-rest : goal.invariant-loop-rest

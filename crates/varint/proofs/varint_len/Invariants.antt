@@ -3,10 +3,8 @@
 -- Each turn is `length_more`; the bound is `length-ten`.
 use Prim.Native.Nat.{◌+◌, ◌≤◌}
 use mathlib.Core.Path.{◌≡◌}
-use native.Mathlib.Omega.{arith}
 use lib.ListN.{length}
 use Rattle.varint.specs.Uleb.{uleb}
-use Rattle.varint.proofs.UlebLaws.{length_last, length_more, length_ten}
 use Rattle.varint.proofs.varint_len.Given as goal
 
 abbrev pub invariant-loop-rest : goal.invariant-loop-rest

@@ -1,7 +1,6 @@
 -- `block_misfits` counts, unless the highest byte says that all is ASCII.
 -- By `fitting-ascii`: then every window fits.
 use native.Mathlib.Omega.{arith}
-use borrow.Author.Rules.{rules}
 use Rattle.utf8.proofs.FittingLaws.{fitting_ascii}
 use Rattle.utf8.proofs.windows.block_misfits.Goals as goal
 

@@ -1,8 +1,5 @@
-use Prim.Native.Nat.{◌-◌, ◌≤◌}
 use mathlib.Core.Path.{◌≡◌}
 use native.Mathlib.Omega.{arith}
-use borrow.Author.Rules.{rules}
-use Rattle.utf8.specs.inner.Windows.{Fitting}
 use Rattle.utf8.proofs.FittingLaws.{fitting_none, fitting_more}
 use Rattle.utf8.proofs.windows.count_misfits.Goals as goal
 

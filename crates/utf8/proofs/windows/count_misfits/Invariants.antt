@@ -2,10 +2,7 @@
 -- A window adds 0 or 1, so the sum is at most the places passed and fits a byte.
 use Prim.Native.Nat.{◌-◌, ◌≤◌}
 use mathlib.Core.Path.{◌≡◌}
-use native.Mathlib.Omega.{arith}
-use borrow.Author.Rules.{rules}
 use Rattle.utf8.specs.inner.Windows.{Fitting}
-use Rattle.utf8.proofs.FittingLaws.{fitting_none, fitting_more}
 use Rattle.utf8.proofs.windows.count_misfits.Given as goal
 
 abbrev pub invariant-loop-i : goal.invariant-loop-i

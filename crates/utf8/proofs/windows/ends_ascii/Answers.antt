@@ -1,7 +1,6 @@
 -- `ends_ascii` asks for the highest byte of the first and of the last 16, which overlap.
 -- By `most-ends`: each byte is among the first or the last.
 use native.Mathlib.Omega.{arith}
-use borrow.Author.Rules.{rules}
 use borrow.Author.Tests.{ltb-true}
 use lib.ListN.{length-take}
 use Rattle.scan.proofs.Step.{false_true}

@@ -1,7 +1,6 @@
 -- `first_misfits` adds up the three windows that begin before the text.
 -- By `fitting-first`, at the answers of the three calls.
 use native.Mathlib.Omega.{arith}
-use borrow.Author.Rules.{rules}
 use Rattle.utf8.proofs.FittingLaws.{fitting_first}
 use Rattle.utf8.proofs.windows.first_misfits.Goals as goal
 

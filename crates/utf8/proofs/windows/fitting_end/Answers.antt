@@ -1,8 +1,4 @@
-use Prim.Native.Nat.{◌+◌, ◌-◌, ◌≤◌}
-use mathlib.Core.Path.{◌≡◌}
 use native.Mathlib.Omega.{arith}
-use lib.ListN.{length}
-use Rattle.utf8.specs.inner.Windows.{Fitting, padded}
 use Rattle.utf8.proofs.FittingLaws.{fitting_block}
 use Rattle.utf8.proofs.windows.fitting_end.Goals as goal
 

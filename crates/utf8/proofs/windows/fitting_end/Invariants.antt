@@ -2,10 +2,8 @@
 -- A block is one law, `fitting-block`; where one has a misfit it stops before the block.
 use Prim.Native.Nat.{◌+◌, ◌-◌, ◌≤◌}
 use mathlib.Core.Path.{◌≡◌}
-use native.Mathlib.Omega.{arith}
 use lib.ListN.{length}
 use Rattle.utf8.specs.inner.Windows.{Fitting, padded}
-use Rattle.utf8.proofs.FittingLaws.{fitting_block}
 use Rattle.utf8.proofs.windows.fitting_end.Given as goal
 
 abbrev pub invariant-loop-i : goal.invariant-loop-i

@@ -1,8 +1,5 @@
-use Prim.Native.Nat.{◌-◌, ◌≤◌}
-use mathlib.Core.Logic.{⊎_elim}
 use native.Mathlib.Omega.{arith}
-use lib.ListN.{length}
-use Rattle.utf8.proofs.FittingLaws.{Seen, seen_none, seen_more, seen_all}
+use Rattle.utf8.proofs.FittingLaws.{seen_none, seen_more, seen_all}
 use Rattle.utf8.proofs.windows.highest.Goals as goal
 use Rattle.utf8.proofs.windows.highest.Goals.{then-top-b, else-top-b}
 
@@ -13,7 +10,7 @@ pub loop-i-preserved : goal.loop-i-preserved
 loop-i-preserved c =
     let inv = c.loop-i.invariant.1 in
     elim c.if-top-b.branch [
-      then-top-b w ↦ (omega arith, rw w.top-is (seen_more _ inv (omega (arith, w.if-top-b.true)) (omega arith)))
+      | then-top-b w ↦ (omega arith, rw w.top-is (seen_more _ inv (omega (arith, w.if-top-b.true)) (omega arith)))
       | else-top-b w ↦ (omega arith, rw w.top-is (seen_more _ inv (omega arith) w.if-top-b.false))
     ]
 

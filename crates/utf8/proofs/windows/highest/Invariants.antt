@@ -1,10 +1,8 @@
 -- `highest` keeps a number that no byte so far is above. The invariant: that, up to here.
 -- A turn is one law for each arm that it can come through.
 use Prim.Native.Nat.{◌-◌, ◌≤◌}
-use mathlib.Core.Logic.{⊎_elim}
-use native.Mathlib.Omega.{arith}
 use lib.ListN.{length}
-use Rattle.utf8.proofs.FittingLaws.{Seen, seen_none, seen_more, seen_all}
+use Rattle.utf8.proofs.FittingLaws.{Seen}
 use Rattle.utf8.proofs.windows.highest.Given as goal
 
 abbrev pub invariant-loop-i : goal.invariant-loop-i

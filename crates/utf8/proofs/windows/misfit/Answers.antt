@@ -1,7 +1,6 @@
 -- `misfit` is 0 where all its tests say that the last byte fits; what it is elsewhere does not matter.
 -- By `fits_low` and `fits-second`, at the tests on the way.
 use native.Mathlib.Omega.{arith}
-use borrow.Author.Rules.{rules}
 use Rattle.utf8.proofs.FittingLaws.{fits_low, fits_second}
 use Rattle.utf8.proofs.windows.misfit.Goals as goal
 

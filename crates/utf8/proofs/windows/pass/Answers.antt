@@ -1,7 +1,6 @@
 -- `pass` hands on what its callees found; where they find nothing, the place is 0.
 -- Each call's `requires` is what the calls before it ensure.
 use native.Mathlib.Omega.{arith}
-use borrow.Author.Rules.{rules}
 use Rattle.utf8.proofs.WindowLaws.{reach_none}
 use Rattle.utf8.proofs.windows.pass.Goals as goal
 

@@ -1,7 +1,6 @@
 -- `whole_end` goes back to a first byte that asks for a tail at the place or past it, or stays where none does.
 -- By `reach-first` and `reach-end`.
 use native.Mathlib.Omega.{arith}
-use borrow.Author.Rules.{rules}
 use Rattle.utf8.proofs.WindowLaws.{reach_first, reach_end}
 use Rattle.utf8.proofs.windows.whole_end.Goals as goal
 

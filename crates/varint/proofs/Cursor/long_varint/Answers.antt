@@ -1,7 +1,6 @@
 use Prim.Native.Nat.{◌+◌, ◌<◌}
 use native.Mathlib.Omega.{arith}
-use borrow.Author.Rules.{rules}
-use Rattle.varint.proofs.Turn.{Held, held, Gathered, turns, turn_start, turn_two, turn_last, turn_tenth, held_two}
+use Rattle.varint.proofs.Turn.{held, turns, turn_start, turn_two, turn_last, turn_tenth, held_two}
 use Rattle.varint.proofs.Cursor.long_varint.Goals as goal
 
 -- behind the first byte eight more may have the top bit

@@ -1,10 +1,7 @@
 -- `Cursor::long_varint` reads the varint. The invariant is one equation: the answer at the start is what was gathered,
 -- put in front of what the rest spells.
 -- Each turn is one law of `turns`; `Held` keeps every sum and product in 64 bits.
-use Prim.Native.Nat.{◌+◌, ◌<◌}
-use native.Mathlib.Omega.{arith}
-use borrow.Author.Rules.{rules}
-use Rattle.varint.proofs.Turn.{Held, held, Gathered, turns, turn_start, turn_two, turn_last, turn_tenth, held_two}
+use Rattle.varint.proofs.Turn.{Held, Gathered}
 use Rattle.varint.proofs.Cursor.long_varint.Given as goal
 
 abbrev pub invariant-loop-left : goal.invariant-loop-left

@@ -1,6 +1,5 @@
 -- `Cursor::varint` tells a varint of one byte at once; any other is its callee's answer.
 -- By `one_byte`, under the two tests.
-use borrow.Author.Rules.{rules}
 use Rattle.varint.proofs.Turn.{one_byte}
 use Rattle.varint.proofs.Cursor.varint.Goals as goal
 
