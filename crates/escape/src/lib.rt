@@ -10,7 +10,7 @@ ghost use Rattle.escape.specs.inner.Which.{byte_of, growth};
 ghost use Rattle.escape.specs.inner.Block.{byte_by, is_escaped, escape_letter, run_of};
 
 // Which escaping.
-#[derive(Drop)]
+#[derive(Clone, Copy)]
 pub enum Escaping {
     Canonical,
     Nson,
