@@ -1,0 +1,16 @@
+-- `copy_elements` writes the strict elements as it goes over them again. The invariant: what is left to write is that
+-- of the texts left,
+-- and they end where all end. Each turn is one law.
+use mathlib.Core.Path.{◌≡◌, refl, sym, ap, ◌∙◌}
+use borrow.Author.Rules.{rules}
+use Rattle.buffer.proofs.Laws.{Left, start, part, done, also, same}
+use Rattle.notepack.specs.Strict.{pack_elements}
+use Rattle.notepack.specs.inner.Again.{texts_again, texts_end}
+use Rattle.notepack.proofs.Again.{texts_turn, texts_left}
+use Rattle.strict.proofs.copy_elements.Given as goal
+
+abbrev pub invariant-loop-left : goal.invariant-loop-left
+invariant-loop-left l = Left l.initial.out l.initial.o (pack_elements (texts_again l.initial.left l.s l.initial.i)) l.out l.o (pack_elements (texts_again l.left l.s l.i)) × (texts_end l.initial.left l.s l.initial.i ≡ texts_end l.left l.s l.i)
+
+abbrev pub decreases-loop-left : goal.decreases-loop-left
+decreases-loop-left l = l.left
