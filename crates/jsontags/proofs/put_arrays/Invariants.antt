@@ -1,0 +1,17 @@
+-- `put_arrays` writes the tags as it goes over them again. The invariant: what is left to write is the text of the tags
+-- left.
+-- Each turn is one law: a bracket, the strings, a bracket, a comma, and the tags behind where they end.
+use mathlib.Core.List.{map}
+use borrow.Author.Rules.{rules}
+use Rattle.buffer.proofs.Laws.{Left, start, part, done, also, same}
+use Rattle.escape.specs.inner.Which.{byte_of}
+use Rattle.notepack.specs.inner.Again.{tags_again}
+use Rattle.jsontags.specs.TagText.{commaed, tag_text}
+use Rattle.jsontags.proofs.Turns.{arrays_turn, arrays_left}
+use Rattle.jsontags.proofs.put_arrays.Given as goal
+
+abbrev pub invariant-loop-left : goal.invariant-loop-left
+invariant-loop-left l = Left l.initial.out l.initial.o (commaed (map (tag_text (byte_of l.k)) (tags_again l.initial.left l.s l.initial.i))) l.out l.o (commaed (map (tag_text (byte_of l.k)) (tags_again l.left l.s l.i)))
+
+abbrev pub decreases-loop-left : goal.decreases-loop-left
+decreases-loop-left l = l.left

@@ -1,0 +1,21 @@
+-- `put_strings` writes the elements as it goes over them again. The invariant: what is left to write is the text of the
+-- elements left,
+-- and they end where all end. Each turn is one law.
+use mathlib.Core.Path.{◌≡◌, refl, sym, ◌∙◌}
+use mathlib.Core.List.{map}
+use borrow.Author.Rules.{rules}
+use Rattle.buffer.proofs.Laws.{Left, start, part, done, also, same}
+use Rattle.escape.specs.inner.Which.{byte_of}
+use Rattle.notepack.specs.inner.Again.{texts_again, texts_end}
+use Rattle.notepack.proofs.Again.{texts_turn, texts_left}
+use Rattle.jsontags.specs.TagText.{quoted, commaed}
+use Rattle.jsontags.proofs.Turns.{strings_turn, strings_left}
+use Rattle.jsontags.proofs.put_strings.Given as goal
+
+abbrev pub invariant-loop-left : goal.invariant-loop-left
+invariant-loop-left l =
+    Left l.initial.out l.initial.o (commaed (map (quoted (byte_of l.k)) (texts_again l.initial.left l.s l.initial.i))) l.out l.o (commaed (map (quoted (byte_of l.k)) (texts_again l.left l.s l.i)))
+    × (texts_end l.initial.left l.s l.initial.i ≡ texts_end l.left l.s l.i)
+
+abbrev pub decreases-loop-left : goal.decreases-loop-left
+decreases-loop-left l = l.left
