@@ -1,0 +1,14 @@
+-- `special` adds the four parts of `specialOf`.
+-- Each of them is at most 1.
+use native.Mathlib.Omega.{arith}
+use borrow.Author.Rules.{rules}
+use Rattle.jsonstring.specs.inner.Plain.{special_of}
+use Rattle.jsonstring.proofs.special.Goals as goal
+
+pub returns : goal.returns
+unfolding special_of
+returns c =
+    record {
+      value = simp (← c.control_count.ensures.value, ← c.is_one.ensures.value, ← c.is_one-2.ensures.value);
+      upper_bound = omega arith;
+    }
