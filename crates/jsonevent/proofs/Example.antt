@@ -14,7 +14,6 @@ use Rattle.scan.specs.Compare.{same_bytes}
 use Rattle.event.specs.Event.{Event}
 use Rattle.jsontext.specs.inner.Escape.{hex_value, unit_of, unit_at, unescaped_letter, letter_escape, pair_of, unicode_at, escape_at, or_itself, unescaped, unescape}
 use Rattle.jsontext.specs.Token.{is_space, space_at, word_at, digits_or, minus_at, sign_at, int_at, frac_at, is_e, exp_at, number_from, unsigned_from, skip_number}
-use Rattle.decimal.specs.Decimal.{is_digit}
 use Rattle.jsontext.specs.Text.{chars_at, string_at}
 use Rattle.jsontext.specs.Value as value
 use Rattle.jsonevent.specs.Field.{text_at, is_hex_of, hex_at, digits_only, whole_of, whole_at, after_item, items_at, inside_at, array_at, one_or_more, tag_at, tags_standing, index_in, field_of, field_at}

@@ -2,8 +2,8 @@
 -- brace.
 -- Along the members with the fields that they leave (`Tracks`); each member takes a byte, so the input's length is fuel
 -- enough.
-use Prim.Native.Nat.{ℕ, zero, suc, ◌+◌, ◌<◌, ◌≤◌}
-use mathlib.Core.Path.{◌≡◌, sym, ap, ◌∙◌}
+use Prim.Native.Nat.{ℕ, zero, suc, ◌+◌, ◌<◌}
+use mathlib.Core.Path.{◌≡◌, refl, sym, ap, ◌∙◌}
 use mathlib.Core.Bool.{true}
 use mathlib.Core.List.{List}
 use native.Mathlib.Omega.{arith}
@@ -52,11 +52,15 @@ module _ (s : List ℕ) (f g : Fields) where
   member_more X zero n a b c d h e i j o r = absurd (omega arith)
   member_more X (suc k) n a b c d h e i j o r = rw (e, i, j, o) (r k (omega arith))
 
+-- where no member is left, the fields stay
+tracks_none : {f g : Fields} → Tracks f json.no_member g → f ≡ g
+tracks_none no_more = refl
+
 -- members that are tracked are read up to the closing brace, where the fields that they leave decide
 pub members_accept : {m : json.Members} {f g : Fields} {X : Answer (Read Event)} {s l : List ℕ} {a b c : ℕ} (k : ℕ) → json.SpellsMembers m l → Tracks f m g
     → close_at g c ≡ X → Span s a l b → Stop (get_or s b 0) → space_at s b ≡ c → get_or s c 0 ≡ 0x7D → length l < k → members_at k f s a ≡ X
-members_accept {f = f} {g = g} {s = s} {a = a} {b = b} {c = c} k (json.last_member y) (then d i z no_more) n r st e o h =
-    member_last s f g _ k a b c (omega arith) (member_accepts f y d i z r st) e o n
+members_accept {f = f} {g = g} {s = s} {a = a} {b = b} {c = c} k (json.last_member y) (then d i z p) n r st e o h =
+    member_last s f g _ k a b c (omega arith) (member_accepts f y d i z r st ∙ ap (λ (h : Fields). read h b) (tracks_none p)) e o n
 members_accept {f = f} {g = g} {s = s} {a = a} {c = c} k (json.more_members {l = l} {c = m} {r = r} y q ys) (then {t = t} {x = x} j i z p) n v st e o h =
     let u = cut l v in
     let w = cut m u.2 in
@@ -70,6 +74,13 @@ members_accept {f = f} {g = g} {s = s} {a = a} {c = c} k (json.more_members {l =
 -- THE completeness: an object of the grammar that is an event is read as it, whatever stands behind it
 pub object_accepts : {v : json.Json} {e : Event} {s l : List ℕ} {a c : ℕ} → json.Spells v l → IsEvent v e → Span s a l c → object_at s a ≡ read e c
 unfolding object_at inside_at
+object_accepts json.is_false y r = elim y [ ]
+object_accepts json.is_null y r = elim y [ ]
+object_accepts json.is_true y r = elim y [ ]
+object_accepts (json.empty_array g) y r = elim y [ ]
+object_accepts (json.is_array g gs k) y r = elim y [ ]
+object_accepts (json.is_number g) y r = elim y [ ]
+object_accepts (json.is_string g) y r = elim y [ ]
 object_accepts (json.empty_object g) (is_event y v w) r = absurd (no_event (is_event y v w))
 object_accepts {e = e} {s = s} {c = c} (json.is_object {m = m} {w = w} {l = l} {x = x} g gs k) (is_event y₀ v₀ w₀) (step p q r) =
     let u = cut w r in

@@ -4,20 +4,11 @@
 use Prim.Native.Nat.{ℕ}
 use mathlib.Core.Path.{◌≡◌, refl, ap}
 use mathlib.Core.List.{List, [], ◌∷◌}
-use native.Mathlib.Omega.{arith}
-use lib.ListN.{length, get_or}
 use Rattle.scan.specs.Bytes.{IsBytes}
-use Rattle.scan.specs.inner.Span.{Span}
-use Rattle.scan.proofs.Step.{byte_none}
-use Rattle.scan.proofs.SpanLaws.{cut, input_span}
 use Rattle.hexdigits.proofs.Texts.{hexes_injective}
 use Rattle.event.specs.Event.{Text, Event}
 use Rattle.event.proofs.Laws.{all_seven}
 use Rattle.jsontext.specs.Grammar as json
-use Rattle.jsontext.specs.Token.{space_at}
-use Rattle.jsontext.proofs.TokenLaws.{Stop, stop_end, space_accepts}
-use Rattle.jsontext.proofs.FirstByte.{first_at, begins_value}
-use Rattle.jsontext.proofs.ValueComplete.{ws_stop}
 use Rattle.jsontext.proofs.OneValue.{chars_one, one_value}
 use Rattle.jsonevent.specs.Meaning.{Values, no_value, named, other, IsText, is_text, IsHex, is_hex, IsNumber, is_number, Each, none, also, IsArray, is_array, Once, once, IsEvent, is_event}
 

@@ -14,7 +14,7 @@ use Rattle.scan.proofs.Step.{false_true}
 use Rattle.scan.proofs.SpanLaws.{cut, span_length, span_fits}
 use Rattle.utf8.specs.inner.Width.{width_at}
 use Rattle.decimal.specs.Decimal.{DecimalDigit, number_of}
-use Rattle.event.specs.Event.{Text, Tag, Event, ValidTag}
+use Rattle.event.specs.Event.{Tag, Event, ValidTag}
 use Rattle.jsontext.specs.Grammar as json
 use Rattle.jsontext.specs.Token.{is_space, space_at}
 use Rattle.jsontext.proofs.TokenLaws.{Stop, space_accepts, number_accepts}
@@ -93,12 +93,12 @@ module _ {A : Type 0} (Is : json.Json → A → Type 0) (s : List ℕ) (item : �
       item_over item s a b c x (item_accepts v x l a b y g r) e f
   items_over zero (json.more_items g k gs) (also y ys) n r e f = absurd (omega (arith, n, each_some gs ys))
   items_over (suc left) (json.last_item g) (also y none) n r e f = absurd (omega arith)
-  items_over {a = a} {c = c} (suc left) (json.more_items {v = v} {l = l} {c = m} g k gs) (also {x = x} {l = xs} y ys) n r e f =
+  items_over {a = a} {b = b} {c = c} (suc left) (json.more_items {v = v} {l = l} {c = m} {i = i} {r = r'} g k gs) (also {x = x} {l = xs} y ys) n r e f =
       let u = cut l r in
       let w = cut m u.2 in
       let z = separator_accepts 0x2C comma_solid k w.1 (first_at (begins_items gs) w.2).solid in
       item_again item s left a u.0 z.0 w.0 8 c x (item_accepts v x l a u.0 y g u.1) z.1 z.2 z.3
-      (items_over left gs ys (omega (arith, n)) w.2 e f)
+      (items_over {i = i} left gs ys (omega (arith, n)) w.2 e f)
 
   -- 8 at the comma behind the last item that is allowed
   pub array_over : {i : json.Items} {xs : List A} {w l : List ℕ} {a b c : ℕ} (left : ℕ) → json.Ws w → json.SpellsItems i l → Each Is i xs → length xs ≡ suc left

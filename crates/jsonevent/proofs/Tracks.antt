@@ -14,7 +14,6 @@ use Rattle.scan.proofs.Step.{false_true}
 use Rattle.event.specs.Event.{Text, Event}
 use Rattle.jsontext.specs.Grammar as json
 use Rattle.jsontext.proofs.OneValue.{chars_one}
-use Rattle.jsontext.proofs.Meaning.{unescape_chars}
 use Rattle.jsonevent.specs.Meaning.{Values, no_value, named, other, Once, once, Shallow, no_member, known, ignored, IsEvent, is_event}
 use Rattle.jsonevent.specs.Field.{Value, missing, field_of, Fields, field}
 use Rattle.jsonevent.specs.Object.{no_fields}

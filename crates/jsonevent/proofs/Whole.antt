@@ -3,21 +3,18 @@
 -- The object's two laws, with the white space around it and the input's end.
 use Prim.Native.Nat.{ℕ, ◌≤◌}
 use mathlib.Core.Path.{◌≡◌, refl}
-use mathlib.Core.Bool.{false}
 use mathlib.Core.List.{List, ◌++◌}
 use mathlib.Core.Logic.{◌↔◌}
-use native.Mathlib.Omega.{arith}
-use lib.ListN.{length, get_or}
+use lib.ListN.{length}
 use lib.Dec.{leb, eqb}
 use borrow.Author.Tests.{le-leb, leb-true, eq-eqb, eqb-true}
 use Rattle.scan.specs.Choice.{shown}
 use Rattle.scan.specs.inner.Span.{Span}
-use Rattle.scan.proofs.Step.{byte_none}
 use Rattle.scan.proofs.SpanLaws.{join, cut, input_span, whole_span}
 use Rattle.scan.proofs.Reading.{Gives, gives, lacks, shown_gives, pick_gives, read_gives}
 use Rattle.event.specs.Event.{Event}
 use Rattle.jsontext.specs.Grammar as json
-use Rattle.jsontext.specs.Token.{is_space, space_at}
+use Rattle.jsontext.specs.Token.{space_at}
 use Rattle.jsontext.proofs.OneValue.{end_solid}
 use Rattle.jsontext.proofs.TokenLaws.{bind, space_consumes, space_accepts}
 use Rattle.jsontext.proofs.FirstByte.{first_at, begins_value}

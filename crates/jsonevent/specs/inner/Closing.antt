@@ -3,7 +3,7 @@
 -- (`Closing.close-told`); an event's own fields give the event (`Closing.close-event`); the whole reader shows an event
 -- exactly if the text, of at most 65,536 bytes, has a tree that is that event (`Whole.exactly`). Of `isMissing`: what
 -- one of the seven fields says is not missing (`Says.Says-some`), which is one direction only. Assumes nothing.
-use Rattle.std.specs.Prelude.{ℕ, ◌+◌, Bool, true, false, List, []}
+use Rattle.std.specs.Prelude.{ℕ, ◌+◌, Bool, true, false, List}
 use Rattle.scan.specs.Choice.{Answer, shown, refused, Read, read, and_then}
 use Rattle.event.specs.Event.{Text, Tag, Event}
 use Rattle.jsonevent.specs.Field.{Value, missing, bytes, number, tags, text, Fields, field}
