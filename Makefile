@@ -11,7 +11,7 @@ help: ## these lines
 demo: ## one record, taken through all forms
 	@host/demo
 
-test: ## the gate: all proofs from nothing, then all tests; KEZ_WHOLE=1 has the slow edits too, and skips nothing
+test: ## the gate: all proofs, then all tests; KEZ_WHOLE=1 has the slow edits too, and skips nothing
 	@.ci/run
 
 compare: ## the library beside another implementation [ORACLE=program] [COUNT=100000] [SEED=1]
@@ -40,5 +40,5 @@ uninstall: ## removes what install put below PREFIX, and nothing else [PREFIX=/u
 pictures: ## the pictures in docs/, drawn anew
 	@host/pictures
 
-clean: ## removes target/, where all is built
-	rm -rf target
+clean: ## removes what is built: target/, and crates/*/out, where rt keeps its work
+	rm -rf target crates/*/out

@@ -1,6 +1,7 @@
 # Sourced by the scripts of host/, which run in the repository's root. All is built into target/host.
 #   LIB=path    the library's archive; LIB=reference is that of host/reference, to try the tools by themselves.
-#               Not set: target/staticlib/libkezubimoryu.a, proved and written by rt
+#               Not set: target/staticlib/libkezubimoryu.a, proved and written by rt in crates/kezubimoryu/out, from where
+#               it is copied, since rt ci clears that folder
 
 built=target/host
 # the library's version, which stands in the header and nowhere else
@@ -50,7 +51,7 @@ build_requests() {
 # crates_below NAME: it and all that it uses, by crates.txt
 crates_below() {
     awk -F : -v names="$1" '
-        /^[a-z0-9]+:/ { uses[$1] = $2 }
+        /^[a-z0-9]+( staticlib)?:/ { sub(/ .*/, "", $1); uses[$1] = $2 }
         END {
             for (n = split(names, todo, " "); n; ) {
                 name = todo[n--]
@@ -61,18 +62,21 @@ crates_below() {
         }' crates.txt
 }
 
-# proves what the library uses, several crates at a time, then the library, which it writes to its archive. A line is
-# shown as each crate is done; all that rt says only if it fails
+# proves what the library uses, then the library, and writes its archive. rt proves anew only what no check on this
+# machine has proved as it stands. A line is shown as each crate is proved; all that rt says only if it fails
 prove_library() {
-    local below
+    local cores
     need rt "it is the Rattle toolchain's command and proves the library; LIB=FILE takes an archive that is there" ||
         return 1
-    below=$(crates_below kezubimoryu)
-    echo "First the library is proved: $(wc -w <<< "$below") crates, some 5 to 8 minutes on two cores; less where a part"
-    echo "of them is proved already."
-    (rt check $(grep -vx kezubimoryu <<< "$below") && rt staticlib kezubimoryu) 2>&1 | tee "$built/log" |
-        grep --line-buffered -E '^rt: [a-z0-9]+ proved \([0-9]+ s\)$|^rt: target/staticlib/'
+    # a core for each 4 GB that are free
+    cores=$(awk -v all="$(nproc)" '/^MemAvailable:/ { n = int($2 / 4000000) }
+        END { print n < 1 ? 1 : n < all ? n : all }' /proc/meminfo)
+    echo "First the library is proved: $(crates_below kezubimoryu | wc -l) crates; less where a part of them is proved already."
+    (cd crates/kezubimoryu && rt lib --jobs "$cores") 2>&1 | tee "$built/log" | awk '
+        /^crate [a-z0-9]+: / { name = $2; sub(/:/, "", name) }
+        /^logic=proved / { print name " is proved"; fflush() }'
     [ "${PIPESTATUS[0]}" = 0 ] || { cat "$built/log"; return 1; }
+    mkdir -p "${archive%/*}" && cp crates/kezubimoryu/out/libkezubimoryu.a "$archive"
 }
 
 # sets archive
@@ -81,7 +85,7 @@ build_library() {
     case ${LIB:-} in
         '')
             archive=target/staticlib/libkezubimoryu.a
-            ! stale "$archive" crates crates.txt || prove_library
+            ! stale "$archive" crates/*/src crates/*/specs crates/*/proofs crates.txt || prove_library
             ;;
         reference)
             archive=$built/libreference.a
