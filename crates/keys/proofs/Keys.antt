@@ -1,27 +1,25 @@
 -- The key that is found by going over the tags again is the event's.
 -- Tag by tag; `d` is never the text of raw bytes, whose hex has an even length.
-use Prim.Native.Nat.{ℕ, zero, suc, ◌*◌}
+use Prim.Native.Nat.{ℕ, zero, suc}
 use mathlib.Core.Path.{◌≡◌, refl, sym, ap, ◌∙◌}
 use mathlib.Core.Bool.{Bool, true, false}
-use mathlib.Core.List.{List, [], ◌∷◌}
+use mathlib.Core.List.{List, []}
 use native.Mathlib.Omega.{arith}
 use lib.ListN.{length, take, drop}
 use borrow.Author.Tests.{lt-ltb}
 use Rattle.scan.specs.Ascii.{ascii}
-use Rattle.scan.specs.Choice.{pick, shown}
+use Rattle.scan.specs.Choice.{pick}
 use Rattle.scan.specs.Compare.{same_bytes}
 use Rattle.scan.proofs.Step.{not_so}
 use Rattle.scan.proofs.CompareLaws.{bytes_same}
 use Rattle.hexdigits.specs.Hex.{hexes}
 use Rattle.hexdigits.proofs.Texts.{length_hexes}
-use Rattle.event.specs.Event.{Text, Tag, Event}
 use Rattle.notepack.specs.declared.Head.{Head}
 use Rattle.notepack.specs.declared.Part.{Part}
-use Rattle.notepack.specs.Unpack.{bytes_of, text_of, unpack}
-use Rattle.notepack.specs.Views.{numbers_of}
+use Rattle.notepack.specs.Unpack.{bytes_of, text_of}
 use Rattle.notepack.specs.inner.Again.{part_again, count_again, texts_again, texts_end, tags_again}
 use Rattle.notepack.proofs.Walking.{text_raw, text_plain}
-use Rattle.notepack.proofs.Viewing.{Numbered, numbers_event}
+use Rattle.notepack.proofs.Viewing.{Numbered}
 use Rattle.notepack.proofs.Again.{tags_again_lem}
 use Rattle.keys.specs.declared.KeyRead.{KeyRead}
 use Rattle.keys.specs.declared.KeyRead.TheVariants.{Keyed, Keyless}

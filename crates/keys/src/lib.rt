@@ -12,13 +12,13 @@ use notepack::{Head, Part};
 
 // A key's kind, and where its label stands; a missing one has the place 0 and no bytes. The author's 32 bytes stand at
 // place 32 of every packed event.
-#[derive(Drop)]
+#[derive(Clone, Copy)]
 pub struct KeyPlace {
     pub kind: u64,
     pub label: Part,
 }
 
-#[derive(Drop)]
+#[derive(Clone, Copy)]
 pub enum KeyRead {
     Keyed(KeyPlace),
     Keyless,

@@ -8,7 +8,6 @@ use Rattle.notepack.specs.declared.Head.{Head}
 use Rattle.notepack.specs.declared.Part.{Part}
 use Rattle.notepack.specs.Unpack.{part_of, bytes_of, text_of}
 use Rattle.notepack.specs.inner.Again.{part_again, count_again, texts_end}
-use Rattle.keys.specs.declared.KeyPlace.{KeyPlace}
 use Rattle.keys.specs.declared.KeyRead.{KeyRead}
 use Rattle.keys.specs.declared.KeyRead.TheVariants.{Keyed, Keyless}
 use Rattle.keys.specs.Key as key
