@@ -1,6 +1,6 @@
 -- The first byte of a value or a name: no white space and no closing bracket; so each of them takes a byte or more.
 -- By cases on the grammar.
-use Prim.Native.Nat.{ℕ, ◌+◌, ◌<◌, ◌≤◌}
+use Prim.Native.Nat.{ℕ, ◌<◌, ◌≤◌}
 use mathlib.Core.Path.{◌≡◌, refl}
 use mathlib.Core.Bool.{false}
 use mathlib.Core.List.{List, ◌∷◌, ◌++◌}

@@ -18,7 +18,7 @@ use Rattle.scan.proofs.Step.{rest_more, pick_by}
 use Rattle.scan.proofs.SpanLaws.{to_span, cut_at}
 use Rattle.scan.proofs.AllLaws.{all_map}
 use Rattle.utf8.specs.Utf8 as utf8
-use Rattle.utf8.specs.Encode.{above, encode}
+use Rattle.utf8.specs.Encode.{encode}
 use Rattle.utf8.proofs.Laws.{utf8_append, utf8_char}
 use Rattle.utf8.proofs.EncodeLaws.{encode_one, encode_utf8, encode_length}
 use Rattle.jsontext.specs.declared.Escape.{Escape}

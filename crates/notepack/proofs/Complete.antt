@@ -1,33 +1,31 @@
 -- Whatever lays out a valid event within the limit is read as that event: each definition meets the piece that the
 -- layout puts there.
 -- By matching the layout, cutting the span at each `++`, and rewriting each read by what it finds.
-use Prim.Native.Nat.{ℕ, zero, suc, ◌+◌, ◌*◌, ◌-◌, ◌/◌, ◌%◌, ◌≤◌, ◌<◌}
+use Prim.Native.Nat.{ℕ, ◌+◌, ◌*◌, ◌-◌, ◌/◌, ◌%◌, ◌≤◌}
 use mathlib.Core.Path.{◌≡◌, refl, sym, ap, ◌∙◌}
 use mathlib.Core.Bool.{Bool, true, false}
-use mathlib.Core.List.{List, [], ◌∷◌, ◌++◌, map}
+use mathlib.Core.List.{List, [], ◌∷◌, map}
 use native.Mathlib.Omega.{arith}
 use lib.ListN.{length, take, drop}
 use lib.Seq.{take_at}
-use lib.Dec.{leb, eqb}
+use lib.Dec.{eqb}
 use borrow.Author.Tests.{le-leb, eq-eqb, ne_eqb}
-use Rattle.scan.specs.Choice.{pick, Answer, shown, refused, Read, read, and_then, many}
+use Rattle.scan.specs.Choice.{shown, read, many}
 use Rattle.scan.specs.Bytes.{All, none, also}
-use Rattle.scan.specs.inner.Span.{here, Span}
+use Rattle.scan.specs.inner.Span.{Span}
 use Rattle.scan.proofs.Reading.{read_same}
 use Rattle.scan.proofs.SpanLaws.{cut, cut_at, none_span, span_length, span_fits, from_span, input_span}
 use Rattle.varint.specs.Uleb.{Spells}
-use Rattle.varint.specs.Varint.{varint_at}
 use Rattle.varint.proofs.VarintLaws.{accepts}
 use Rattle.utf8.specs.Utf8.{Utf8}
-use Rattle.utf8.specs.inner.Width.{is_utf8}
 use Rattle.utf8.proofs.Laws.{is_utf8_lem}
 use Rattle.hexdigits.specs.Hex.{hexes}
-use Rattle.event.specs.Event.{Text, Tag, Event, ValidTag, Valid}
+use Rattle.event.specs.Event.{Tag, Event, ValidTag, Valid}
 use Rattle.event.proofs.Laws.{all_seven}
 use Rattle.notepack.specs.declared.Part.{Part}
 use Rattle.notepack.specs.declared.Head.{Head}
 use Rattle.notepack.specs.Layout.{Element, as_text, as_bytes, Elements, TagLays, Tags, Lays}
-use Rattle.notepack.specs.Unpack.{part_of, bytes_of, text_of, payload_at, text_at, number_at, content_at, element_at, elements_at, tag_count_at, tag_at, tags_standing, numbers_at, head_at, Packed, packed_at, event_of, unpack}
+use Rattle.notepack.specs.Unpack.{part_of, text_of, payload_at, text_at, number_at, content_at, element_at, elements_at, tag_count_at, tag_at, tags_standing, numbers_at, head_at, packed_at, event_of, unpack}
 
 -- where everything of an event stands that the input lays out: no limit is asked here
 record Stands (s : List ℕ) (e : Event) : Type 0 where

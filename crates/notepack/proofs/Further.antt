@@ -1,7 +1,7 @@
 -- A second pass reads the same behind k bytes in front of the event: what it finds stays, every place is k further on.
 -- From the varint and the payload to the parts and the counts of a pass.
 use Prim.Native.Nat.{ℕ, zero, suc, ◌+◌, ◌-◌, ◌/◌, ◌%◌}
-use mathlib.Core.Path.{◌≡◌, refl, sym, ap, ◌∙◌}
+use mathlib.Core.Path.{◌≡◌, refl, ap}
 use mathlib.Core.Bool.{Bool, true, false}
 use mathlib.Core.List.{List}
 use native.Mathlib.Omega.{arith}

@@ -4,15 +4,14 @@
 use Prim.Native.Nat.{ℕ, zero, suc, ◌+◌, ◌*◌, ◌-◌, ◌≤◌, ◌<◌}
 use mathlib.Core.Path.{◌≡◌, refl, sym, ap, ◌∙◌}
 use mathlib.Core.Bool.{Bool, true, false}
-use mathlib.Core.List.{List, [], ◌∷◌, ◌++◌, map}
+use mathlib.Core.List.{List, ◌∷◌, map}
 use native.Mathlib.Nat.{add-zero}
 use native.Mathlib.Numerals.{sub-one}
 use native.Mathlib.Omega.{arith}
 use lib.ListN.{length, length-append, length-map}
-use Rattle.scan.specs.Choice.{pick, Answer, shown, refused, Read, read, and_then, many}
+use Rattle.scan.specs.Choice.{Answer, shown, refused, Read, read, and_then, many}
 use Rattle.scan.specs.inner.Otherwise.{either}
 use Rattle.scan.specs.Bytes.{IsBytes}
-use Rattle.scan.specs.inner.Span.{Span}
 use Rattle.scan.proofs.Step.{pick_by}
 use Rattle.scan.proofs.SpanLaws.{span_length, span_fits}
 use Rattle.scan.proofs.Reading.{Reads, shown_reads, read_same}

@@ -1,7 +1,7 @@
 -- A spelling beside the strict one: it is never shorter, and it is the strict one exactly if it is as long and no
 -- element of it is hollow.
 -- Pieces compose, so the whole follows from varints, texts and elements.
-use Prim.Native.Nat.{ℕ, zero, suc, ◌+◌, ◌*◌, ◌/◌, ◌%◌, ◌≤◌, ◌<◌, ◌^◌}
+use Prim.Native.Nat.{ℕ, zero, suc, ◌+◌, ◌*◌, ◌/◌, ◌≤◌, ◌<◌}
 use mathlib.Core.Path.{◌≡◌, refl, sym, ap, ◌∙◌}
 use mathlib.Core.Bool.{Bool, true, false, not}
 use mathlib.Core.List.{List, [], ◌∷◌, ◌++◌, append-nil}
@@ -11,13 +11,13 @@ use native.Mathlib.Decide.{dec_lt, ℕ_discrete}
 use lib.ListN.{length, take, drop, length-append}
 use lib.Seq.{take_at, drop_at}
 use lib.Dec.{eqb}
-use borrow.Author.Tests.{eq-eqb, ne_eqb, eqb-true}
+use borrow.Author.Tests.{eq-eqb, ne_eqb}
 use Rattle.scan.specs.Choice.{pick}
 use Rattle.scan.specs.inner.Otherwise.{either}
-use Rattle.scan.specs.Bytes.{IsBytes, none, also}
+use Rattle.scan.specs.Bytes.{IsBytes}
 use Rattle.scan.proofs.Step.{not_so, pick_by, false_true}
 use Rattle.varint.specs.Uleb.{Spells, uleb}
-use Rattle.varint.proofs.UlebLaws.{uleb_spells, uleb_shortest, uleb_last, length_last, length_more, length_one, spells_one, spells_only, spells_value}
+use Rattle.varint.proofs.UlebLaws.{uleb_spells, uleb_shortest, length_last, length_more, length_one, spells_one, spells_only, spells_value}
 use Rattle.hexdigits.specs.Hex.{hexes, unhex, goes_as_bytes}
 use Rattle.hexdigits.proofs.Texts.{unhex_hexes, hexes_go, go_digits, length_unhex}
 use Rattle.scan.specs.Compare.{same_bytes}

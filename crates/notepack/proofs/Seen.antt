@@ -4,16 +4,15 @@ use Prim.Native.Nat.{ℕ, zero, suc}
 use mathlib.Core.Path.{◌≡◌, refl, sym, ap, ◌∙◌}
 use mathlib.Core.List.{List, [], ◌∷◌, map}
 use native.Mathlib.Omega.{arith}
-use lib.ListN.{length, take, drop, length-map}
-use Rattle.scan.specs.Choice.{Answer, shown, refused, Read, and_then}
+use lib.ListN.{length, length-map}
+use Rattle.scan.specs.Choice.{Answer, shown, refused, and_then}
 use Rattle.scan.specs.Bytes.{IsBytes}
 use Rattle.scan.proofs.Reading.{shown_gives}
 use Rattle.scan.proofs.Many.{then_shown, many_count}
-use Rattle.event.specs.Event.{Text, Tag, Event}
+use Rattle.event.specs.Event.{Tag, Event}
 use Rattle.notepack.specs.declared.Part.{Part}
-use Rattle.notepack.specs.declared.Head.{Head}
 use Rattle.notepack.specs.Unpack.{Packed, packed_at, tag_at, text_of, event_of, unpack}
-use Rattle.notepack.specs.Views.{numbers_of, content_of, nth, tag_of, element_of, texts_in, view}
+use Rattle.notepack.specs.Views.{numbers_of, content_of, nth, tag_of, element_of, texts_in}
 use Rattle.notepack.specs.Seen.{Seen}
 use Rattle.notepack.proofs.Sound.{sized_text, head_gives}
 use Rattle.notepack.proofs.Viewing.{packed_head_lem, packed_apart}

@@ -1,31 +1,30 @@
 -- What `unpack` shows is laid out by the input and valid: a walk over the reading definitions, one law for each.
 -- `Reads G s a r` says that a value of r is spelled, by the grammar G, from a to the place behind it.
-use Prim.Native.Nat.{ℕ, zero, suc, ◌+◌, ◌*◌, ◌-◌, ◌/◌, ◌%◌, ◌≤◌, ◌<◌}
+use Prim.Native.Nat.{ℕ, zero, suc, ◌+◌, ◌*◌, ◌-◌, ◌/◌, ◌%◌, ◌≤◌}
 use mathlib.Core.Path.{◌≡◌, refl, sym, ap, ◌∙◌, subst}
 use mathlib.Core.Bool.{Bool, true, false}
-use mathlib.Core.List.{List, [], ◌∷◌, ◌++◌, map}
+use mathlib.Core.List.{List, ◌++◌, map}
 use native.Mathlib.Omega.{arith}
 use lib.ListN.{length, take, drop, length-map}
 use lib.Dec.{leb, eqb}
 use borrow.Author.Tests.{leb-true, eqb-true, eqb-false}
-use Rattle.scan.specs.Choice.{pick, Answer, shown, refused, Read, read, and_then, many}
+use Rattle.scan.specs.Choice.{shown, many}
 use Rattle.scan.specs.Bytes.{All, also, IsBytes}
 use Rattle.scan.specs.inner.Span.{here, Span}
 use Rattle.scan.proofs.SpanLaws.{join, cut, span_length, whole_span}
 use Rattle.scan.proofs.Reading.{Reads, reads, fails, pick_reads, then_reads, from_reads, part_span, part_length, Gives, gives, lacks, shown_gives, pick_gives, then_gives, read_gives}
 use Rattle.scan.proofs.AllLaws.{all_take, all_drop}
 use Rattle.varint.specs.Uleb.{Spells}
-use Rattle.varint.specs.Varint.{varint_at}
 use Rattle.varint.proofs.VarintLaws.{varint_reads}
 use Rattle.hexdigits.proofs.Texts.{hexes_digits, digits_ascii}
 use Rattle.utf8.specs.Utf8.{Utf8}
 use Rattle.utf8.specs.inner.Width.{is_utf8}
 use Rattle.utf8.proofs.Laws.{is_utf8_lem, utf8_ascii}
 use Rattle.hexdigits.specs.Hex.{hexes}
-use Rattle.event.specs.Event.{Text, Tag, Event, ValidTag, Valid}
+use Rattle.event.specs.Event.{Event, ValidTag, Valid}
 use Rattle.notepack.specs.declared.Part.{Part}
 use Rattle.notepack.specs.declared.Head.{Head}
-use Rattle.notepack.specs.Layout.{Element, as_text, as_bytes, Elements, TagLays, tag, Tags, Lays}
+use Rattle.notepack.specs.Layout.{Element, as_text, as_bytes, Elements, TagLays, Tags, Lays}
 use Rattle.notepack.specs.Unpack.{part_of, bytes_of, text_of, payload_at, text_at, number_at, content_at, element_at, elements_at, tag_count_at, tag_at, tags_standing, numbers_at, head_at, Packed, packed_at, event_of, unpack}
 use Rattle.notepack.specs.Strict.{pack_element, pack_elements, pack_tag, pack_tags, pack}
 use Rattle.notepack.specs.inner.Tally.{is_hollow, hollow_in, hollow_tags}

@@ -1,20 +1,19 @@
 -- The strict form lays out its event, so by completeness it is read back; and it is the event's alone.
 -- By the law of each piece: a shortest varint spells its number, a text that goes as bytes is the hex of those bytes.
-use Prim.Native.Nat.{ℕ, ◌+◌, ◌*◌, ◌/◌, ◌%◌, ◌≤◌, ◌<◌, ◌^◌}
-use mathlib.Core.Path.{◌≡◌, refl, sym, ap, ◌∙◌}
-use mathlib.Core.Bool.{Bool, true, false}
+use Prim.Native.Nat.{ℕ, ◌+◌, ◌*◌, ◌≤◌, ◌<◌, ◌^◌}
+use mathlib.Core.Path.{◌≡◌, sym, ap, ◌∙◌}
 use mathlib.Core.List.{List, [], ◌∷◌, ◌++◌}
 use mathlib.Core.Logic.{◌↔◌}
 use native.Mathlib.Omega.{arith}
 use lib.ListN.{length, length-append}
-use Rattle.scan.specs.Choice.{pick, Answer, shown}
+use Rattle.scan.specs.Choice.{shown}
 use Rattle.scan.specs.Bytes.{All, IsBytes}
 use Rattle.scan.proofs.Step.{pick_by}
 use Rattle.scan.proofs.AllLaws.{all_append}
-use Rattle.varint.specs.Uleb.{Spells, uleb}
+use Rattle.varint.specs.Uleb.{uleb}
 use Rattle.varint.proofs.UlebLaws.{uleb_spells, uleb_bytes}
-use Rattle.hexdigits.specs.Hex.{hexes, unhex, goes_as_bytes}
-use Rattle.hexdigits.proofs.Texts.{hexes_unhex, unhex_bytes, go_digits, length_unhex}
+use Rattle.hexdigits.specs.Hex.{unhex, goes_as_bytes}
+use Rattle.hexdigits.proofs.Texts.{hexes_unhex, unhex_bytes, go_digits}
 use Rattle.utf8.specs.Utf8.{Utf8}
 use Rattle.utf8.proofs.Laws.{utf8_bytes}
 use Rattle.event.specs.Event.{Text, Tag, Event, ValidTag, Valid}

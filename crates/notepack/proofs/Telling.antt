@@ -3,26 +3,26 @@
 -- Along the definitions of the reading: each read ends in the input, and refuses at a place that was reached.
 use Prim.{Unit, tt}
 use Prim.Native.Nat.{ℕ, zero, suc, ◌+◌, ◌-◌, ◌/◌, ◌%◌, ◌≤◌}
-use mathlib.Core.Path.{◌≡◌, refl, sym, ap, ◌∙◌}
+use mathlib.Core.Path.{◌≡◌, refl}
 use mathlib.Core.Bool.{Bool, true, false}
 use mathlib.Core.List.{List, [], ◌∷◌}
 use native.Mathlib.Omega.{arith}
 use lib.ListN.{length}
 use lib.Dec.{leb, eqb}
-use borrow.Author.Tests.{leb-true, eqb-true}
-use Rattle.scan.specs.Choice.{pick, Answer, shown, refused, Read, read, and_then, many}
-use Rattle.scan.specs.Bytes.{All, none, also}
+use borrow.Author.Tests.{leb-true}
+use Rattle.scan.specs.Choice.{Answer, shown, refused, Read}
+use Rattle.scan.specs.Bytes.{All, also}
 use Rattle.utf8.specs.inner.Width.{is_utf8}
 use Rattle.varint.specs.Varint.{varint_at}
 use Rattle.varint.proofs.VarintLaws.{Refuses, truncated, overflow, unterminated, longer, refusal as refuses, consumes_some}
 use Rattle.event.specs.Event.{Event}
 use Rattle.event.specs.inner.Tells.{among, Tells, value, refusal}
-use Rattle.event.proofs.TellsLaws.{Inside, then_tells, pick_tells, less_tells, many_all_tells, wider}
+use Rattle.event.proofs.TellsLaws.{Inside, then_tells, pick_tells, many_all_tells, wider}
 use Rattle.notepack.specs.declared.Part.{Part}
 use Rattle.notepack.specs.declared.Head.{Head}
-use Rattle.notepack.specs.Unpack.{bytes_of, payload_at, text_at, number_at, content_at, element_at, elements_at, tag_count_at, tag_at, tags_standing, numbers_at, head_at, Packed, packed_at, unpack}
+use Rattle.notepack.specs.Unpack.{bytes_of, payload_at, text_at, number_at, content_at, element_at, tag_count_at, tag_at, numbers_at, head_at, Packed, packed_at, unpack}
 use Rattle.notepack.specs.inner.Numbers.{packed_numbers, view_numbers}
-use Rattle.notepack.specs.Views.{numbers_of, nth, tag_of, texts_in, element_of, content_of}
+use Rattle.notepack.specs.Views.{numbers_of, nth, tag_of, texts_in, element_of}
 
 module _ (s : List ℕ) where
   -- a read that ends in the input

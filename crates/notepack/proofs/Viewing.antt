@@ -1,9 +1,8 @@
 -- An element that was read among others is read again from its place: walking to tag i and element j finds number j of
 -- number i.
 -- By induction on the place in the list, along the reads.
-use Prim.Native.Nat.{ℕ, zero, suc, ◌+◌, ◌≤◌, ◌<◌}
+use Prim.Native.Nat.{ℕ, zero, suc, ◌≤◌, ◌<◌}
 use mathlib.Core.Path.{◌≡◌, refl, sym, ap, ◌∙◌, subst}
-use mathlib.Core.Bool.{Bool, true, false}
 use mathlib.Core.List.{List, [], ◌∷◌, ◌++◌, map}
 use mathlib.Core.Logic.{dite}
 use native.Mathlib.Omega.{arith}

@@ -1,5 +1,5 @@
 -- An array or an object as it is read over, with the depth that is left. Assumes nothing.
-use Rattle.std.specs.Prelude.{ℕ, zero, suc, List, []}
+use Rattle.std.specs.Prelude.{ℕ, zero, suc, List}
 use Rattle.scan.specs.Choice.{refused}
 use Rattle.jsontext.specs.Token.{Skipped}
 use Rattle.jsontext.specs.Value.{skip_walk_by, value_at}

@@ -1,7 +1,6 @@
 -- `millis_of` reads a word as a signed number: by the two halves of the words.
 use native.Mathlib.Omega.{arith}
 use Rattle.moment.proofs.Signs.{word_signed, below_fits, below_signed}
-use borrow.Author.Rules.{rules}
 use Rattle.moment.proofs.millis_of.Goals as goal
 
 pub returns-then-word-lt9223372036854775808 : goal.returns-then-word-lt9223372036854775808

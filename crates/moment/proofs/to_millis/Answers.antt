@@ -1,6 +1,5 @@
 -- `to_millis` tells the milliseconds of a second where a word of 64 bits spells them.
 use Rattle.moment.proofs.Signs.{millis_fit, millis_beyond}
-use borrow.Author.Rules.{rules}
 use Rattle.moment.proofs.to_millis.Goals as goal
 
 pub returns-then-n-le9223372036854775 : goal.returns-then-n-le9223372036854775

@@ -1,9 +1,7 @@
 -- `bytes_len` is the length of the strict element whose text is the hex of its bytes.
 -- By the laws of lengths; a slice's numbers are bytes.
-use Prim.Native.Nat.{◌+◌, ◌*◌}
-use mathlib.Core.Path.{◌≡◌, sym, ◌∙◌}
+use mathlib.Core.Path.{sym}
 use native.Mathlib.Omega.{arith}
-use borrow.Author.Rules.{rules}
 use Rattle.scan.proofs.AllLaws.{all_places}
 use Rattle.notepack.proofs.Lengths.{length_hex, length_no_hex}
 use Rattle.notepack.proofs.bytes_len.Goals as goal

@@ -1,7 +1,5 @@
 -- `content` hands back the content's bytes, or none where the reader refuses.
 -- The content is that of the event's numbers; `scan::part` hands back its bytes.
-use mathlib.Core.Path.{◌≡◌}
-use borrow.Author.Rules.{rules}
 use Rattle.notepack.proofs.Viewing.{content_numbers}
 use Rattle.notepack.proofs.content.Goals as goal
 

@@ -1,7 +1,5 @@
 -- `element` hands back an element's payload, or none where it is refused.
 -- By what `find_element` found; `scan::part` hands back its bytes.
-use mathlib.Core.Path.{◌≡◌}
-use borrow.Author.Rules.{rules}
 use Rattle.notepack.proofs.element.Goals as goal
 
 pub returns-in-Found : goal.returns-in-Found

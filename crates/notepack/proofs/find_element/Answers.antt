@@ -1,7 +1,6 @@
 -- `find_element` tells the value that its callee found, or the refusal.
 -- The definition is that of the callee, by the law `element_place`.
-use mathlib.Core.Path.{◌≡◌, sym}
-use borrow.Author.Rules.{rules}
+use mathlib.Core.Path.{sym}
 use Rattle.notepack.proofs.Viewing.{element_place_lem}
 use Rattle.notepack.proofs.find_element.Goals as goal
 

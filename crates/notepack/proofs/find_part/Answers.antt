@@ -2,7 +2,6 @@
 -- The same tests as the definition, in its order.
 use borrow.Author.Tests.{le-ltb, lt-ltb}
 use Rattle.notepack.specs.inner.Places.{element_place}
-use borrow.Author.Rules.{rules}
 use Rattle.notepack.proofs.find_part.Goals as goal
 
 pub returns-then-j-n : goal.returns-then-j-n

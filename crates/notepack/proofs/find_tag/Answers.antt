@@ -2,7 +2,6 @@
 -- The same tests as the definition, in its order.
 use Rattle.notepack.specs.inner.Places.{tag_start}
 use borrow.Author.Tests.{le-ltb, lt-ltb}
-use borrow.Author.Rules.{rules}
 use Rattle.notepack.proofs.find_tag.Goals as goal
 
 pub returns-then-i-h : goal.returns-then-i-h

@@ -1,7 +1,6 @@
 -- `head_len` adds up the strict length of all in front of the tags.
 -- By the promises of `varint_len`; the sum fits, since the content is within the limit.
 use native.Mathlib.Omega.{arith}
-use borrow.Author.Rules.{rules}
 use Rattle.notepack.specs.inner.Tally.{head_len}
 use Rattle.notepack.proofs.head_len.Goals as goal
 

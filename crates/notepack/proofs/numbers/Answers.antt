@@ -1,7 +1,6 @@
 -- `numbers` reads created_at, kind, the content and the number of tags, one after the other.
 -- The same reads as the definition, in its order.
 use Rattle.notepack.specs.Unpack.{numbers_at}
-use borrow.Author.Rules.{rules}
 use Rattle.notepack.proofs.numbers.Goals as goal
 
 pub returns-in-Refused : goal.returns-in-Refused

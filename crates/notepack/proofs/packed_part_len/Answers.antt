@@ -1,6 +1,5 @@
 -- `packed_part_len` is the length of the strict element that has a part's text.
 -- By the promises of `scan::part` and of the length for each kind of part.
-use borrow.Author.Rules.{rules}
 use Rattle.notepack.specs.Unpack.{text_of}
 use Rattle.notepack.proofs.packed_part_len.Goals as goal
 

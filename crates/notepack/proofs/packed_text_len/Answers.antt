@@ -1,8 +1,6 @@
 -- `packed_text_len` is the length of the strict element whose text its bytes are.
 -- By the law of lengths for each form in which the text can go.
-use Prim.Native.Nat.{◌+◌, ◌*◌, ◌/◌}
 use native.Mathlib.Omega.{arith}
-use borrow.Author.Rules.{rules}
 use Rattle.notepack.proofs.Lengths.{length_as_bytes, length_as_text}
 use Rattle.notepack.proofs.packed_text_len.Goals as goal
 

@@ -1,7 +1,6 @@
 -- `part_again` is what is read at the place, or nothing and the place itself.
 -- By what its callee told, case by case.
 use mathlib.Core.Path.{refl}
-use borrow.Author.Rules.{rules}
 use Rattle.notepack.specs.inner.Again.{part_again}
 use Rattle.notepack.proofs.part_again.Goals as goal
 

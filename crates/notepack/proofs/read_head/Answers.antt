@@ -1,7 +1,6 @@
 -- `read_head` reads id, pubkey and sig, and then the numbers.
 -- The same reads as the definition, in its order.
 use Rattle.notepack.specs.Unpack.{head_at}
-use borrow.Author.Rules.{rules}
 use Rattle.notepack.proofs.read_head.Goals as goal
 
 pub returns-in-Refused : goal.returns-in-Refused

@@ -1,6 +1,5 @@
 -- `read_part` reads an element's part again.
 -- By what its two callees told, case by case.
-use borrow.Author.Rules.{rules}
 use Rattle.notepack.specs.inner.Again.{element_part_at}
 use Rattle.notepack.proofs.read_part.Goals as goal
 

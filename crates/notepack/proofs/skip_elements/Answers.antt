@@ -1,8 +1,7 @@
 -- `skip_elements` goes on from where a pass over elements ends: by the law that the tally does not move the place.
 -- What the pass told is put in for the reads that it stands for.
-use mathlib.Core.Path.{◌≡◌, ◌∙◌}
+use mathlib.Core.Path.{◌∙◌}
 use mathlib.Core.Bool.{false}
-use borrow.Author.Rules.{rules}
 use Rattle.notepack.specs.declared.Tally.{Tally}
 use Rattle.notepack.specs.Unpack.{element_at}
 use Rattle.notepack.specs.inner.Answers.{pass}

@@ -1,7 +1,4 @@
-use mathlib.Core.Path.{◌≡◌, refl, sym, ◌∙◌}
-use native.Mathlib.Omega.{arith}
-use borrow.Author.Rules.{rules}
-use Rattle.notepack.specs.inner.Again.{texts_end}
+use mathlib.Core.Path.{refl, sym, ◌∙◌}
 use Rattle.notepack.proofs.Again.{texts_turn, texts_left}
 use Rattle.notepack.proofs.texts_end.Goals as goal
 

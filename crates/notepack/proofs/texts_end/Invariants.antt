@@ -1,10 +1,7 @@
 -- `texts_end` passes n texts. The invariant is one equation: the end from the start is that from here.
 -- Each turn is a law of going over texts again.
-use mathlib.Core.Path.{◌≡◌, refl, sym, ◌∙◌}
-use native.Mathlib.Omega.{arith}
-use borrow.Author.Rules.{rules}
+use mathlib.Core.Path.{◌≡◌}
 use Rattle.notepack.specs.inner.Again.{texts_end}
-use Rattle.notepack.proofs.Again.{texts_turn, texts_left}
 use Rattle.notepack.proofs.texts_end.Given as goal
 
 abbrev pub invariant-loop-left : goal.invariant-loop-left

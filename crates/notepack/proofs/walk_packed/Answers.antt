@@ -1,7 +1,6 @@
 -- `walk_packed` checks the limit, what stands in front of the tags, and the tags.
 -- By the laws of `Walking` for each way it can end.
-use mathlib.Core.Path.{◌≡◌, sym, ap, ◌∙◌}
-use borrow.Author.Rules.{rules}
+use mathlib.Core.Path.{sym, ap, ◌∙◌}
 use Rattle.notepack.specs.inner.Answers.{head_read}
 use Rattle.notepack.proofs.Walking.{walk_long, walk_front}
 use Rattle.notepack.proofs.walk_packed.Goals as goal

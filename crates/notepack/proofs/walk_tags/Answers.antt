@@ -1,10 +1,8 @@
 -- `walk_tags` passes over the tags with the tally of what stands in front of them, and finds the input's end or a byte
 -- after it.
 -- By the laws of `Walking`, from what its caller found.
-use Prim.Native.Nat.{◌≤◌}
-use mathlib.Core.Path.{◌≡◌, ap}
+use mathlib.Core.Path.{ap}
 use native.Mathlib.Omega.{arith}
-use borrow.Author.Rules.{rules}
 use Rattle.scan.proofs.AllLaws.{all_places}
 use Rattle.notepack.specs.inner.Answers.{pass}
 use Rattle.notepack.proofs.Walking.{content_short, head_room, walk_done, walk_after, walk_refused}

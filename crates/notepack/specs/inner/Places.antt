@@ -1,6 +1,6 @@
 -- A tag and an element by walking from place to place; `proofs/Viewing` shows that these are the views. Assumes
 -- nothing.
-use Rattle.std.specs.Prelude.{ℕ, List, [], ltb}
+use Rattle.std.specs.Prelude.{ℕ, List, ltb}
 use Rattle.scan.specs.Choice.{pick, Answer, refused, Read, and_then}
 use Rattle.notepack.specs.declared.Part.{Part}
 use Rattle.notepack.specs.Unpack.{element_at, elements_at, tag_count_at, tags_standing}

@@ -1,14 +1,14 @@
 -- What one pass over a packed event measures besides: the length of the strict form, and whether an element is hollow.
 -- Assumes nothing.
-use Rattle.std.specs.Prelude.{ℕ, ◌+◌, Bool, true, false, List, [], ◌∷◌, map, length, eqb}
-use Rattle.scan.specs.Choice.{pick, Answer, shown, Read, read, and_then}
+use Rattle.std.specs.Prelude.{ℕ, ◌+◌, Bool, false, List, [], ◌∷◌, map, length, eqb}
+use Rattle.scan.specs.Choice.{pick, Answer, Read, read}
 use Rattle.scan.specs.inner.Otherwise.{either}
 use Rattle.varint.specs.Uleb.{uleb}
 use Rattle.notepack.specs.declared.Part.{Part}
 use Rattle.notepack.specs.declared.Head.{Head}
 use Rattle.notepack.specs.declared.Tally.{Tally}
 use Rattle.notepack.specs.Strict.{pack_element, pack_elements, pack_tag, pack_tags, pack}
-use Rattle.notepack.specs.Unpack.{text_of, elements_at, tag_at, tags_standing, Packed, packed_at, event_of}
+use Rattle.notepack.specs.Unpack.{text_of, Packed, event_of}
 
 -- raw and of length 0: its word 01 is as long as the strict 00, but another
 unfoldable pub is_hollow : Part → Bool

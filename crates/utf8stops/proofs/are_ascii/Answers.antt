@@ -1,6 +1,5 @@
 -- `are_ascii`: eight bytes that all pass the test are there and are ASCII; where it says no nothing is promised.
 -- By `ascii-eight`, which puts the eight tests together.
-use borrow.Author.Rules.{rules}
 use Rattle.scan.proofs.Step.{false_true}
 use Rattle.utf8stops.proofs.Low.{ascii_eight}
 use Rattle.utf8stops.proofs.are_ascii.Goals as goal

@@ -1,7 +1,6 @@
 -- `entry_at`: within the input the table's entry is the stop (`told-entry`), at the end the place itself is.
 use mathlib.Core.Path.{sym, ◌∙◌}
 use native.Mathlib.Omega.{arith}
-use borrow.Author.Rules.{rules}
 use Rattle.utf8stops.proofs.StopLaws.{stop_end}
 use Rattle.utf8stops.proofs.Pass.{told_entry}
 use Rattle.utf8stops.proofs.entry_at.Goals as goal

@@ -1,6 +1,6 @@
 use mathlib.Core.Path.{◌≡◌}
 use native.Mathlib.Omega.{arith}
-use Rattle.utf8stops.proofs.Turns.{Filled, fill_none, fill_length, fill_told, fill_more, fill_done}
+use Rattle.utf8stops.proofs.Turns.{fill_none, fill_length, fill_told, fill_more, fill_done}
 use Rattle.utf8stops.proofs.fill.Goals as goal
 
 pub overflow_add-i : goal.overflow_add-i

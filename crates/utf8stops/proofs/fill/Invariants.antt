@@ -1,8 +1,6 @@
 -- `fill` goes backwards. The invariant: the table has the stops of the words from i on, and else is as it was.
 -- A turn is `fill_more`; what a word needs of those behind it is `fill-told`.
-use mathlib.Core.Path.{◌≡◌}
-use native.Mathlib.Omega.{arith}
-use Rattle.utf8stops.proofs.Turns.{Filled, fill_none, fill_length, fill_told, fill_more, fill_done}
+use Rattle.utf8stops.proofs.Turns.{Filled}
 use Rattle.utf8stops.proofs.fill.Given as goal
 
 abbrev pub invariant-loop-i : goal.invariant-loop-i

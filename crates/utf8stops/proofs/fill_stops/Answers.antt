@@ -1,6 +1,5 @@
 -- `fill_stops` fills the table where there is room for all stops, and else leaves it: the two cases of `stopsLeft`.
 use mathlib.Core.Path.{sym, ◌∙◌}
-use borrow.Author.Rules.{rules}
 use Rattle.utf8stops.proofs.Table.{room_bounds, left_room, left_none}
 use Rattle.utf8stops.proofs.fill_stops.Goals as goal
 

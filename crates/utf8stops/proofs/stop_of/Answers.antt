@@ -1,7 +1,6 @@
 -- `stop_of`: behind eight bytes of ASCII stands a multiple of 8 that the table tells (`stop-ascii`); else the walk decides.
 use mathlib.Core.Path.{sym, ◌∙◌}
 use native.Mathlib.Omega.{arith}
-use borrow.Author.Rules.{rules}
 use Rattle.utf8stops.proofs.StopLaws.{stop_within}
 use Rattle.utf8stops.proofs.Low.{stop_ascii}
 use Rattle.utf8stops.proofs.Pass.{told_later}

@@ -1,9 +1,6 @@
-use Prim.Native.Nat.{◌-◌}
 use mathlib.Core.Path.{sym, ◌∙◌}
 use native.Mathlib.Omega.{arith}
-use lib.ListN.{length}
-use borrow.Author.Rules.{rules}
-use Rattle.utf8stops.proofs.Pass.{Walked, walked_none, walked_more, walked_stop, told_later}
+use Rattle.utf8stops.proofs.Pass.{walked_none, walked_more, walked_stop, told_later}
 use Rattle.utf8stops.proofs.walk.Goals as goal
 
 pub loop-at-init : goal.loop-at-init

@@ -1,11 +1,8 @@
 -- `walk` goes sequence by sequence. The invariant: the stop from the start is the stop from here.
 -- It ends where no sequence stands (`walked_stop`), or at a multiple of 8, which the table tells.
 use Prim.Native.Nat.{◌-◌}
-use mathlib.Core.Path.{sym, ◌∙◌}
-use native.Mathlib.Omega.{arith}
 use lib.ListN.{length}
-use borrow.Author.Rules.{rules}
-use Rattle.utf8stops.proofs.Pass.{Walked, walked_none, walked_more, walked_stop, told_later}
+use Rattle.utf8stops.proofs.Pass.{Walked}
 use Rattle.utf8stops.proofs.walk.Given as goal
 
 abbrev pub invariant-loop-at : goal.invariant-loop-at

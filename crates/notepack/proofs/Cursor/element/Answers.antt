@@ -2,7 +2,6 @@
 -- The same tests as the definition, in its order.
 use borrow.Author.Tests.{eq-eqb, ne_eqb}
 use Rattle.notepack.specs.Unpack.{element_at}
-use borrow.Author.Rules.{rules}
 use Rattle.notepack.proofs.Cursor.element.Goals as goal
 
 pub returns-then-word-eq1 : goal.returns-then-word-eq1

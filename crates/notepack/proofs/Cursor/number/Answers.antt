@@ -2,7 +2,6 @@
 -- The same tests as the definition, in its order.
 use Rattle.notepack.specs.Unpack.{number_at}
 use borrow.Author.Tests.{le-leb, lt-leb}
-use borrow.Author.Rules.{rules}
 use Rattle.notepack.proofs.Cursor.number.Goals as goal
 
 pub returns-then-n-max : goal.returns-then-n-max

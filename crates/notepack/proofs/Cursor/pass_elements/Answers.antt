@@ -1,12 +1,8 @@
-use Prim.Native.Nat.{◌≤◌}
-use mathlib.Core.Path.{◌≡◌, refl, ap}
+use mathlib.Core.Path.{refl, ap}
 use native.Mathlib.Omega.{arith}
 use borrow.Author.Rules.{rules}
-use Rattle.scan.specs.Choice.{and_then}
 use Rattle.scan.proofs.AllLaws.{all_places}
 use Rattle.notepack.specs.declared.Tally.{Tally}
-use Rattle.notepack.specs.Unpack.{elements_at}
-use Rattle.notepack.specs.inner.Tally.{pass_elements}
 use Rattle.notepack.specs.inner.Answers.{part_read}
 use Rattle.notepack.proofs.Passing.{elements_again, elements_refused, elements_done, element_room}
 use Rattle.notepack.proofs.Cursor.pass_elements.Goals as goal

@@ -2,16 +2,10 @@
 -- from the start
 -- is passing over those left from here with the tally so far; and that tally is no longer than what was read.
 use Prim.Native.Nat.{◌≤◌}
-use mathlib.Core.Path.{◌≡◌, refl, ap}
-use native.Mathlib.Omega.{arith}
-use borrow.Author.Rules.{rules}
+use mathlib.Core.Path.{◌≡◌}
 use Rattle.scan.specs.Choice.{and_then}
-use Rattle.scan.proofs.AllLaws.{all_places}
-use Rattle.notepack.specs.declared.Tally.{Tally}
 use Rattle.notepack.specs.Unpack.{elements_at}
 use Rattle.notepack.specs.inner.Tally.{pass_elements}
-use Rattle.notepack.specs.inner.Answers.{part_read}
-use Rattle.notepack.proofs.Passing.{elements_again, elements_refused, elements_done, element_room}
 use Rattle.notepack.proofs.Cursor.pass_elements.Given as goal
 
 abbrev pub invariant-loop-left : goal.invariant-loop-left

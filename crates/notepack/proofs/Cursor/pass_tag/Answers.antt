@@ -1,9 +1,7 @@
 -- `pass_tag` passes over a tag: its count, then its elements.
 -- The laws of `Passing`: the elements behind their count are the tag, and the tally stays no longer than what was read.
-use Prim.Native.Nat.{◌≤◌}
-use mathlib.Core.Path.{◌≡◌, refl, ap}
+use mathlib.Core.Path.{ap}
 use native.Mathlib.Omega.{arith}
-use borrow.Author.Rules.{rules}
 use Rattle.scan.proofs.AllLaws.{all_places}
 use Rattle.notepack.specs.declared.Tally.{Tally}
 use Rattle.notepack.specs.inner.Answers.{number_read}

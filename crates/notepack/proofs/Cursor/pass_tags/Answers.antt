@@ -1,11 +1,7 @@
-use Prim.Native.Nat.{◌≤◌}
-use mathlib.Core.Path.{◌≡◌, refl, ap}
+use mathlib.Core.Path.{refl, ap}
 use native.Mathlib.Omega.{arith}
 use borrow.Author.Rules.{rules}
-use Rattle.scan.specs.Choice.{and_then}
 use Rattle.scan.proofs.AllLaws.{all_places}
-use Rattle.notepack.specs.Unpack.{tags_standing}
-use Rattle.notepack.specs.inner.Tally.{pass_tags}
 use Rattle.notepack.specs.inner.Answers.{pass}
 use Rattle.notepack.proofs.Passing.{tags_again_lem, tags_refused, tags_done, tag_room}
 use Rattle.notepack.proofs.Cursor.pass_tags.Goals as goal

@@ -2,15 +2,10 @@
 -- start
 -- is passing over those left from here with the tally so far; and that tally is no longer than what was read.
 use Prim.Native.Nat.{◌≤◌}
-use mathlib.Core.Path.{◌≡◌, refl, ap}
-use native.Mathlib.Omega.{arith}
-use borrow.Author.Rules.{rules}
+use mathlib.Core.Path.{◌≡◌}
 use Rattle.scan.specs.Choice.{and_then}
-use Rattle.scan.proofs.AllLaws.{all_places}
 use Rattle.notepack.specs.Unpack.{tags_standing}
 use Rattle.notepack.specs.inner.Tally.{pass_tags}
-use Rattle.notepack.specs.inner.Answers.{pass}
-use Rattle.notepack.proofs.Passing.{tags_again_lem, tags_refused, tags_done, tag_room}
 use Rattle.notepack.proofs.Cursor.pass_tags.Given as goal
 
 abbrev pub invariant-loop-tags : goal.invariant-loop-tags

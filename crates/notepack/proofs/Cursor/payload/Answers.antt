@@ -2,7 +2,6 @@
 -- The same test as the definition.
 use Rattle.notepack.specs.Unpack.{payload_at}
 use borrow.Author.Tests.{le-leb, lt-leb}
-use borrow.Author.Rules.{rules}
 use Rattle.notepack.proofs.Cursor.payload.Goals as goal
 
 pub returns-then-len-rest : goal.returns-then-len-rest

@@ -2,7 +2,6 @@
 -- The same tests as the definition, in its order.
 use Rattle.notepack.specs.Unpack.{tag_count_at}
 use borrow.Author.Tests.{eq-eqb, ne_eqb}
-use borrow.Author.Rules.{rules}
 use Rattle.notepack.proofs.Cursor.tag_count.Goals as goal
 
 pub returns-in_default : goal.returns-in_default

@@ -1,7 +1,6 @@
 -- `text` reads a payload and checks that it is well-formed.
 -- The same tests as the definition, in its order.
 use Rattle.notepack.specs.Unpack.{text_at}
-use borrow.Author.Rules.{rules}
 use Rattle.notepack.proofs.Cursor.text.Goals as goal
 
 pub returns-in_default : goal.returns-in_default

@@ -1,6 +1,5 @@
 -- `more` adds to the tally.
 -- The same test as the definition.
-use borrow.Author.Rules.{rules}
 use Rattle.notepack.proofs.Tally.more.Goals as goal
 
 pub returns-then-self : goal.returns-then-self
