@@ -1,0 +1,24 @@
+-- `elements_len` measures the elements as it goes over them again. The invariant: what is counted and the length of
+-- those left are the length of all,
+-- and they end where all end; what is counted is at most 131,075 for each. Each turn is one law.
+use Prim.Native.Nat.{◌+◌, ◌*◌, ◌≤◌}
+use mathlib.Core.Path.{◌≡◌, refl, sym, ap, ◌∙◌}
+use mathlib.Core.List.{map}
+use native.Mathlib.Omega.{arith}
+use lib.ListN.{length}
+use borrow.Author.Rules.{rules}
+use Rattle.escape.specs.Escape.{canonical_byte}
+use Rattle.notepack.specs.inner.Again.{texts_again, texts_end}
+use Rattle.notepack.proofs.Again.{texts_turn, texts_left}
+use Rattle.jsontags.specs.TagText.{quoted, commaed}
+use Rattle.jsontags.proofs.Turns.{strings_count, strings_left}
+use Rattle.canonical.proofs.elements_len.Given as goal
+
+abbrev pub invariant-loop-left : goal.invariant-loop-left
+invariant-loop-left l =
+    (l.n + length (commaed (map (quoted canonical_byte) (texts_again l.left l.s l.at))) ≡ l.initial.n + length (commaed (map (quoted canonical_byte) (texts_again l.initial.left l.s l.initial.at))))
+    × (texts_end l.initial.left l.s l.initial.at ≡ texts_end l.left l.s l.at)
+    × (l.n + 131_075 * l.left ≤ l.initial.n + 131_075 * l.initial.left)
+
+abbrev pub decreases-loop-left : goal.decreases-loop-left
+decreases-loop-left l = l.left

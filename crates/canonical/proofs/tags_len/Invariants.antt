@@ -1,0 +1,24 @@
+-- `tags_len` measures the tags as it goes over them again. The invariant: what is counted and the length of those left
+-- are the length of all;
+-- what is counted is at most 33,424,128 for each. Each turn is one law.
+use Prim.Native.Nat.{◌+◌, ◌*◌, ◌≤◌}
+use mathlib.Core.Path.{◌≡◌, refl, ap}
+use mathlib.Core.List.{map}
+use native.Mathlib.Omega.{arith}
+use lib.ListN.{length}
+use borrow.Author.Rules.{rules}
+use Rattle.scan.proofs.AllLaws.{all_places}
+use Rattle.escape.specs.Escape.{canonical_byte}
+use Rattle.notepack.specs.inner.Again.{tags_again}
+use Rattle.notepack.proofs.Again.{count_few}
+use Rattle.jsontags.specs.TagText.{commaed, tag_text}
+use Rattle.jsontags.proofs.Turns.{arrays_count, arrays_left}
+use Rattle.canonical.proofs.tags_len.Given as goal
+
+abbrev pub invariant-loop-left : goal.invariant-loop-left
+invariant-loop-left l =
+    (l.n + length (commaed (map (tag_text canonical_byte) (tags_again l.left l.s l.at))) ≡ l.initial.n + length (commaed (map (tag_text canonical_byte) (tags_again l.initial.left l.s l.initial.at))))
+    × (l.n + 33_424_128 * l.left ≤ l.initial.n + 33_424_128 * l.initial.left)
+
+abbrev pub decreases-loop-left : goal.decreases-loop-left
+decreases-loop-left l = l.left
