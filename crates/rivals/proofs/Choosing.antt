@@ -11,7 +11,7 @@ use Rattle.scan.specs.Compare.{same_bytes}
 use Rattle.scan.proofs.CompareLaws.{same_same}
 use Rattle.notepack.specs.declared.Head.{Head}
 use Rattle.notepack.specs.Views.{numbers_of}
-use Rattle.notepack.proofs.Viewing.{Numbered, numbers_event, numbers_refused}
+use Rattle.notepack.proofs.Viewing.{numbers_event, numbers_refused}
 use Rattle.keys.specs.Key.{is_replaceable, same_key}
 use Rattle.keys.specs.inner.Place.{key_at, key_there}
 use Rattle.keys.proofs.Keys.{replaceable-key, key_shown}

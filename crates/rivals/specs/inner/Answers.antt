@@ -1,6 +1,5 @@
 -- The meaning of the code's answers, case by case. Assumes nothing.
 use Rattle.std.specs.Prelude.{ℕ, List, []}
-use Rattle.rivals.specs.declared.Kept.{Kept}
 use Rattle.rivals.specs.declared.Kept.TheVariants.{First, Second, NotRivals}
 use Rattle.rivals.specs.declared.RivalsRead.{RivalsRead}
 use Rattle.rivals.specs.declared.RivalsRead.TheVariants as rivals-by
