@@ -8,7 +8,7 @@ ghost use Rattle.moment.specs.Moment.{signed_of, word_of, seconds_of, seconds_re
 #[derive(Drop)]
 pub struct Seconds(pub u64);
 
-#[derive(Drop)]
+#[derive(Clone, Copy)]
 pub struct Millis(pub i64);
 
 #[derive(Drop)]

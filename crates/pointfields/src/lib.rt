@@ -204,12 +204,11 @@ pub fn kind_at(version: u64, s: &[u8]) -> WordRead
 pub fn time_at(version: u64, s: &[u8]) -> TimeRead
     ensures { time_read result ≡ time_at version s.now }
 {
-    let w = word_at(s, 48);
-    let m = moment::millis_of(w);
+    let m = moment::millis_of(word_at(s, 48));
     if version == 1 {
         return TimeRead::Time(m);
     }
-    let told = moment::to_seconds(moment::millis_of(w));
+    let told = moment::to_seconds(m);
     match told {
         moment::SecondsRead::Whole(_) => TimeRead::Time(m),
         moment::SecondsRead::Split => TimeRead::Refused(Refusal {
