@@ -325,7 +325,7 @@ fn read_behind(version: u64, s: &[u8]) -> OutlineRead
     let table = pointfields::named_at(s, 64);
     let tags = check_walk(version, s, table.at, o.tag_count);
     match tags {
-        Check::Fine => found,
+        Check::Fine => OutlineRead::Found(o),
         Check::Refused(r) => OutlineRead::Refused(r),
     }
 }
