@@ -9,7 +9,7 @@ returns-then-version-eq1 c = simp (← c.word_at.ensures, c.millis_of-m.ensures,
 
 pub returns-in-Whole : goal.returns-in-Whole
 unfolding time_at second_at
-returns-in-Whole c = simp (← c.word_at.ensures, c.millis_of-m.ensures, ne_eqb _ _ c.if-version-eq1.false, ← c.millis_of-m.ensures, ← c.to_seconds-told.ensures, c.in-Whole.is)
+returns-in-Whole c = simp (← c.word_at.ensures, ne_eqb _ _ c.if-version-eq1.false, ← c.millis_of-m.ensures, ← c.to_seconds-told.ensures, c.in-Whole.is)
 
 pub returns-in-Split : goal.returns-in-Split
 unfolding time_at second_at
