@@ -1,7 +1,7 @@
 -- An offer leaves every name once in the table: a free slot takes an event only where nothing has its name, and a
 -- swap leaves each slot's name as it is. Slot by slot.
 use Prim.Native.Nat.{ℕ, zero, suc}
-use mathlib.Core.Path.{◌≡◌, refl, sym, ap, ◌∙◌}
+use mathlib.Core.Path.{◌≡◌, refl, sym, ap, subst, ◌∙◌}
 use mathlib.Core.Bool.{false}
 use mathlib.Core.List.{List, [], ◌∷◌}
 use native.Mathlib.Omega.{arith}
@@ -69,7 +69,8 @@ pub distinct_found : {s : List Entry} → Distinct s → (i : ℕ) {d : Event} �
 distinct_found end i q = absurd (free_held q)
 distinct_found (skip v) zero q = absurd (free_held q)
 distinct_found (skip v) (suc i) q = distinct_found v i q
-distinct_found (keep {d = c} {s = s} n v) zero {d} q = let e : c ≡ d = cc in rw (← e) (found_here (name_of c) c s refl)
+distinct_found (keep {d = c} {s = s} n v) zero {d} q =
+    let e : c ≡ d = cc in subst (λ (x : Event). lookup (name_of x) (held c ∷ s) ≡ one x) e (found_here (name_of c) c s refl)
 distinct_found (keep {d = c} {s = s} n v) (suc i) {d} q = go (distinct_found v i q) (decide (name_of d) (name_of c))
   where
     go : lookup (name_of d) s ≡ one d → Same (name_of d) (name_of c) → lookup (name_of d) (held c ∷ s) ≡ one d
