@@ -21,7 +21,7 @@ use Rattle.event.specs.Event.{Event, Valid}
 use Rattle.notepack.specs.Unpack.{unpack}
 use Rattle.notepack.specs.inner.Answers.{Walked, walk_at}
 use Rattle.notepack.proofs.Walking.{walk_refuses}
-use Rattle.nson.specs.Nson.{counts, nson}
+use Rattle.nson.specs.Nson.{nson}
 use Rattle.nson.specs.Carries.{tag_bytes}
 use Rattle.nson.specs.inner.Decision.{carries}
 use Rattle.nson.specs.Entries.{carried}

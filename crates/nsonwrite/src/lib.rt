@@ -30,7 +30,7 @@ const MAX_DESCRIPTORS: usize = 127;
 
 // Whether NSON can carry each text, the text's length, the place behind the descriptors, and the place behind what was
 // measured.
-#[derive(Drop)]
+#[derive(Clone, Copy)]
 struct Measured {
     fits: bool,
     len: usize,
