@@ -21,7 +21,7 @@ use notepack::{CountRead, ElementRead, Part};
 use pointfields::{TimeRead, VersionRead, WordRead};
 
 // What a form has besides its tags. The content stands in the bytes given.
-#[derive(Drop)]
+#[derive(Clone, Copy)]
 pub struct Outline {
     pub version: u64,
     pub kind: u64,
@@ -325,7 +325,7 @@ fn read_behind(version: u64, s: &[u8]) -> OutlineRead
     let table = pointfields::named_at(s, 64);
     let tags = check_walk(version, s, table.at, o.tag_count);
     match tags {
-        Check::Fine => OutlineRead::Found(o),
+        Check::Fine => found,
         Check::Refused(r) => OutlineRead::Refused(r),
     }
 }
