@@ -1,0 +1,20 @@
+use Prim.Native.Nat.{◌+◌, ◌*◌, ◌-◌, ◌≤◌}
+use mathlib.Core.Path.{◌≡◌}
+use native.Mathlib.Omega.{arith}
+use borrow.Author.Rules.{rules}
+use lib.ListN.{length, drop}
+use Rattle.scan.specs.inner.Blocks.{sum_of}
+use Rattle.jsonunescape.specs.inner.Run.{stop_of}
+use Rattle.scan.proofs.BlockLaws.{sum_again, sum_left}
+use Rattle.jsonunescape.proofs.stops.Goals as goal
+
+pub loop-i-init : goal.loop-i-init
+loop-i-init c = (omega arith, omega arith, omega arith)
+
+pub loop-i-preserved : goal.loop-i-preserved
+loop-i-preserved c =
+    let q = c.loop-i in
+    (omega arith, omega arith, rw c.stop_of-n.ensures.value (sum_again stop_of _ q.i q.n _ q.invariant.2 c.loop-i-test.true))
+
+pub returns : goal.returns
+returns c = sum_left stop_of _ _ _ _ c.loop-i.invariant.2 c.loop-i-test.false
