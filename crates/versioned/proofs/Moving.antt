@@ -2,7 +2,7 @@
 -- version byte, 11, 17, 19, 22, 23 and 34 do not. So what an entry answers of an input of either form is what it
 -- answers of the bare bytes, moved.
 -- By what the reader tells: each of its refusals has one of its numbers and a place in the bare bytes.
-use Prim.Native.Nat.{ℕ, ◌+◌, ◌<◌, ◌≤◌}
+use Prim.Native.Nat.{ℕ, ◌+◌, ◌≤◌}
 use mathlib.Core.Path.{◌≡◌, refl, sym, ap, ◌∙◌}
 use mathlib.Core.Bool.{Bool, true, false}
 use mathlib.Core.List.{List, [], ◌∷◌}
@@ -11,14 +11,14 @@ use native.Mathlib.Omega.{arith}
 use lib.ListN.{length, drop, length-drop}
 use lib.Dec.{leb, eqb}
 use borrow.Author.Tests.{eqb-true, lt-ltb}
-use Rattle.scan.specs.Choice.{pick, Answer, shown, refused, and_then}
+use Rattle.scan.specs.Choice.{pick, Answer, shown, refused}
 use Rattle.scan.proofs.Step.{pick_true, pick_by, false_true}
 use Rattle.buffer.specs.Entry.{written, writes}
 use Rattle.event.specs.inner.Tells.{among, Tells, value, refusal}
 use Rattle.notepack.specs.inner.Numbers.{packed_numbers}
 use Rattle.versioned.specs.Versioned.{start_of, behind, given}
 use Rattle.versioned.specs.inner.Moved.{is_readers, moved_place, moved}
-use Rattle.versioned.proofs.Starting.{Starts, versioned_starts, clash}
+use Rattle.versioned.proofs.Starting.{versioned_starts}
 
 -- ---- the reader's numbers
 

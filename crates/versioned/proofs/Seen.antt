@@ -2,25 +2,24 @@
 -- By what is seen of the bare bytes; a part has the same bytes in the bytes given, and 19 is not moved.
 use Prim.Native.Nat.{ℕ, zero, suc}
 use mathlib.Core.Path.{◌≡◌, refl, sym, ap, ◌∙◌}
-use mathlib.Core.Bool.{Bool, true, false}
+use mathlib.Core.Bool.{Bool, true}
 use mathlib.Core.List.{List, [], ◌∷◌, map}
 use native.Mathlib.Nat.{add-zero}
 use lib.ListN.{length, drop}
 use Rattle.scan.specs.Choice.{pick, Answer, shown, refused, and_then}
 use Rattle.scan.proofs.AllLaws.{all_drop}
 use Rattle.hexdigits.specs.Hex.{hexes}
-use Rattle.event.specs.Event.{Text, Tag, Event}
+use Rattle.event.specs.Event.{Text, Tag}
 use Rattle.notepack.specs.declared.Part.{Part}
 use Rattle.notepack.specs.declared.Head.{Head}
-use Rattle.notepack.specs.Unpack.{bytes_of, text_of, part_of, Packed, packed_at, unpack}
+use Rattle.notepack.specs.Unpack.{text_of, part_of, Packed, packed_at, unpack}
 use Rattle.notepack.specs.Views.{numbers_of, content_of, nth, tag_of, texts_in, element_of, view}
-use Rattle.notepack.specs.Seen.{Seen}
 use Rattle.notepack.proofs.Seen.{seen}
 use Rattle.notepack.proofs.Viewing.{content_numbers}
 use Rattle.versioned.specs.Versioned.{start_of, given}
 use Rattle.versioned.specs.Views.{move_part, move_head, move_packed, packed_given, numbers_given, texts_given, element_given, content_given}
-use Rattle.versioned.specs.Seen.{SeenGiven, ViewsGiven, ViewsBare}
-use Rattle.versioned.specs.inner.Moved.{is_readers, moved_place, moved}
+use Rattle.versioned.specs.Seen.{ViewsGiven, ViewsBare}
+use Rattle.versioned.specs.inner.Moved.{is_readers, moved}
 use Rattle.versioned.proofs.Starting.{given_bare, given_shown}
 use Rattle.versioned.proofs.Moving.{other_stays}
 use Rattle.versioned.proofs.Viewing.{numbers_start, texts_start, element_start, content_given_lem, part_bytes}

@@ -2,7 +2,7 @@
 -- versioned one what is told behind its 01.
 -- By the tests of the definition, one after the other.
 use Prim.Native.Nat.{ℕ, ◌+◌, ◌<◌, ◌≤◌}
-use mathlib.Core.Path.{◌≡◌, refl, sym, ap, ◌∙◌}
+use mathlib.Core.Path.{◌≡◌, refl, sym, ap}
 use mathlib.Core.Bool.{Bool, true, false}
 use mathlib.Core.List.{List, [], ◌∷◌}
 use native.Mathlib.Nat.{add-zero}
@@ -10,8 +10,7 @@ use native.Mathlib.Omega.{arith}
 use lib.ListN.{length, drop, length-drop}
 use lib.Dec.{leb, eqb}
 use borrow.Author.Tests.{leb-true, eqb-true, le-leb, lt-leb, ne_eqb}
-use Rattle.scan.specs.Choice.{pick, Answer, shown, refused, and_then}
-use Rattle.scan.specs.Place.{byte_at}
+use Rattle.scan.specs.Choice.{pick, Answer, shown, refused}
 use Rattle.scan.proofs.Many.{then_shown}
 use Rattle.versioned.specs.Versioned.{version_at, start_of, behind, given}
 

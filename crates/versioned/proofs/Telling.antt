@@ -3,25 +3,24 @@
 -- What the reader tells of the bare bytes, whose places are at most one further on.
 use Prim.{Unit, tt}
 use Prim.Native.Nat.{ℕ, zero, suc, ◌+◌, ◌≤◌}
-use mathlib.Core.Path.{◌≡◌, refl, sym, ap, ◌∙◌}
+use mathlib.Core.Path.{◌≡◌, refl}
 use mathlib.Core.Bool.{Bool, true, false}
 use mathlib.Core.List.{List, [], ◌∷◌}
 use native.Mathlib.Omega.{arith}
 use lib.ListN.{length, drop}
 use lib.Dec.{leb, eqb}
-use Rattle.scan.specs.Choice.{pick, Answer, shown, refused, and_then}
+use Rattle.scan.specs.Choice.{Answer, shown, refused}
 use Rattle.scan.specs.Place.{byte_at}
-use Rattle.event.specs.Event.{Event}
 use Rattle.event.specs.inner.Tells.{among, Tells, value, refusal}
-use Rattle.event.proofs.TellsLaws.{then_tells, pick_tells, less_tells, all_among, wider}
+use Rattle.event.proofs.TellsLaws.{then_tells, pick_tells, all_among, wider}
 use Rattle.notepack.specs.declared.Part.{Part}
 use Rattle.notepack.specs.declared.Head.{Head}
 use Rattle.notepack.specs.inner.Numbers.{packed_numbers}
-use Rattle.notepack.specs.Unpack.{Packed, packed_at, unpack}
+use Rattle.notepack.specs.Unpack.{Packed, unpack}
 use Rattle.notepack.specs.Views.{nth}
 use Rattle.notepack.proofs.Telling.{packed_tells, unpack_tells}
 use Rattle.versioned.specs.Versioned.{version_at, start_of, behind, given}
-use Rattle.versioned.specs.Views.{move_packed, packed_given, numbers_given, texts_given, element_given}
+use Rattle.versioned.specs.Views.{packed_given, numbers_given, texts_given, element_given}
 use Rattle.versioned.specs.Moves.{accepted, movable}
 use Rattle.versioned.specs.inner.Numbers.{given_numbers, given_view_numbers}
 use Rattle.versioned.proofs.Starting.{start_fits}

@@ -1,9 +1,9 @@
 -- There and back, and back and there: the same bytes; and the moves change neither the event nor whether it is strict.
 -- What a move leaves is its text where there is room, and the version byte is taken off again.
-use Prim.Native.Nat.{ℕ, suc, ◌+◌, ◌-◌, ◌≤◌}
+use Prim.Native.Nat.{ℕ, suc, ◌-◌, ◌≤◌}
 use mathlib.Core.Path.{◌≡◌, refl, sym, ap, ◌∙◌}
-use mathlib.Core.Bool.{Bool, true, false}
-use mathlib.Core.List.{List, ◌∷◌}
+use mathlib.Core.Bool.{true, false}
+use mathlib.Core.List.{List}
 use native.Mathlib.Omega.{arith}
 use lib.ListN.{length, take, drop, length-drop}
 use lib.Seq.{take_at}
@@ -14,12 +14,11 @@ use Rattle.scan.proofs.Many.{pick_shown}
 use Rattle.buffer.specs.Entry.{written, filled, writes, leaves}
 use Rattle.event.specs.Event.{Event}
 use Rattle.notepack.specs.Unpack.{unpack}
-use Rattle.notepack.proofs.Telling.{unpack_tells}
 use Rattle.strict.specs.Strict.{strict}
 use Rattle.versioned.specs.Versioned.{behind, given}
-use Rattle.versioned.specs.Moves.{with_version, without_version, accepted, movable, versions, version_leaves, bares, bare_leaves}
+use Rattle.versioned.specs.Moves.{with_version, without_version, movable}
 use Rattle.versioned.specs.ThereAndBack.{ThereAndBack, BackAndThere, MovedIsRead, SameEvent, SameStrict}
-use Rattle.versioned.proofs.Starting.{clash, Starts, versioned_starts, given_bare, given_shown, given_versioned}
+use Rattle.versioned.proofs.Starting.{clash, versioned_starts, given_bare, given_shown, given_versioned}
 use Rattle.versioned.proofs.Accepted.{accepted_event, accepted_apart}
 
 -- a text with room: its length is told, and it stands at the start

@@ -3,7 +3,7 @@
 -- By cases of the start and of the reading.
 use Prim.Native.Nat.{ℕ, zero, suc, ◌+◌, ◌≤◌}
 use mathlib.Core.Path.{◌≡◌, refl, sym, ap, ◌∙◌}
-use mathlib.Core.Bool.{Bool, true, false}
+use mathlib.Core.Bool.{Bool}
 use mathlib.Core.List.{List, [], ◌∷◌, map}
 use native.Mathlib.Omega.{arith}
 use lib.ListN.{length, take, drop, length-map}
@@ -13,9 +13,8 @@ use Rattle.event.specs.inner.Tells.{Tells, value, refusal}
 use Rattle.varint.proofs.Further.{drop_further}
 use Rattle.notepack.specs.declared.Part.{Part}
 use Rattle.notepack.specs.declared.Head.{Head}
-use Rattle.notepack.specs.inner.Numbers.{packed_numbers}
 use Rattle.notepack.specs.Unpack.{bytes_of, Packed, packed_at}
-use Rattle.notepack.specs.Views.{numbers_of, nth, tag_of, texts_in, element_of, view}
+use Rattle.notepack.specs.Views.{numbers_of, nth, tag_of, texts_in, element_of}
 use Rattle.notepack.proofs.Seen.{nth_map}
 use Rattle.notepack.proofs.Telling.{packed_tells, numbers_tells, element_of_tells}
 use Rattle.versioned.specs.Versioned.{start_of, behind}

@@ -1,6 +1,6 @@
 -- What the moves promise together (rules 17), sentence by sentence: each formal line stands under the words that it is
 -- of. `proofs/ThereAndBack` and `proofs/Example` prove them. Assumes nothing.
-use Rattle.std.specs.Prelude.{ℕ, suc, ◌+◌, ◌-◌, ◌≤◌, ◌≡◌, true, false, List, length, take, drop}
+use Rattle.std.specs.Prelude.{ℕ, suc, ◌-◌, ◌≤◌, ◌≡◌, true, false, List, length, take}
 use Rattle.scan.specs.Choice.{shown}
 use Rattle.event.specs.Event.{Event}
 use Rattle.notepack.specs.Unpack.{unpack}
