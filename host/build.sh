@@ -65,16 +65,17 @@ crates_below() {
 # proves what the library uses, then the library, and writes its archive. rt proves anew only what no check on this
 # machine has proved as it stands. A line is shown as each crate is proved; all that rt says only if it fails
 prove_library() {
-    local cores
+    local cores crate=
     need rt "it is the Rattle toolchain's command and proves the library; LIB=FILE takes an archive that is there" ||
         return 1
     # a core for each 4 GB that are free
     cores=$(awk -v all="$(nproc)" '/^MemAvailable:/ { n = int($2 / 4000000) }
         END { print n < 1 ? 1 : n < all ? n : all }' /proc/meminfo)
-    echo "First the library is proved: $(crates_below kezubimoryu | wc -l) crates; less where a part of them is proved already."
-    (cd crates/kezubimoryu && rt lib --jobs "$cores") 2>&1 | tee "$built/log" | awk '
-        /^crate [a-z0-9]+: / { name = $2; sub(/:/, "", name) }
-        /^logic=proved / { print name " is proved"; fflush() }'
+    echo "First the library is proved: $(crates_below kezubimoryu | wc -l) crates, some 30 to 60 minutes on four cores from"
+    echo "nothing; less where a part of them is proved already."
+    (cd crates/kezubimoryu && rt lib --jobs "$cores") 2>&1 | tee "$built/log" | while read -r kind name _; do
+        case $kind in crate) crate=${name%:} ;; logic=proved) echo "$crate is proved" ;; esac
+    done
     [ "${PIPESTATUS[0]}" = 0 ] || { cat "$built/log"; return 1; }
     mkdir -p "${archive%/*}" && cp crates/kezubimoryu/out/libkezubimoryu.a "$archive"
 }
