@@ -1,6 +1,6 @@
 -- What is found among the slots is one of them: by induction over the slots.
 use Prim.Native.Nat.{ℕ, suc, ◌+◌, ◌<◌}
-use mathlib.Core.Path.{◌≡◌, refl}
+use mathlib.Core.Path.{◌≡◌}
 use mathlib.Core.Bool.{Bool, true, false}
 use mathlib.Core.List.{List, [], ◌∷◌}
 use native.Mathlib.Omega.{arith}
@@ -11,7 +11,6 @@ use Rattle.tableread.specs.declared.Stored.{Stored}
 use Rattle.tableread.specs.declared.Known.{Known}
 use Rattle.tableread.specs.declared.Known.TheVariants.{Free, Bad, Good}
 use Rattle.tableread.specs.declared.Lowest.TheVariants as lowest
-use Rattle.tableread.specs.declared.Finding.{Finding}
 use Rattle.tableread.specs.declared.Finding.TheVariants as finding
 use Rattle.tableread.specs.inner.Known.{holds_name, find_from, free_from}
 use Rattle.tableread.proofs.Entries.{clash}

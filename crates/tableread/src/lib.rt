@@ -12,7 +12,7 @@ use notepack::Walk;
 use slots::Slot;
 
 // An event that a slot holds: where its bytes stand, what decides between rivals, its key, and a print of its name.
-#[derive(Drop)]
+#[derive(Clone, Copy)]
 pub struct Stored {
     pub at: usize,
     pub len: usize,
@@ -22,7 +22,7 @@ pub struct Stored {
 }
 
 // What is known of a slot once its cell has been read.
-#[derive(Drop)]
+#[derive(Clone, Copy)]
 pub enum Known {
     Free,
     Bad,

@@ -3,9 +3,12 @@
 use borrow.Author.Tests.{le-leb, lt-leb}
 use Rattle.scan.specs.Place.{within}
 use Rattle.archive.specs.Archive.{is_ephemeral}
-use Rattle.tableread.proofs.is_ephemeral.Statement.{statement}
-use Rattle.tableread.proofs.is_ephemeral.Tie as tie
+use Rattle.tableread.proofs.is_ephemeral.Goals as goal
 
-pub is_ephemeral_spec : {M : Type 1} → statement M
+pub returns-then-kind-ge20000 : goal.returns-then-kind-ge20000
 unfolding is_ephemeral within
-is_ephemeral_spec = tie.close (tie.spec (λ c. search (le-leb)) (λ c. search (lt-leb)))
+returns-then-kind-ge20000 c = search (le-leb)
+
+pub returns : goal.returns
+unfolding is_ephemeral within
+returns c = search (lt-leb)
