@@ -5,7 +5,7 @@
 ghost use Rattle.std.specs.Prelude.{◌≡◌};
 ghost use Rattle.moment.specs.Moment.{signed_of, word_of, seconds_of, seconds_read, millis_for, millis_read};
 
-#[derive(Drop)]
+#[derive(Clone, Copy)]
 pub struct Seconds(pub u64);
 
 #[derive(Clone, Copy)]

@@ -138,7 +138,7 @@ fn write_event(s: &[u8], f: Outline, seconds: Seconds, out: &mut [u8]) -> Writin
     ensures out_after { out.new ≡ leaves pack (within65536 pack (shown (form_event s.now f seconds.0))) out.old }
 {
     let tags = pointfields::named_at(s, 64);
-    let n = measure_tags(s, tags.at, f.tag_count, front_len(s, f, Seconds(seconds.0)));
+    let n = measure_tags(s, tags.at, f.tag_count, front_len(s, f, seconds));
     if event::MAX_INPUT < n {
         return Writing::Refused(Refusal {
             number: event::FORM_TOO_LONG,
