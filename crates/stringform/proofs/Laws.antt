@@ -1,7 +1,7 @@
 -- The string form, there and back: a text that is read is the string form of what it is read as, and the string form
 -- of bytes that the notepack reader accepts is read as these bytes. Of either form.
 -- By the laws of base64: an encoding decodes to its bytes, and a text of the alphabet with a whole end is an encoding.
-use Prim.Native.Nat.{ℕ, ◌+◌, ◌<◌, ◌≤◌}
+use Prim.Native.Nat.{ℕ, ◌+◌, ◌≤◌}
 use mathlib.Core.Path.{◌≡◌, refl, sym, ap, ◌∙◌, subst}
 use mathlib.Core.Bool.{Bool, true, false, not}
 use mathlib.Core.List.{List, [], ◌∷◌, ◌++◌, append-nil}
@@ -14,7 +14,6 @@ use borrow.Author.Tests.{le-ltb, ltb-false}
 use Rattle.scan.specs.Bytes.{All, none, also, IsBytes}
 use Rattle.scan.specs.Choice.{pick, Answer, shown, refused, and_then}
 use Rattle.scan.specs.Place.{begins, stands_at, run, run_at}
-use Rattle.scan.specs.inner.Span.{Span}
 use Rattle.scan.proofs.AllLaws.{all_drop}
 use Rattle.scan.proofs.Many.{shown_same}
 use Rattle.scan.proofs.Step.{rest_none}

@@ -28,17 +28,15 @@ use Rattle.notepack.specs.inner.Again.{event_again}
 use Rattle.notepack.specs.inner.Answers.{head_read, Walked, walk, walk_at}
 use Rattle.notepack.proofs.Walking.{walk_refuses}
 use Rattle.notepack.proofs.Again.{Accepted, accepted as notepack-accepted}
-use Rattle.notepack.proofs.Telling.{unpack_tells}
 use Rattle.strict.specs.inner.Copy.{packed_pieces}
 use Rattle.strict.proofs.Laws.{pack_written}
-use Rattle.versioned.specs.Versioned.{start_of, given}
+use Rattle.versioned.specs.Versioned.{start_of}
 use Rattle.versioned.specs.Views.{numbers_given}
 use Rattle.versioned.specs.Moves.{accepted}
 use Rattle.versioned.specs.inner.Moved.{moved_place, moved}
-use Rattle.versioned.proofs.Starting.{Starts, versioned_starts}
-use Rattle.versioned.proofs.Moving.{given_start, given_none}
+use Rattle.versioned.proofs.Starting.{versioned_starts}
 use Rattle.versioned.proofs.Accepted.{accepted_refused, accepted_shown}
-use Rattle.stringform.specs.StringForm.{prefix, front, string_form, event_string, held_bytes, read_string, itself}
+use Rattle.stringform.specs.StringForm.{prefix, front, string_form, event_string, held_bytes, read_string}
 
 -- the string form's length
 pub length_string : (bare : Bool) (b : List ℕ) {m n : ℕ} → m ≡ length (prefix bare) → n ≡ length (encoded b) → m + n ≡ length (string_form bare b)

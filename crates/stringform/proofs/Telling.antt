@@ -1,8 +1,8 @@
 -- The reader of string forms refuses with 20, 21 or a number of the notepack reader, of the versioned form with 25 too,
 -- at a place in the text or at its end: the bytes that a text holds are fewer than its own.
-use Prim.{Unit, tt}
+use Prim.{Unit}
 use Prim.Native.Nat.{ℕ, ◌≤◌}
-use mathlib.Core.Path.{◌≡◌, refl}
+use mathlib.Core.Path.{refl}
 use mathlib.Core.Bool.{Bool, true, false}
 use mathlib.Core.List.{List, [], ◌∷◌}
 use native.Mathlib.Omega.{arith}
@@ -12,7 +12,7 @@ use borrow.Author.Tests.{ltb-true}
 use Rattle.scan.specs.Place.{stands_at, run_at}
 use Rattle.event.specs.inner.Tells.{Tells, value, refusal}
 use Rattle.event.proofs.TellsLaws.{then_tells, pick_tells, wider}
-use Rattle.base64text.specs.Base64.{in_alphabet, decoded, ends_whole}
+use Rattle.base64text.specs.Base64.{in_alphabet, ends_whole}
 use Rattle.base64text.proofs.Texts.{length_decoded}
 use Rattle.versioned.specs.Moves.{accepted}
 use Rattle.versioned.specs.inner.Numbers.{given_numbers}

@@ -1,6 +1,6 @@
 -- The string form of a packed event (rules 14 and 17): a fixed prefix, and the base64 of packed bytes behind it. There
 -- is one for each form: behind `notepack_` stand bare bytes, behind `notepack1_` versioned ones. Assumes nothing.
-use Rattle.std.specs.Prelude.{ℕ, Bool, true, false, List, [], ◌∷◌, ◌++◌, length, drop, ltb}
+use Rattle.std.specs.Prelude.{ℕ, Bool, List, [], ◌∷◌, ◌++◌, length, drop, ltb}
 use Rattle.scan.specs.Ascii.{ascii}
 use Rattle.scan.specs.Choice.{pick, Answer, shown, refused, and_then}
 use Rattle.scan.specs.Place.{stands_at, run_at}
