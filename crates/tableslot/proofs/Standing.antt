@@ -6,9 +6,9 @@ use mathlib.Core.Bool.{Bool, true, false}
 use mathlib.Core.List.{List, [], ◌∷◌}
 use native.Mathlib.Omega.{arith}
 use native.Mathlib.Nat.{not-suc-le-zero, le_of_suc-le-suc}
-use lib.ListN.{length, get_or, take, drop}
+use lib.ListN.{length, get_or}
 use lib.Dec.{eqb, ltb}
-use borrow.Author.Tests.{eq-eqb, ne_eqb, ltb-true, ltb-false}
+use borrow.Author.Tests.{eq-eqb, ne_eqb, ltb-false}
 use Rattle.scan.specs.Choice.{pick, Answer, shown, refused, and_then}
 use Rattle.scan.proofs.AllLaws.{all_places}
 use Rattle.scan.proofs.Reading.{part_length}
@@ -18,7 +18,7 @@ use Rattle.notepack.specs.Views.{nth}
 use Rattle.notepack.proofs.Viewing.{nth_none}
 use Rattle.slots.specs.declared.Slot.{Slot}
 use Rattle.slots.specs.Slots.{free_slot}
-use Rattle.archive.specs.Archive.{Entry, free, held}
+use Rattle.archive.specs.Archive.{Entry}
 use Rattle.table.specs.Cells.{cell_start}
 use Rattle.table.specs.Table.{entries_from, slots_hold, entries_of}
 use Rattle.table.specs.Standing.{Stand, standing, stand_of}
@@ -27,7 +27,7 @@ use Rattle.tableread.specs.declared.Known.{Known}
 use Rattle.tableread.specs.declared.Known.TheVariants.{Free, Bad, Good}
 use Rattle.tableread.specs.declared.Lowest.{Lowest}
 use Rattle.tableread.specs.declared.Lowest.TheVariants as lowest
-use Rattle.tableread.specs.inner.Known.{stored_bytes, known_bytes, known_at, known_from, lowest_from}
+use Rattle.tableread.specs.inner.Known.{known_bytes, known_at, known_from, lowest_from}
 use Rattle.tableread.proofs.Knowing.{Stands}
 use Rattle.tableread.proofs.Entries.{clash, Alike, lowest_bad_is, lowest_none}
 use Rattle.tableread.proofs.Held.{alike_length, Nth, no_slot, free_slot_lem, held_slot, nth_known, known_good}
