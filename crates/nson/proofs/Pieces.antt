@@ -1,20 +1,18 @@
 -- The pieces of the reading, each in both directions: shown exactly where its spelling is a span of the input.
 -- By the laws of the fixed byte string, of hex and of decimal spellings; each piece ends where its span ends.
 use Prim.Native.Nat.{ℕ, ◌+◌}
-use mathlib.Core.Path.{◌≡◌, refl, sym, ap, ◌∙◌, subst}
-use mathlib.Core.Bool.{Bool, true, false}
+use mathlib.Core.Path.{◌≡◌, sym, ap, ◌∙◌}
 use mathlib.Core.List.{List}
-use native.Mathlib.Omega.{arith}
-use lib.ListN.{length, take, drop, take-append-drop}
+use lib.ListN.{length}
 use borrow.Author.Tests.{eqb-true, eq-eqb}
-use Rattle.scan.specs.Choice.{pick, Answer, shown, refused, Read, read, and_then}
+use Rattle.scan.specs.Choice.{shown, Read, read}
 use Rattle.scan.specs.Bytes.{All}
 use Rattle.scan.specs.inner.Span.{Span}
 use Rattle.scan.proofs.Step.{pick_true}
 use Rattle.scan.proofs.SpanLaws.{span_length, part_of_span, span_of_part}
 use Rattle.scan.proofs.PlaceLaws.{stands_span, span_stands}
 use Rattle.scan.proofs.Reading.{read_same}
-use Rattle.scan.proofs.Many.{pick_shown, after, shown_same}
+use Rattle.scan.proofs.Many.{pick_shown, shown_same}
 use Rattle.hexdigits.specs.inner.LowerHex.{LowerHex}
 use Rattle.hexdigits.proofs.Texts.{digits_pass, pass_digits}
 use Rattle.decimal.specs.Decimal.{decimal, number_of}

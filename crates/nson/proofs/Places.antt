@@ -1,5 +1,5 @@
 -- Each place of the layout is behind a label and all that stands before it. By computing.
-use Prim.Native.Nat.{ℕ, ◌+◌}
+use Prim.Native.Nat.{◌+◌}
 use mathlib.Core.Path.{◌≡◌, refl}
 use lib.ListN.{length}
 use Rattle.nson.specs.Nson.{id_label, pubkey_label, sig_label, time_label, nson_label, kind_label, content_label, tags_label}

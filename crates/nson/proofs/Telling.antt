@@ -9,8 +9,8 @@ use mathlib.Core.List.{List, [], ◌∷◌}
 use native.Mathlib.Omega.{arith}
 use lib.ListN.{length, length-take, length-drop, drop}
 use lib.Dec.{ltb, leb, eqb}
-use borrow.Author.Tests.{eqb-true, eqb-false}
-use Rattle.scan.specs.Choice.{pick, Answer, Read, shown, refused}
+use borrow.Author.Tests.{eqb-true}
+use Rattle.scan.specs.Choice.{pick, Answer, Read}
 use Rattle.scan.specs.Place.{byte_at, stands_at, within}
 use Rattle.scan.proofs.Step.{pick_true, pick_by}
 use Rattle.scan.proofs.SpanLaws.{span_fits}

@@ -32,7 +32,7 @@ pub const TAG_COUNTS_AT: usize = DESCRIPTORS_AT + 2 + 4 + 2;
 const TEN_DIGITS: u64 = 9999999999;
 
 // A place in the input. A cursor past the end reads as the end.
-#[derive(Drop)]
+#[derive(Clone, Copy)]
 pub struct Cursor {
     pub at: usize,
 }
