@@ -14,7 +14,7 @@ use Rattle.buffer.proofs.Places.{ends_behind}
 use Rattle.notepack.specs.declared.Head.{Head}
 use Rattle.notepack.specs.Unpack.{Packed}
 use Rattle.notepack.proofs.Viewing.{packed_apart}
-use Rattle.versioned.specs.Views.{move_part, packed_given, numbers_given}
+use Rattle.versioned.specs.Views.{packed_given, numbers_given}
 use Rattle.versioned.proofs.Viewing.{packed_placed, numbers_packed, packed_refused}
 use Rattle.elements.specs.Elements.{in_tags, rows, listed, elements_told, elements_left}
 use Rattle.elements.specs.inner.Again.{all_again}

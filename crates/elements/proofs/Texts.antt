@@ -9,7 +9,7 @@ use Rattle.scan.specs.Choice.{shown}
 use Rattle.event.specs.Event.{Text, Tag, Event}
 use Rattle.notepack.specs.declared.Part.{Part}
 use Rattle.notepack.specs.Unpack.{text_of, Packed, packed_at, event_of, unpack}
-use Rattle.versioned.specs.Versioned.{behind, given}
+use Rattle.versioned.specs.Versioned.{given}
 use Rattle.versioned.specs.Views.{move_part, packed_given}
 use Rattle.versioned.proofs.Viewing.{packed_placed}
 use Rattle.versioned.proofs.Seen.{part_text}
