@@ -3,14 +3,14 @@
 -- By the entry's two equations, case by case of what the reader shows.
 use Prim.Native.Nat.{ℕ, ◌*◌, ◌≤◌, ◌<◌, ◌^◌}
 use mathlib.Core.Path.{◌≡◌, refl, sym, ap, ◌∙◌}
-use mathlib.Core.Bool.{Bool, true, false}
-use mathlib.Core.List.{List, [], ◌∷◌, ◌++◌, append-nil}
+use mathlib.Core.Bool.{Bool}
+use mathlib.Core.List.{List, [], ◌++◌, append-nil}
 use native.Mathlib.Omega.{arith}
 use lib.ListN.{length, take, drop, replicate}
 use lib.Seq.{take_at}
 use borrow.Author.Tests.{le-leb}
 use Rattle.scan.specs.Bytes.{IsBytes}
-use Rattle.scan.specs.Choice.{pick, Answer, shown, refused, and_then}
+use Rattle.scan.specs.Choice.{Answer, shown, refused, and_then}
 use Rattle.scan.specs.Compare.{same_bytes}
 use Rattle.buffer.specs.inner.Store.{Wrote}
 use Rattle.buffer.specs.Entry.{writes, leaves, written, filled}

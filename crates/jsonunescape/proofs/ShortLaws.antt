@@ -1,6 +1,6 @@
 -- The fast look at a spelled string: block by block no byte is odd, and then the text is as many bytes shorter as there
 -- are backslashes.
--- The blocks by `neighbours-block`; the length byte by byte, where a backslash and the letter behind it are one step.
+-- The blocks by `neighbours_block`; the length byte by byte, where a backslash and the letter behind it are one step.
 use Prim.Native.Nat.{ℕ, suc, ◌+◌, ◌-◌, ◌≤◌}
 use mathlib.Core.Path.{◌≡◌, refl, sym, ap, ◌∙◌}
 use mathlib.Core.Bool.{true, false}

@@ -1,6 +1,6 @@
 -- The loops over a spelled string go from run to run: bytes without a backslash, then an escape. What each of the two
 -- adds to the text.
--- The run by `run-span`, the escape by `unescape-escape`; both end within the string, so that no place and no length
+-- The run by `run_span`, the escape by `unescape_escape`; both end within the string, so that no place and no length
 -- wraps.
 use Prim.Native.Nat.{ℕ, ◌+◌, ◌-◌, ◌<◌, ◌≤◌, ◌^◌}
 use mathlib.Core.Path.{◌≡◌, sym, ap, ◌∙◌}

@@ -1,7 +1,6 @@
 -- `canonical_len` is the length of the whole text: twelve fixed bytes, and each piece's own.
 -- By the law of the whole length; every piece is bounded, so the sums fit.
 use native.Mathlib.Omega.{arith}
-use borrow.Author.Rules.{rules}
 use Rattle.scan.proofs.AllLaws.{all_places}
 use Rattle.canonical.proofs.Whole.{part_most, row_length}
 use Rattle.canonical.proofs.canonical_len.Goals as goal

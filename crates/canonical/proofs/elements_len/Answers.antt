@@ -1,13 +1,8 @@
-use Prim.Native.Nat.{◌+◌, ◌*◌, ◌≤◌}
-use mathlib.Core.Path.{◌≡◌, refl, sym, ap, ◌∙◌}
-use mathlib.Core.List.{map}
+use mathlib.Core.Path.{refl, sym, ap, ◌∙◌}
 use native.Mathlib.Omega.{arith}
 use lib.ListN.{length}
-use borrow.Author.Rules.{rules}
 use Rattle.escape.specs.Escape.{canonical_byte}
-use Rattle.notepack.specs.inner.Again.{texts_again, texts_end}
 use Rattle.notepack.proofs.Again.{texts_turn, texts_left}
-use Rattle.jsontags.specs.TagText.{quoted, commaed}
 use Rattle.jsontags.proofs.Turns.{strings_count, strings_left}
 use Rattle.canonical.proofs.elements_len.Goals as goal
 

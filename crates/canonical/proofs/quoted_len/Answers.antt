@@ -1,7 +1,6 @@
 -- `quoted_len` is the length of a part's text as a string: two quotes more than between them.
 -- An input is short, so the sum fits.
 use native.Mathlib.Omega.{arith}
-use borrow.Author.Rules.{rules}
 use Rattle.escape.specs.Escape.{canonical_byte}
 use Rattle.notepack.specs.Unpack.{text_of}
 use Rattle.jsontags.proofs.Texts.{length_quoted}

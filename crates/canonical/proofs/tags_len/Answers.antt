@@ -1,14 +1,9 @@
-use Prim.Native.Nat.{◌+◌, ◌*◌, ◌≤◌}
-use mathlib.Core.Path.{◌≡◌, refl, ap}
-use mathlib.Core.List.{map}
+use mathlib.Core.Path.{refl, ap}
 use native.Mathlib.Omega.{arith}
 use lib.ListN.{length}
-use borrow.Author.Rules.{rules}
 use Rattle.scan.proofs.AllLaws.{all_places}
 use Rattle.escape.specs.Escape.{canonical_byte}
-use Rattle.notepack.specs.inner.Again.{tags_again}
 use Rattle.notepack.proofs.Again.{count_few}
-use Rattle.jsontags.specs.TagText.{commaed, tag_text}
 use Rattle.jsontags.proofs.Turns.{arrays_count, arrays_left}
 use Rattle.canonical.proofs.tags_len.Goals as goal
 

@@ -2,17 +2,12 @@
 -- are the length of all;
 -- what is counted is at most 33,424,128 for each. Each turn is one law.
 use Prim.Native.Nat.{◌+◌, ◌*◌, ◌≤◌}
-use mathlib.Core.Path.{◌≡◌, refl, ap}
+use mathlib.Core.Path.{◌≡◌}
 use mathlib.Core.List.{map}
-use native.Mathlib.Omega.{arith}
 use lib.ListN.{length}
-use borrow.Author.Rules.{rules}
-use Rattle.scan.proofs.AllLaws.{all_places}
 use Rattle.escape.specs.Escape.{canonical_byte}
 use Rattle.notepack.specs.inner.Again.{tags_again}
-use Rattle.notepack.proofs.Again.{count_few}
 use Rattle.jsontags.specs.TagText.{commaed, tag_text}
-use Rattle.jsontags.proofs.Turns.{arrays_count, arrays_left}
 use Rattle.canonical.proofs.tags_len.Given as goal
 
 abbrev pub invariant-loop-left : goal.invariant-loop-left

@@ -4,7 +4,6 @@
 -- measured.
 use mathlib.Core.Path.{ap}
 use native.Mathlib.Omega.{arith}
-use borrow.Author.Rules.{rules}
 use Rattle.scan.proofs.AllLaws.{all_places}
 use Rattle.notepack.specs.inner.Answers.{walk}
 use Rattle.notepack.proofs.Again.{accepted}

@@ -1,5 +1,5 @@
 -- All in front of the tags, as the writer has it: [0,"pubkey",created_at,kind,[ . Assumes nothing.
-use Rattle.std.specs.Prelude.{ℕ, List, [], ◌∷◌, ◌++◌}
+use Rattle.std.specs.Prelude.{ℕ, List, ◌++◌}
 use Rattle.scan.specs.Ascii.{ascii}
 use Rattle.hexdigits.specs.Hex.{hexes}
 use Rattle.decimal.specs.Decimal.{decimal}

@@ -2,7 +2,6 @@
 -- By the entry's two equations: the text stands in the scratch, or the refusal is the reader's.
 use mathlib.Core.Path.{sym, ap, ◌∙◌}
 use native.Mathlib.Omega.{arith}
-use borrow.Author.Rules.{rules}
 use lib.ListN.{length}
 use Rattle.scan.proofs.AllLaws.{all_places}
 use Rattle.event.specs.inner.Told.{writing}

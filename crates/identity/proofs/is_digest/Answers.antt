@@ -5,7 +5,6 @@ use mathlib.Core.Path.{◌≡◌, sym, ap, ◌∙◌}
 use native.Mathlib.Omega.{arith}
 use Rattle.sha256.specs.inner.Answers.{finish_told}
 use Rattle.identity.proofs.Steps.{one_digest, compared}
-use borrow.Author.Rules.{rules}
 use Rattle.identity.proofs.is_digest.Goals as goal
 
 pub returns-in-Digest : goal.returns-in-Digest

@@ -3,17 +3,15 @@
 use mathlib.Core.Path.{ap}
 use native.Mathlib.Omega.{arith}
 use lib.ListN.{length}
-use borrow.Author.Rules.{rules}
 use Rattle.scan.proofs.AllLaws.{all_places}
 use Rattle.jsontags.proofs.Turns.{part_short, raw_most, plain_most, raw_length, plain_length}
 use Rattle.jsontags.proofs.escaped_part_len.Goals as goal
 
 pub returns-then-p : goal.returns-then-p
 returns-then-p c =
-    let known = c in
-    let a = known.args in
+    let a = c.args in
     let e = ap length c.part-bytes.ensures in
-    let bytes = all_places a.s.now (λ i. omega (arith, known.shared_slice_known-1.given i)) in
+    let bytes = all_places a.s.now (λ i. omega (arith, c.type_inv.s i)) in
     let n = raw_length a.k a.s.now bytes a.p c.if-p.true in
     record {
       value = omega (arith, e, n);

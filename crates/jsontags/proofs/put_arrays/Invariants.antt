@@ -2,12 +2,10 @@
 -- left.
 -- Each turn is one law: a bracket, the strings, a bracket, a comma, and the tags behind where they end.
 use mathlib.Core.List.{map}
-use borrow.Author.Rules.{rules}
-use Rattle.buffer.proofs.Laws.{Left, start, part, done, also, same}
+use Rattle.buffer.proofs.Laws.{Left}
 use Rattle.escape.specs.inner.Which.{byte_of}
 use Rattle.notepack.specs.inner.Again.{tags_again}
 use Rattle.jsontags.specs.TagText.{commaed, tag_text}
-use Rattle.jsontags.proofs.Turns.{arrays_turn, arrays_left}
 use Rattle.jsontags.proofs.put_arrays.Given as goal
 
 abbrev pub invariant-loop-left : goal.invariant-loop-left

@@ -1,6 +1,5 @@
 -- `put_comma` writes the comma in front of more items.
 -- By its one test.
-use borrow.Author.Rules.{rules}
 use borrow.Author.Tests.{le-ltb, lt-ltb}
 use Rattle.buffer.proofs.Laws.{nothing}
 use Rattle.jsontags.proofs.put_comma.Goals as goal

@@ -1,11 +1,7 @@
-use mathlib.Core.Path.{◌≡◌, refl, sym, ◌∙◌}
-use mathlib.Core.List.{map}
-use borrow.Author.Rules.{rules}
-use Rattle.buffer.proofs.Laws.{Left, start, part, done, also, same}
+use mathlib.Core.Path.{refl, sym, ◌∙◌}
+use Rattle.buffer.proofs.Laws.{start, part, done, also, same}
 use Rattle.escape.specs.inner.Which.{byte_of}
-use Rattle.notepack.specs.inner.Again.{texts_again, texts_end}
 use Rattle.notepack.proofs.Again.{texts_turn, texts_left}
-use Rattle.jsontags.specs.TagText.{quoted, commaed}
 use Rattle.jsontags.proofs.Turns.{strings_turn, strings_left}
 use Rattle.jsontags.proofs.put_strings.Goals as goal
 
@@ -14,15 +10,11 @@ loop-left-init c = (start, refl)
 
 pub loop-left-preserved : goal.loop-left-preserved
 loop-left-preserved c =
-    let comma = c in
-    let text = comma in
-    let read = text in
-    let turn = read in
-    let q = turn.loop-left in
-    let a = turn.args in
-    let r = read.part_again-again.ensures in
-    let left = also (strings_turn (byte_of a.k) a.s.now q.left q.i turn.loop-left-test.true r.part_value r.next_value) q.invariant.0 in
-    (part (part left text.put_quoted-o.ensures) comma.put_comma-o.ensures, q.invariant.1 ∙ (texts_turn a.s.now q.left q.i turn.loop-left-test.true r.part_value r.next_value).1)
+    let q = c.loop-left in
+    let a = c.args in
+    let r = c.part_again-again.ensures in
+    let left = also (strings_turn (byte_of a.k) a.s.now q.left q.i c.loop-left-test.true r.part_value r.next_value) q.invariant.0 in
+    (part (part left c.put_quoted-o.ensures) c.put_comma-o.ensures, q.invariant.1 ∙ (texts_turn a.s.now q.left q.i c.loop-left-test.true r.part_value r.next_value).1)
 
 pub shape_of-out : goal.shape_of-out
 shape_of-out c = same c.loop-left.invariant.0

@@ -1,15 +1,12 @@
 -- `put_strings` writes the elements as it goes over them again. The invariant: what is left to write is the text of the
 -- elements left,
 -- and they end where all end. Each turn is one law.
-use mathlib.Core.Path.{◌≡◌, refl, sym, ◌∙◌}
+use mathlib.Core.Path.{◌≡◌}
 use mathlib.Core.List.{map}
-use borrow.Author.Rules.{rules}
-use Rattle.buffer.proofs.Laws.{Left, start, part, done, also, same}
+use Rattle.buffer.proofs.Laws.{Left}
 use Rattle.escape.specs.inner.Which.{byte_of}
 use Rattle.notepack.specs.inner.Again.{texts_again, texts_end}
-use Rattle.notepack.proofs.Again.{texts_turn, texts_left}
 use Rattle.jsontags.specs.TagText.{quoted, commaed}
-use Rattle.jsontags.proofs.Turns.{strings_turn, strings_left}
 use Rattle.jsontags.proofs.put_strings.Given as goal
 
 abbrev pub invariant-loop-left : goal.invariant-loop-left

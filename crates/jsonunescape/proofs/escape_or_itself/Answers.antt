@@ -1,8 +1,7 @@
--- `escape_or_itself` makes the test of `orItself`.
+-- `escape_or_itself` makes the test of `or_itself`.
 -- By what the call promises.
 use Rattle.jsontext.specs.inner.Escape.{or_itself}
 use borrow.Author.Tests.{eq-eqb, ne_eqb}
-use borrow.Author.Rules.{rules}
 use Rattle.jsonunescape.proofs.escape_or_itself.Goals as goal
 
 pub returns-then-w-eq0 : goal.returns-then-w-eq0

@@ -1,9 +1,6 @@
-use Prim.Native.Nat.{◌-◌, ◌≤◌}
-use mathlib.Core.Path.{◌≡◌, refl}
+use mathlib.Core.Path.{refl}
 use native.Mathlib.Omega.{arith}
-use lib.ListN.{length, get_or, drop, length-take, length-drop}
-use Rattle.scan.specs.inner.Blocks.{neighbours}
-use Rattle.jsonunescape.specs.inner.Short.{odd_of}
+use lib.ListN.{length-take, length-drop}
 use Rattle.jsonunescape.proofs.ShortLaws.{pairs_again, pairs_odd, pairs_rest}
 use Rattle.jsonunescape.proofs.even_pairs.Goals as goal
 

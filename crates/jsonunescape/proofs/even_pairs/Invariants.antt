@@ -1,13 +1,11 @@
 -- `even_pairs` looks block by block for odd bytes. The invariant is one equation: there are as many in the whole as
 -- there are from here on.
--- A block is one use of `pairs-again`, or of `pairs-odd` where it has one.
+-- A block is one use of `pairs_again`, or of `pairs_odd` where it has one.
 use Prim.Native.Nat.{◌-◌, ◌≤◌}
-use mathlib.Core.Path.{◌≡◌, refl}
-use native.Mathlib.Omega.{arith}
-use lib.ListN.{length, get_or, drop, length-take, length-drop}
+use mathlib.Core.Path.{◌≡◌}
+use lib.ListN.{length, get_or, drop}
 use Rattle.scan.specs.inner.Blocks.{neighbours}
 use Rattle.jsonunescape.specs.inner.Short.{odd_of}
-use Rattle.jsonunescape.proofs.ShortLaws.{pairs_again, pairs_odd, pairs_rest}
 use Rattle.jsonunescape.proofs.even_pairs.Given as goal
 
 abbrev pub invariant-loop-i : goal.invariant-loop-i

@@ -1,8 +1,7 @@
 -- `four_plain` looks at four bytes. Where it says true, none of them is a backslash, and the run goes on behind them
--- (`run-four`).
+-- (`run_four`).
 -- Where it says false, it promises nothing.
 use native.Mathlib.Omega.{arith}
-use borrow.Author.Rules.{rules}
 use Rattle.scan.proofs.Step.{false_true}
 use Rattle.jsonunescape.proofs.RunLaws.{run_four}
 use Rattle.jsonunescape.proofs.four_plain.Goals as goal

@@ -1,8 +1,4 @@
-use Prim.Native.Nat.{◌-◌}
-use mathlib.Core.Path.{◌≡◌, ◌∙◌}
-use borrow.Author.Rules.{rules}
-use lib.ListN.{length}
-use Rattle.jsonunescape.specs.inner.Run.{backslash_at}
+use mathlib.Core.Path.{◌∙◌}
 use Rattle.jsonunescape.proofs.RunLaws.{plains}
 use Rattle.jsonunescape.proofs.next_backslash.Goals as goal
 

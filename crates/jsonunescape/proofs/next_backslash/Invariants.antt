@@ -2,11 +2,9 @@
 -- the start ends where the run from here ends.
 -- Each turn is one law of `plains`.
 use Prim.Native.Nat.{◌-◌}
-use mathlib.Core.Path.{◌≡◌, ◌∙◌}
-use borrow.Author.Rules.{rules}
+use mathlib.Core.Path.{◌≡◌}
 use lib.ListN.{length}
 use Rattle.jsonunescape.specs.inner.Run.{backslash_at}
-use Rattle.jsonunescape.proofs.RunLaws.{plains}
 use Rattle.jsonunescape.proofs.next_backslash.Given as goal
 
 abbrev pub invariant-loop-i : goal.invariant-loop-i

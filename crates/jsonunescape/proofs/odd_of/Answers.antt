@@ -1,7 +1,6 @@
--- `odd_of` makes the test of `oddOf`.
+-- `odd_of` makes the test of `odd_of`.
 -- A byte is not both n and a quote (`one_of_two`), so neither subtraction goes below 0.
 use native.Mathlib.Omega.{arith}
-use borrow.Author.Rules.{rules}
 use Rattle.scan.proofs.BlockLaws.{one_of_two}
 use Rattle.jsonunescape.proofs.ShortLaws.{odd_is}
 use Rattle.jsonunescape.proofs.odd_of.Goals as goal

@@ -3,12 +3,9 @@
 -- A byte adds at most 1, so the sum is at most 128 and fits a byte.
 use Prim.Native.Nat.{◌+◌, ◌-◌, ◌≤◌}
 use mathlib.Core.Path.{◌≡◌}
-use native.Mathlib.Omega.{arith}
-use borrow.Author.Rules.{rules}
 use lib.ListN.{length, get_or, drop}
 use Rattle.scan.specs.inner.Blocks.{neighbours}
 use Rattle.jsonunescape.specs.inner.Short.{odd_of}
-use Rattle.scan.proofs.BlockLaws.{neighbours_again, neighbours_left}
 use Rattle.jsonunescape.proofs.odd_pairs.Given as goal
 
 abbrev pub invariant-loop-i : goal.invariant-loop-i

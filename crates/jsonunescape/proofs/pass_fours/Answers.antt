@@ -1,9 +1,5 @@
-use Prim.Native.Nat.{◌-◌, ◌≤◌}
-use mathlib.Core.Path.{◌≡◌, refl, ◌∙◌}
+use mathlib.Core.Path.{refl, ◌∙◌}
 use native.Mathlib.Omega.{arith}
-use lib.ListN.{length}
-use Rattle.jsonunescape.specs.inner.Run.{backslash_at}
-use borrow.Author.Tests.{not-false}
 use Rattle.jsonunescape.proofs.pass_fours.Goals as goal
 
 pub loop-i-init : goal.loop-i-init

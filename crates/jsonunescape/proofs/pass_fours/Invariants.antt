@@ -2,11 +2,9 @@
 -- here ends.
 -- A turn is what `four_plain` says.
 use Prim.Native.Nat.{◌-◌, ◌≤◌}
-use mathlib.Core.Path.{◌≡◌, refl, ◌∙◌}
-use native.Mathlib.Omega.{arith}
+use mathlib.Core.Path.{◌≡◌}
 use lib.ListN.{length}
 use Rattle.jsonunescape.specs.inner.Run.{backslash_at}
-use borrow.Author.Tests.{not-false}
 use Rattle.jsonunescape.proofs.pass_fours.Given as goal
 
 abbrev pub invariant-loop-i : goal.invariant-loop-i

@@ -1,9 +1,5 @@
-use Prim.Native.Nat.{◌-◌, ◌≤◌}
-use mathlib.Core.Path.{◌≡◌, refl}
+use mathlib.Core.Path.{refl}
 use native.Mathlib.Omega.{arith}
-use borrow.Author.Rules.{rules}
-use lib.ListN.{length}
-use Rattle.jsonunescape.specs.inner.Run.{backslash_at}
 use Rattle.jsonunescape.proofs.RunLaws.{run_block}
 use Rattle.jsonunescape.proofs.pass_stops.Goals as goal
 

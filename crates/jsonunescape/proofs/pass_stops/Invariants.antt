@@ -1,13 +1,10 @@
 -- `pass_stops` passes blocks without a stop. The invariant is one equation: the run from the start ends where the run
 -- from here ends.
--- A block is one use of `run-block`: the part `&t[i..e]` is `take (e - i) (drop i t)`.
+-- A block is one use of `run_block`: the part `&t[i..e]` is `take (e - i) (drop i t)`.
 use Prim.Native.Nat.{◌-◌, ◌≤◌}
-use mathlib.Core.Path.{◌≡◌, refl}
-use native.Mathlib.Omega.{arith}
-use borrow.Author.Rules.{rules}
+use mathlib.Core.Path.{◌≡◌}
 use lib.ListN.{length}
 use Rattle.jsonunescape.specs.inner.Run.{backslash_at}
-use Rattle.jsonunescape.proofs.RunLaws.{run_block}
 use Rattle.jsonunescape.proofs.pass_stops.Given as goal
 
 abbrev pub invariant-loop-i : goal.invariant-loop-i

@@ -1,8 +1,7 @@
 -- `put_four` stores four bytes; there is room for all of them.
--- The stores together are `stored-four`; each keeps the length of the buffer.
+-- The stores together are `stored_four`; each keeps the length of the buffer.
 use mathlib.Core.Path.{refl}
 use native.Mathlib.Omega.{arith}
-use borrow.Author.Rules.{rules}
 use lib.ListN.{length-set}
 use Rattle.jsonunescape.proofs.RunLaws.{stored_four}
 use Rattle.jsonunescape.proofs.put_four.Goals as goal

@@ -1,10 +1,5 @@
-use Prim.Native.Nat.{◌-◌, ◌≤◌}
 use native.Mathlib.Omega.{arith}
-use borrow.Author.Rules.{rules}
-use borrow.Author.Tests.{not-false}
-use lib.ListN.{length}
 use Rattle.buffer.proofs.Laws.{kept}
-use Rattle.jsonunescape.specs.inner.Run.{Ran}
 use Rattle.jsonunescape.proofs.RunLaws.{ran_none, ran_four}
 use Rattle.jsonunescape.proofs.put_fours.Goals as goal
 

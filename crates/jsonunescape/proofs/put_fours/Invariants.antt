@@ -1,14 +1,9 @@
 -- `put_fours` writes a run four bytes a turn. The invariant: what was written is the run from the start to here, and
 -- the place is within the output.
--- A turn is `ran-four`, with what `four_plain` and `put_four` promise.
+-- A turn is `ran_four`, with what `four_plain` and `put_four` promise.
 use Prim.Native.Nat.{◌-◌, ◌≤◌}
-use native.Mathlib.Omega.{arith}
-use borrow.Author.Rules.{rules}
-use borrow.Author.Tests.{not-false}
 use lib.ListN.{length}
-use Rattle.buffer.proofs.Laws.{kept}
 use Rattle.jsonunescape.specs.inner.Run.{Ran}
-use Rattle.jsonunescape.proofs.RunLaws.{ran_none, ran_four}
 use Rattle.jsonunescape.proofs.put_fours.Given as goal
 
 abbrev pub invariant-loop-i : goal.invariant-loop-i

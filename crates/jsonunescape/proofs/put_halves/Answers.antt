@@ -1,10 +1,6 @@
-use Prim.Native.Nat.{◌-◌}
-use mathlib.Core.Path.{◌≡◌, refl, sym, ap, ◌∙◌}
-use native.Mathlib.Omega.{arith}
-use borrow.Author.Rules.{rules}
-use lib.ListN.{length, drop}
+use mathlib.Core.Path.{refl, sym, ap, ◌∙◌}
 use Rattle.scan.proofs.Step.{rest_more, rest_none}
-use Rattle.buffer.proofs.Laws.{Left, start, one, also, done, same}
+use Rattle.buffer.proofs.Laws.{start, one, also, done, same}
 use Rattle.hexdigits.specs.Hex.{unhex}
 use Rattle.jsonunescape.specs.inner.Half.{held, half_behind}
 use Rattle.jsonunescape.proofs.Parts.{held_byte, held_half, held_end, behind_byte, behind_half, behind_end}

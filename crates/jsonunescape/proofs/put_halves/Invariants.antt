@@ -1,16 +1,12 @@
 -- `put_halves` writes a byte for each two digits. The invariant: what is left to write are the bytes of the half that
 -- is read and of t from here on.
--- A turn is `held-byte` and one byte written, or `held-half` and none.
+-- A turn is `held_byte` and one byte written, or `held_half` and none.
 use Prim.Native.Nat.{◌-◌}
-use mathlib.Core.Path.{◌≡◌, refl, sym, ap, ◌∙◌}
-use native.Mathlib.Omega.{arith}
-use borrow.Author.Rules.{rules}
+use mathlib.Core.Path.{◌≡◌}
 use lib.ListN.{length, drop}
-use Rattle.scan.proofs.Step.{rest_more, rest_none}
-use Rattle.buffer.proofs.Laws.{Left, start, one, also, done, same}
+use Rattle.buffer.proofs.Laws.{Left}
 use Rattle.hexdigits.specs.Hex.{unhex}
 use Rattle.jsonunescape.specs.inner.Half.{held, half_behind}
-use Rattle.jsonunescape.proofs.Parts.{held_byte, held_half, held_end, behind_byte, behind_half, behind_end}
 use Rattle.jsonunescape.proofs.put_halves.Given as goal
 
 abbrev pub invariant-loop-i : goal.invariant-loop-i

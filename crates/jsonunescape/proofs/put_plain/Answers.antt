@@ -1,9 +1,5 @@
-use Prim.Native.Nat.{◌-◌}
 use native.Mathlib.Omega.{arith}
-use borrow.Author.Rules.{rules}
-use lib.ListN.{length}
 use Rattle.buffer.proofs.Laws.{kept}
-use Rattle.jsonunescape.specs.inner.Run.{Ran}
 use Rattle.jsonunescape.proofs.RunLaws.{plain_left, plain_broke, ran_none, ran_byte}
 use Rattle.jsonunescape.proofs.put_plain.Goals as goal
 

@@ -1,12 +1,8 @@
 -- `put_plain` writes a run byte by byte. The invariant: what was written is the run from the start to here.
--- A turn is `ran-byte`; the end is a law of `plains`.
+-- A turn is `ran_byte`; the end is a law of `plains`.
 use Prim.Native.Nat.{◌-◌}
-use native.Mathlib.Omega.{arith}
-use borrow.Author.Rules.{rules}
 use lib.ListN.{length}
-use Rattle.buffer.proofs.Laws.{kept}
 use Rattle.jsonunescape.specs.inner.Run.{Ran}
-use Rattle.jsonunescape.proofs.RunLaws.{plain_left, plain_broke, ran_none, ran_byte}
 use Rattle.jsonunescape.proofs.put_plain.Given as goal
 
 abbrev pub invariant-loop-i : goal.invariant-loop-i

@@ -1,7 +1,6 @@
 -- `put_run` writes a run in three parts: blocks, then four by four, then one by one.
 -- Each part is a `Ran`, and they go one after the other by `ran_then`.
 use mathlib.Core.Path.{sym, ◌∙◌}
-use borrow.Author.Rules.{rules}
 use Rattle.jsonunescape.proofs.RunLaws.{ran_part, ran_then}
 use Rattle.jsonunescape.proofs.put_run.Goals as goal
 

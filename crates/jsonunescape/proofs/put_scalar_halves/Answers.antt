@@ -1,7 +1,6 @@
 -- `put_scalar_halves` writes the bytes of a scalar value to an array and hands what was written to `put_halves`.
 -- What was written from its start is there: `encoded`.
 use mathlib.Core.Path.{refl, ◌∙◌}
-use borrow.Author.Rules.{rules}
 use Rattle.buffer.proofs.Laws.{kept}
 use Rattle.jsonunescape.proofs.Parts.{encoded}
 use Rattle.jsonunescape.proofs.put_scalar_halves.Goals as goal

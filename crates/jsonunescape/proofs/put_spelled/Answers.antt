@@ -1,9 +1,5 @@
-use Prim.Native.Nat.{◌-◌}
-use native.Mathlib.Omega.{arith}
 use borrow.Author.Rules.{rules}
-use lib.ListN.{length, drop}
-use Rattle.buffer.proofs.Laws.{Left, start, part, one, also, done, same, kept}
-use Rattle.jsontext.specs.inner.Escape.{unescape}
+use Rattle.buffer.proofs.Laws.{start, part, one, also, done, same, kept}
 use Rattle.jsonunescape.proofs.Unescape.{unescape_run, unescape_end, turn_text, steps}
 use Rattle.jsonunescape.proofs.Letters.{letter_fits, letter_less, letter_text}
 use Rattle.jsonunescape.proofs.put_spelled.Goals as goal

@@ -1,11 +1,6 @@
-use Prim.Native.Nat.{◌-◌}
 use mathlib.Core.Path.{sym, ap}
-use borrow.Author.Rules.{rules}
-use lib.ListN.{length, drop}
-use Rattle.buffer.proofs.Laws.{Left, start, part, also, done, same, kept}
+use Rattle.buffer.proofs.Laws.{start, part, also, done, same, kept}
 use Rattle.hexdigits.specs.Hex.{unhex}
-use Rattle.jsontext.specs.inner.Escape.{unescape}
-use Rattle.jsonunescape.specs.inner.Half.{held}
 use Rattle.jsonunescape.proofs.Unescape.{steps}
 use Rattle.jsonunescape.proofs.Parts.{held_none, unhex_run, unhex_escape, unhex_end, with_half}
 use Rattle.jsonunescape.proofs.put_spelled_unhex.Goals as goal

@@ -1,15 +1,11 @@
 -- `put_spelled_unhex` writes a byte for each two digits of the text: what is left is behind the half that is read.
--- A turn writes a run, by `unhex-run`, and an escape, by `unhex-escape`; the half that is left over goes on.
+-- A turn writes a run, by `unhex_run`, and an escape, by `unhex_escape`; the half that is left over goes on.
 use Prim.Native.Nat.{◌-◌}
-use mathlib.Core.Path.{sym, ap}
-use borrow.Author.Rules.{rules}
 use lib.ListN.{length, drop}
-use Rattle.buffer.proofs.Laws.{Left, start, part, also, done, same, kept}
+use Rattle.buffer.proofs.Laws.{Left}
 use Rattle.hexdigits.specs.Hex.{unhex}
 use Rattle.jsontext.specs.inner.Escape.{unescape}
 use Rattle.jsonunescape.specs.inner.Half.{held}
-use Rattle.jsonunescape.proofs.Unescape.{steps}
-use Rattle.jsonunescape.proofs.Parts.{held_none, unhex_run, unhex_escape, unhex_end, with_half}
 use Rattle.jsonunescape.proofs.put_spelled_unhex.Given as goal
 
 abbrev pub invariant-loop-i : goal.invariant-loop-i

@@ -1,6 +1,5 @@
 -- `put_unescaped` hands the part of the input to `put_text`.
 -- The part is the bytes that the contract names.
-use borrow.Author.Rules.{rules}
 use Rattle.buffer.proofs.Laws.{kept}
 use Rattle.jsonunescape.proofs.put_unescaped.Goals as goal
 

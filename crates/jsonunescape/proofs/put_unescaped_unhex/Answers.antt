@@ -1,8 +1,7 @@
 -- `put_unescaped_unhex` hands the part of the input to `put_text_unhex`, or to the hex of lower case where no backslash
 -- stands in it.
--- A string that is one run is its own text: `unescape-whole`.
+-- A string that is one run is its own text: `unescape_whole`.
 use mathlib.Core.Path.{sym}
-use borrow.Author.Rules.{rules}
 use Rattle.buffer.proofs.Laws.{kept}
 use Rattle.jsonunescape.proofs.Unescape.{unescape_whole}
 use Rattle.jsonunescape.proofs.put_unescaped_unhex.Goals as goal

@@ -1,7 +1,6 @@
 -- `scalar_digits` writes the bytes of a scalar value to an array and asks of what was written.
 -- What was written from its start is there: `encoded`.
 use mathlib.Core.Path.{refl, ap, ◌∙◌}
-use borrow.Author.Rules.{rules}
 use Rattle.hexdigits.specs.Hex.{all_digits}
 use Rattle.jsonunescape.proofs.Parts.{encoded}
 use Rattle.jsonunescape.proofs.scalar_digits.Goals as goal

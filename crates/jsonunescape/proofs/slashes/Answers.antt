@@ -1,9 +1,7 @@
-use Prim.Native.Nat.{◌+◌, ◌-◌, ◌≤◌}
-use mathlib.Core.Path.{◌≡◌}
+use Prim.Native.Nat.{◌+◌, ◌-◌}
 use native.Mathlib.Omega.{arith}
 use lib.ListN.{length, drop, length-take, length-drop}
 use Rattle.jsonunescape.specs.inner.Run.{is_slash}
-use Rattle.scan.specs.inner.Blocks.{sum_of}
 use Rattle.scan.proofs.BlockLaws.{sum_left, sum_block}
 use Rattle.jsonunescape.proofs.slashes.Goals as goal
 

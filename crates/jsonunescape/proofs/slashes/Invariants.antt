@@ -1,13 +1,11 @@
 -- `slashes` adds up the backslashes block by block. The invariant: the sum and what is left make the whole, and it is
 -- no more than was passed.
--- A block is one use of `sum-block`: the part `&t[i..e]` is `take (e - i) (drop i t)`.
+-- A block is one use of `sum_block`: the part `&t[i..e]` is `take (e - i) (drop i t)`.
 use Prim.Native.Nat.{◌+◌, ◌-◌, ◌≤◌}
 use mathlib.Core.Path.{◌≡◌}
-use native.Mathlib.Omega.{arith}
-use lib.ListN.{length, drop, length-take, length-drop}
+use lib.ListN.{length, drop}
 use Rattle.jsonunescape.specs.inner.Run.{is_slash}
 use Rattle.scan.specs.inner.Blocks.{sum_of}
-use Rattle.scan.proofs.BlockLaws.{sum_left, sum_block}
 use Rattle.jsonunescape.proofs.slashes.Given as goal
 
 abbrev pub invariant-loop-i : goal.invariant-loop-i

@@ -1,9 +1,5 @@
-use Prim.Native.Nat.{◌-◌}
-use borrow.Author.Rules.{rules}
-use borrow.Author.Tests.{not-true, not-false}
-use lib.ListN.{length}
 use Rattle.jsonunescape.proofs.Unescape.{run_slash, steps}
-use Rattle.jsonunescape.proofs.Parts.{InDigits, digits_start, digits_run, digits_run_off, digits_escape, digits_escape_off, digits_end}
+use Rattle.jsonunescape.proofs.Parts.{digits_start, digits_run, digits_run_off, digits_escape, digits_escape_off, digits_end}
 use Rattle.jsonunescape.proofs.spelled_digits.Goals as goal
 
 pub loop-i-init : goal.loop-i-init

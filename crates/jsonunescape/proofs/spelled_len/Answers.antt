@@ -1,8 +1,7 @@
--- `spelled_len` looks first whether every backslash begins \n or \"; then the length is a difference (`short-length`).
+-- `spelled_len` looks first whether every backslash begins \n or \"; then the length is a difference (`short_length`).
 -- Otherwise it is what `text_len_by_runs` counts.
 use mathlib.Core.Path.{sym, ◌∙◌}
 use native.Mathlib.Omega.{arith}
-use borrow.Author.Rules.{rules}
 use Rattle.jsonunescape.proofs.ShortLaws.{short_length, short_none}
 use Rattle.jsonunescape.proofs.spelled_len.Goals as goal
 

@@ -1,8 +1,5 @@
-use Prim.Native.Nat.{◌-◌}
 use native.Mathlib.Omega.{arith}
-use borrow.Author.Rules.{rules}
-use lib.ListN.{length}
-use Rattle.jsonunescape.proofs.Unescape.{run_slash, steps, Measured, measured_none, measured_run, measured_escape, measured_all}
+use Rattle.jsonunescape.proofs.Unescape.{run_slash, steps, measured_none, measured_run, measured_escape, measured_all}
 use Rattle.jsonunescape.proofs.spelled_len_by_runs.Goals as goal
 
 pub loop-i-init : goal.loop-i-init

@@ -1,7 +1,6 @@
--- `stop_of` adds the three parts of `stopOf`.
+-- `stop_of` adds the three parts of `stop_of`.
 -- Each of them is at most 1.
 use native.Mathlib.Omega.{arith}
-use borrow.Author.Rules.{rules}
 use Rattle.jsonunescape.specs.inner.Run.{is_slash, stop_of}
 use Rattle.jsonunescape.proofs.stop_of.Goals as goal
 

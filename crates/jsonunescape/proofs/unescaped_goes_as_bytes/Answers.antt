@@ -1,6 +1,5 @@
--- `unescaped_goes_as_bytes` makes the tests of `goesAsBytes` on the text's length and asks `text_digits`.
+-- `unescaped_goes_as_bytes` makes the tests of `goes_as_bytes` on the text's length and asks `text_digits`.
 -- By what each call promises of the part of the input.
-use borrow.Author.Rules.{rules}
 use borrow.Author.Tests.{eq-eqb, ne_eqb}
 use Rattle.hexdigits.specs.Hex.{goes_as_bytes}
 use Rattle.jsonunescape.proofs.unescaped_goes_as_bytes.Goals as goal

@@ -1,7 +1,6 @@
 -- `unescaped_len` hands the part of the input to `text_len`.
 -- The part is the bytes that the contract names, and they are at most n.
 use native.Mathlib.Omega.{arith}
-use borrow.Author.Rules.{rules}
 use lib.ListN.{drop, length-take}
 use Rattle.jsonunescape.proofs.unescaped_len.Goals as goal
 

@@ -2,7 +2,6 @@
 -- A text is no longer than its spelling, so nothing passes a word.
 use native.Mathlib.Omega.{arith}
 use Rattle.stringelement.proofs.Laws.{text_most, bytes_length, text_length}
-use borrow.Author.Rules.{rules}
 use Rattle.stringelement.proofs.escaped_element_len.Goals as goal
 
 pub returns-then-unescaped_goes_as_bytes : goal.returns-then-unescaped_goes_as_bytes

@@ -3,7 +3,6 @@
 use native.Mathlib.Omega.{arith}
 use Rattle.buffer.proofs.Laws.{then}
 use Rattle.stringelement.proofs.Laws.{text_most, as_bytes, as_text}
-use borrow.Author.Rules.{rules}
 use Rattle.stringelement.proofs.put_escaped_element.Goals as goal
 
 pub returns-then-unescaped_goes_as_bytes : goal.returns-then-unescaped_goes_as_bytes
