@@ -1,4 +1,4 @@
--- A backslash with a letter behind it: a turn of `put_text` that needs no more than the letter.
+-- A backslash with a letter behind it: a turn of `put_spelled` that needs no more than the letter.
 -- The letter's escape is the escape at that place, and what it stands for is one byte.
 use Prim.Native.Nat.{ℕ, ◌+◌, ◌-◌, ◌<◌, ◌^◌}
 use mathlib.Core.Path.{◌≡◌, refl, sym, ◌∙◌}

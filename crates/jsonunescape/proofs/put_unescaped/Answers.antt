@@ -1,4 +1,4 @@
--- `put_unescaped` hands the part of the input to `put_text`.
+-- `put_unescaped` hands the part of the input to `put_spelled`.
 -- The part is the bytes that the contract names.
 use Rattle.buffer.proofs.Laws.{kept}
 use Rattle.jsonunescape.proofs.put_unescaped.Goals as goal

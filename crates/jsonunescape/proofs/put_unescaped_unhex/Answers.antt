@@ -1,4 +1,4 @@
--- `put_unescaped_unhex` hands the part of the input to `put_text_unhex`, or to the hex of lower case where no backslash
+-- `put_unescaped_unhex` hands the part of the input to `put_spelled_unhex`, or to the hex of lower case where no backslash
 -- stands in it.
 -- A string that is one run is its own text: `unescape_whole`.
 use mathlib.Core.Path.{sym}

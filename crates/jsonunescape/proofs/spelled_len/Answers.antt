@@ -1,5 +1,5 @@
 -- `spelled_len` looks first whether every backslash begins \n or \"; then the length is a difference (`short_length`).
--- Otherwise it is what `text_len_by_runs` counts.
+-- Otherwise it is what `spelled_len_by_runs` counts.
 use mathlib.Core.Path.{sym, ◌∙◌}
 use native.Mathlib.Omega.{arith}
 use Rattle.jsonunescape.proofs.ShortLaws.{short_length, short_none}

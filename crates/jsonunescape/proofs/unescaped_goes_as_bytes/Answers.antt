@@ -1,4 +1,4 @@
--- `unescaped_goes_as_bytes` makes the tests of `goes_as_bytes` on the text's length and asks `text_digits`.
+-- `unescaped_goes_as_bytes` makes the tests of `goes_as_bytes` on the text's length and asks `spelled_digits`.
 -- By what each call promises of the part of the input.
 use borrow.Author.Tests.{eq-eqb, ne_eqb}
 use Rattle.hexdigits.specs.Hex.{goes_as_bytes}

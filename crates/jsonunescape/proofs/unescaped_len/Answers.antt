@@ -1,4 +1,4 @@
--- `unescaped_len` hands the part of the input to `text_len`.
+-- `unescaped_len` hands the part of the input to `spelled_len`.
 -- The part is the bytes that the contract names, and they are at most n.
 use native.Mathlib.Omega.{arith}
 use lib.ListN.{drop, length-take}
