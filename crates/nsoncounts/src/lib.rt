@@ -59,7 +59,7 @@ struct Numbered {
 }
 
 // The counts of the nson field that stand alone: the kind's characters, the content's bytes and the number of tags.
-#[derive(Drop)]
+#[derive(Clone, Copy)]
 pub struct Sizes {
     pub kind: usize,
     pub content: usize,
