@@ -5,19 +5,13 @@ use Rattle.sha256.proofs.add_words.Goals as goal
 pub returns : goal.returns
 unfolding add_words
 returns c =
-    let g = c in
-    let f = g in
-    let e = f in
-    let d = e in
-    let b = d in
-    let a = b in
     simp (
-      ← a.plus.ensures,
-      ← a.plus-2.ensures,
-      ← b.plus-3.ensures,
-      ← d.plus-4.ensures,
-      ← e.plus-5.ensures,
-      ← f.plus-6.ensures,
-      ← g.plus-7.ensures,
+      ← c.plus.ensures,
+      ← c.plus-2.ensures,
+      ← c.plus-3.ensures,
+      ← c.plus-4.ensures,
+      ← c.plus-5.ensures,
+      ← c.plus-6.ensures,
+      ← c.plus-7.ensures,
       ← c.plus-8.ensures,
     )

@@ -6,7 +6,6 @@ use Rattle.sha256.proofs.block_of.Goals as goal
 
 pub returns : goal.returns
 returns c =
-    let front = c in
-    let a = front.args in
+    let a = c.args in
     let h : length (a.front.now ++ a.piece.now) ≤ 64 = simp length-append (omega arith) in
-    block_filled (then front.put_bytes-a.ensures c.put_bytes.ensures) h
+    block_filled (then c.put_bytes-a.ensures c.put_bytes.ensures) h

@@ -7,6 +7,4 @@ use Rattle.sha256.proofs.compress_block.Goals as goal
 pub returns : goal.returns
 unfolding compress
 returns c =
-    let gone = c in
-    let loaded = gone in
-    c.add_words.ensures ∙ rw (gone.all_rounds-v.ensures, loaded.load.ensures)
+    c.add_words.ensures ∙ rw (c.all_rounds-v.ensures, c.load.ensures)

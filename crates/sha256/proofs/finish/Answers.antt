@@ -1,12 +1,8 @@
 -- `finish` refuses a message that is too long, and else tells the words behind the padding.
-use Rattle.std.proofs.Common.{[], arith, rules}
+use Rattle.std.proofs.Common.{[], arith}
 use Rattle.sha256.specs.Pieces.{finished, finish_of}
 use Rattle.sha256.proofs.Filling.{not_long}
 use Rattle.sha256.proofs.finish.Goals as goal
-
-pub is_too_long-requires : goal.is_too_long-requires
-unfolding finish_of finished
-is_too_long-requires c = search rules
 
 pub returns-then-is_too_long : goal.returns-then-is_too_long
 unfolding finish_of finished

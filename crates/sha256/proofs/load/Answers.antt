@@ -8,8 +8,7 @@ loop-t-init c = (c.requires.w_len, omega arith, refl)
 pub loop-t-preserved : goal.loop-t-preserved
 loop-t-preserved c =
     let q = c.loop-t in
-    let s = c in
-    (simp length-set q.invariant.0, omega arith, words_turn _ _ q.t _ s.requires.block_len q.invariant.0 (omega arith) q.invariant.2 c.word_of.ensures)
+    (simp length-set q.invariant.0, omega arith, words_turn _ _ q.t _ c.requires.block_len q.invariant.0 (omega arith) q.invariant.2 c.word_of.ensures)
 
 pub returns : goal.returns
 returns c = words_done _ _ c.loop-t.t (omega arith) (omega arith) c.requires.block_len c.loop-t.invariant.2

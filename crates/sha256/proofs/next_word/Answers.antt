@@ -5,11 +5,10 @@ use Rattle.sha256.proofs.next_word.Goals as goal
 pub returns : goal.returns
 unfolding next_word
 returns c =
-    let b = c in
     simp (
-      ← b.small1.ensures,
-      ← b.plus.ensures,
-      ← b.small0.ensures,
+      ← c.small1.ensures,
+      ← c.plus.ensures,
+      ← c.small0.ensures,
       ← c.plus-2.ensures,
       ← c.plus-3.ensures,
     )

@@ -5,20 +5,16 @@ use Rattle.sha256.proofs.one_round.Goals as goal
 pub returns : goal.returns
 unfolding round
 returns c =
-    let t2 = c in
-    let t1 = t2 in
-    let a = t1 in
-    let b = a in
     simp (
-      ← b.big1.ensures,
-      ← b.plus.ensures,
-      ← a.ch.ensures,
-      ← a.plus-2.ensures,
-      ← t1.plus-3.ensures,
-      ← t1.plus-t1.ensures,
-      ← t2.big0.ensures,
-      ← t2.maj.ensures,
-      ← t2.plus-t2.ensures,
+      ← c.big1.ensures,
+      ← c.plus.ensures,
+      ← c.ch.ensures,
+      ← c.plus-2.ensures,
+      ← c.plus-3.ensures,
+      ← c.plus-t1.ensures,
+      ← c.big0.ensures,
+      ← c.maj.ensures,
+      ← c.plus-t2.ensures,
       ← c.plus-4.ensures,
       ← c.plus-5.ensures,
     )

@@ -6,5 +6,4 @@ use Rattle.sha256.proofs.put_long.Goals as goal
 pub returns : goal.returns
 unfolding long_bytes
 returns c =
-    let b = c in
-    then b.put_word-a.ensures b.put_word.ensures
+    then c.put_word-a.ensures c.put_word.ensures

@@ -6,8 +6,4 @@ use Rattle.sha256.proofs.put_word.Goals as goal
 pub returns : goal.returns
 unfolding word_bytes
 returns c =
-    let z = c in
-    let y = z in
-    let x = y in
-    let w = x in
-    then (then (then w.put_byte-a.ensures x.put_byte-b.ensures) y.put_byte-c.ensures) z.put_byte.ensures
+    then (then (then c.put_byte-a.ensures c.put_byte-b.ensures) c.put_byte-c.ensures) c.put_byte.ensures

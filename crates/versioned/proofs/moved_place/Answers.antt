@@ -2,20 +2,11 @@
 -- The same tests as the definition, in its order.
 use borrow.Author.Tests.{lt-ltb, le-ltb}
 use Rattle.versioned.specs.inner.Moved.{moved_place}
-use borrow.Author.Rules.{rules}
 use Rattle.versioned.proofs.moved_place.Goals as goal
 
 pub returns-then-bare : goal.returns-then-bare
 unfolding moved_place
 returns-then-bare c = simp c.if-bare.true
-
-pub is_readers-requires : goal.is_readers-requires
-unfolding moved_place
-is_readers-requires c = search rules
-
-pub overflow_add-result : goal.overflow_add-result
-unfolding moved_place
-overflow_add-result c = search rules
 
 pub returns-then-place-lt65536 : goal.returns-then-place-lt65536
 unfolding moved_place
