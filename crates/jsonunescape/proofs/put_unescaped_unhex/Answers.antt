@@ -1,5 +1,5 @@
--- `put_unescaped_unhex` hands the part of the input to `put_spelled_unhex`, or to the hex of lower case where no backslash
--- stands in it.
+-- `put_unescaped_unhex` hands the part of the input to `put_spelled_unhex`, or to the hex of lower case where no
+-- backslash stands in it.
 -- A string that is one run is its own text: `unescape_whole`.
 use mathlib.Core.Path.{sym}
 use Rattle.buffer.proofs.Laws.{kept}
