@@ -25,7 +25,7 @@ pub struct Cursor {
 }
 
 // The seven fields of an event, and any other name.
-#[derive(Drop)]
+#[derive(Clone, Copy)]
 pub enum Field {
     Id,
     Pubkey,
@@ -38,7 +38,7 @@ pub enum Field {
 }
 
 // Where the value of a field stands, and how it goes into the strict form. No value stands at place 0.
-#[derive(Drop)]
+#[derive(Clone, Copy)]
 pub struct Spot {
     // where a string begins behind its quote, or the first tag; 1 for a number, whose place is not kept
     pub from: usize,
@@ -146,11 +146,13 @@ impl Cursor {
         let found = jsonstring::Cursor { at }.string(&s[..]);
         match found {
             StringRead::Text(p, next) => {
+                let from = p.from;
+                let count = p.count;
                 if spells_hex(s, p, n) {
                     return SpotRead::Found(
                         Spot {
-                            from: p.from,
-                            count: p.count,
+                            from,
+                            count,
                             number: n as u64,
                             len: n,
                         },
