@@ -1,12 +1,11 @@
 -- The ways in which an offer to a table without a bad slot ends, from the walk over the event that is offered.
 use Prim.Native.Nat.{ℕ, ◌≤◌, ◌<◌}
-use mathlib.Core.Path.{◌≡◌, refl, sym, ap, ◌∙◌, subst}
-use mathlib.Core.Bool.{Bool, true, false}
+use mathlib.Core.Path.{◌≡◌, refl, ap, ◌∙◌}
 use mathlib.Core.List.{List}
 use native.Mathlib.Omega.{arith}
 use lib.ListN.{length, get_or, take, drop}
 use borrow.Author.Tests.{lt-ltb, le-ltb}
-use Rattle.scan.specs.Choice.{pick, Answer, shown, refused}
+use Rattle.scan.specs.Choice.{refused}
 use Rattle.scan.proofs.AllLaws.{all_places}
 use Rattle.scan.proofs.Step.{pick_by}
 use Rattle.buffer.specs.inner.Store.{Wrote}
@@ -15,8 +14,8 @@ use Rattle.notepack.specs.declared.Head.{Head}
 use Rattle.notepack.specs.declared.Tally.{Tally}
 use Rattle.notepack.specs.declared.Walk.{Walk}
 use Rattle.notepack.specs.declared.Walk.TheVariants as walk-by
-use Rattle.notepack.specs.inner.Answers.{Walked, walk, walk_at}
-use Rattle.notepack.proofs.Again.{Accepted, accepted}
+use Rattle.notepack.specs.inner.Answers.{walk, walk_at}
+use Rattle.notepack.proofs.Again.{accepted}
 use Rattle.keys.specs.declared.KeyRead.{KeyRead}
 use Rattle.keys.specs.declared.KeyRead.TheVariants.{Keyed, Keyless}
 use Rattle.keys.specs.inner.Place.{key_at}
@@ -24,7 +23,6 @@ use Rattle.strict.specs.inner.Copy.{packed_pieces}
 use Rattle.strict.proofs.Laws.{pack_written}
 use Rattle.rivals.specs.Rivals.{keeps_by}
 use Rattle.scan.specs.Compare.{same_bytes}
-use Rattle.archive.specs.declared.Outcome.TheVariants.{Replaced, Loses, Held}
 use Rattle.archive.specs.Archive.{is_ephemeral, is_second}
 use Rattle.tableread.specs.declared.Stored.{Stored}
 use Rattle.tableread.specs.declared.Known.{Known}
@@ -37,7 +35,6 @@ use Rattle.tableread.specs.inner.Known.{name_there, stored_bytes, find_from, fre
 use Rattle.tableread.proofs.Within.{find_within, free_within}
 use Rattle.tableoffer.specs.declared.Decision.{Decision}
 use Rattle.tableoffer.specs.declared.Plan.{Plan}
-use Rattle.tableoffer.specs.declared.Plan.TheVariants.{Put, Stays, Full}
 use Rattle.tableoffer.specs.inner.Decision.{decision}
 use Rattle.tableoffer.specs.inner.Plan.{beside_stored, new_in, plan_found, plan_for, place_number, decision_by, cells_by, good_decision, good_cells}
 

@@ -1,17 +1,15 @@
 -- What an offer to known slots does is what the table's own definitions say of it.
 -- By the event that each slot holds, by the name that is looked for, and by the cases of the offer.
-use Prim.Native.Nat.{ℕ, ◌+◌, ◌*◌, ◌≤◌, ◌<◌}
+use Prim.Native.Nat.{ℕ, ◌*◌, ◌≤◌, ◌<◌}
 use mathlib.Core.Path.{◌≡◌, refl, sym, ap, ◌∙◌, subst}
 use mathlib.Core.Bool.{Bool, true, false}
 use mathlib.Core.List.{List}
 use native.Mathlib.Omega.{arith}
 use lib.ListN.{length, take}
-use lib.Dec.{ltb, leb}
-use borrow.Author.Tests.{lt-ltb, le-ltb, le-leb, lt-leb, ltb-true, ltb-false}
+use lib.Dec.{ltb}
+use borrow.Author.Tests.{le-leb, lt-leb, ltb-true, ltb-false}
 use Rattle.scan.specs.Choice.{pick, Answer, shown, refused, and_then}
 use Rattle.scan.specs.Bytes.{IsBytes}
-use Rattle.scan.specs.Compare.{same_bytes}
-use Rattle.buffer.specs.inner.Store.{puts}
 use Rattle.buffer.proofs.Laws.{puts_eq}
 use Rattle.event.specs.Event.{Event}
 use Rattle.notepack.specs.declared.Head.{Head}
@@ -27,14 +25,13 @@ use Rattle.keys.specs.Key as key
 use Rattle.keys.specs.Key.{key_of}
 use Rattle.keys.specs.inner.Place.{key_at, key_there}
 use Rattle.keys.proofs.Keys.{key_there_lem}
-use Rattle.strict.specs.inner.Copy.{packed_pieces}
 use Rattle.strict.proofs.Laws.{pack_written}
 use Rattle.rivals.specs.Rivals.{keeps_by, keeps}
 use Rattle.slots.specs.declared.Slot.{Slot}
 use Rattle.archive.specs.declared.Outcome.{Outcome}
 use Rattle.archive.specs.declared.Outcome.TheVariants.{New, Replaced, Loses, Held, NotKept}
-use Rattle.archive.specs.Archive.{Name, name_by, name_of, is_ephemeral, is_second, same_event, Entry, Found, none, one, lookup, has_free, first_free, place_of, beside, versus, wanted, fits, offered}
-use Rattle.table.specs.Cells.{cell_start, laid_over}
+use Rattle.archive.specs.Archive.{name_by, name_of, is_ephemeral, is_second, same_event, Entry, has_free, place_of, beside, wanted, fits, offered}
+use Rattle.table.specs.Cells.{laid_over}
 use Rattle.table.specs.Table.{entries_of}
 use Rattle.table.specs.Offer.{offered_event, Offer, offer_of, offer, Place, nowhere, slot, place_by, cells_with, cells_after}
 use Rattle.tableread.specs.declared.Stored.{Stored}
@@ -49,7 +46,6 @@ use Rattle.tableread.proofs.Knowing.{Stands}
 use Rattle.tableread.proofs.Entries.{Alike}
 use Rattle.tableread.proofs.Searching.{found_at, missing_none, free_at, free_none}
 use Rattle.tableread.proofs.Within.{find_within, free_within}
-use Rattle.tableoffer.specs.declared.Decision.{Decision}
 use Rattle.tableoffer.specs.declared.Plan.{Plan}
 use Rattle.tableoffer.specs.declared.Plan.TheVariants.{Put, Stays, Full}
 use Rattle.tableoffer.specs.inner.Decision.{decision_at, decision}

@@ -1,8 +1,8 @@
 -- The ways in which the plan of an offer ends: each is the definition's own.
 -- The premises of a law are what the function knows there.
 use Prim.Native.Nat.{ℕ}
-use mathlib.Core.Path.{◌≡◌, refl, sym, ap, ◌∙◌}
-use mathlib.Core.Bool.{Bool, true, false}
+use mathlib.Core.Path.{◌≡◌, ap, ◌∙◌}
+use mathlib.Core.Bool.{Bool, false}
 use mathlib.Core.List.{List}
 use Rattle.notepack.specs.declared.Head.{Head}
 use Rattle.keys.specs.declared.KeyRead.{KeyRead}

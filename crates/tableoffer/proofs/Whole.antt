@@ -4,12 +4,12 @@ use mathlib.Core.Path.{◌≡◌, refl, sym, ap, ◌∙◌}
 use mathlib.Core.List.{List}
 use lib.ListN.{length, get_or}
 use borrow.Author.Tests.{eq-eqb, ne_eqb}
-use Rattle.scan.specs.Choice.{Answer, shown, refused}
+use Rattle.scan.specs.Choice.{shown, refused}
 use Rattle.scan.proofs.AllLaws.{all_places}
 use Rattle.slots.specs.declared.Slot.{Slot}
 use Rattle.archive.specs.Archive.{Entry}
 use Rattle.table.specs.Table.{entries_from, slots_hold, entries_of}
-use Rattle.table.specs.Offer.{Offer, offer_of, cells_after}
+use Rattle.table.specs.Offer.{offer_of, cells_after}
 use Rattle.tableread.specs.declared.Known.{Known}
 use Rattle.tableread.specs.declared.Lowest.{Lowest}
 use Rattle.tableread.specs.declared.Lowest.TheVariants as lowest

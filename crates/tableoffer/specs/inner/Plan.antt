@@ -1,16 +1,14 @@
 -- What an offer does to a table of which every slot is known. `proofs/Meaning` shows that it is what the table's own
 -- definitions say. Assumes nothing.
-use Rattle.std.specs.Prelude.{ℕ, Bool, List, length, take, eqb, ltb}
-use Rattle.scan.specs.Choice.{pick, Answer, shown, refused, and_then}
+use Rattle.std.specs.Prelude.{ℕ, List, length, take, ltb}
+use Rattle.scan.specs.Choice.{pick, Answer, shown, refused}
 use Rattle.scan.specs.Compare.{same_bytes}
 use Rattle.notepack.specs.declared.Head.{Head}
 use Rattle.keys.specs.declared.KeyRead.{KeyRead}
 use Rattle.keys.specs.declared.KeyRead.TheVariants.{Keyed, Keyless}
 use Rattle.keys.specs.inner.Place.{key_at}
 use Rattle.rivals.specs.Rivals.{keeps_by}
-use Rattle.slots.specs.declared.Slot.{Slot}
 use Rattle.slots.specs.Slots.{free_slot, used_slot}
-use Rattle.archive.specs.declared.Outcome.{Outcome}
 use Rattle.archive.specs.declared.Outcome.TheVariants.{New, Replaced, Loses, Held, NotKept}
 use Rattle.archive.specs.Archive.{is_ephemeral, is_second}
 use Rattle.notepack.specs.inner.Answers.{Walked, walk_at}
