@@ -1,7 +1,7 @@
 -- What the starts of two inputs and the comparison of their bare bytes tell is the choice between their events.
 -- By what each input tells: its start's refusal, or what is told of its bare bytes, moved.
 use Prim.Native.Nat.{ℕ}
-use mathlib.Core.Path.{◌≡◌, refl, sym, ap, ◌∙◌}
+use mathlib.Core.Path.{◌≡◌, refl}
 use mathlib.Core.Bool.{Bool}
 use mathlib.Core.List.{List}
 use lib.ListN.{drop}
@@ -10,7 +10,7 @@ use Rattle.event.specs.Event.{Event}
 use Rattle.notepack.specs.declared.Head.{Head}
 use Rattle.notepack.specs.Unpack.{unpack}
 use Rattle.notepack.proofs.Telling.{unpack_tells}
-use Rattle.rivals.specs.Rivals.{Chosen, first_refused, chooses, rivals}
+use Rattle.rivals.specs.Rivals.{first_refused, chooses, rivals}
 use Rattle.versioned.specs.Versioned.{start_of, given}
 use Rattle.versioned.specs.Views.{numbers_given}
 use Rattle.versioned.specs.inner.Moved.{moved}

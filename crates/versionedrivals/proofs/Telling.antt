@@ -9,7 +9,7 @@ use mathlib.Core.List.{List}
 use lib.ListN.{length}
 use Rattle.scan.specs.Choice.{Answer, shown, refused}
 use Rattle.event.specs.Event.{Event}
-use Rattle.event.specs.inner.Tells.{Tells, value, refusal}
+use Rattle.event.specs.inner.Tells.{Tells, refusal}
 use Rattle.notepack.specs.Unpack.{unpack}
 use Rattle.notepack.proofs.Telling.{unpack_tells}
 use Rattle.rivals.specs.Rivals.{chooses}
