@@ -1,18 +1,18 @@
 -- What is shown of a form, of either version, is what stands at its places; of a v0 it is what its event has.
 -- By the laws of what was read (`Again`, `Pieces`), field after field; mapping to bytes changes no number of a list.
-use Prim.Native.Nat.{ℕ, zero, suc, ◌+◌, ◌*◌, ◌-◌, ◌≤◌}
+use Prim.Native.Nat.{ℕ, zero, suc, ◌≤◌}
 use mathlib.Core.Path.{◌≡◌, refl, sym, ap, ◌∙◌, subst}
 use mathlib.Core.Bool.{Bool, true, false}
-use mathlib.Core.List.{List, [], ◌∷◌, map}
+use mathlib.Core.List.{List, ◌∷◌, map}
 use native.Mathlib.Omega.{arith}
 use lib.ListN.{length, length-map}
-use lib.IntN.{ℤ, pos}
+use lib.IntN.{ℤ}
 use lib.Dec.{eqb, leb}
 use borrow.Author.Tests.{eqb-true}
 use Rattle.scan.specs.Choice.{pick, Answer, shown, refused, Read, and_then, many}
 use Rattle.scan.proofs.Reading.{Gives, gives, lacks, shown_gives, pick_gives, then_gives}
 use Rattle.scan.proofs.Many.{after, pick_shown, shown_same, many_apart}
-use Rattle.moment.specs.Moment.{signed_of, millis_of, seconds_of}
+use Rattle.moment.specs.Moment.{signed_of, seconds_of}
 use Rattle.moment.proofs.Inverse.{millis_back}
 use Rattle.event.specs.Event.{Tag, Event}
 use Rattle.notepack.specs.declared.Part.{Part}

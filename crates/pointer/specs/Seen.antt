@@ -1,6 +1,6 @@
 -- What is shown of a form (rules 12.9.6 and 12.9.7): of either version what stands at its places, and of a v0 what the
 -- event has that it lays out. `proofs/Seen` shows both. Assumes nothing.
-use Rattle.std.specs.Prelude.{ℕ, ◌+◌, ◌-◌, ◌≤◌, ◌≡◌, List, map, length, pos}
+use Rattle.std.specs.Prelude.{ℕ, ◌+◌, ◌-◌, ◌≤◌, ◌≡◌, List, length, pos}
 use Rattle.scan.specs.Choice.{shown, and_then}
 use Rattle.moment.specs.Moment.{signed_of, millis_of}
 use Rattle.event.specs.Event.{Tag, Event}

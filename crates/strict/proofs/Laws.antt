@@ -1,6 +1,6 @@
 -- The strict question and the strict writer, over the walk of an input: what they answer and what is written.
 -- By how the input stands to its strict form, and by the event that is gone over again.
-use Prim.Native.Nat.{ℕ, ◌-◌, ◌≤◌, ◌<◌}
+use Prim.Native.Nat.{ℕ, ◌≤◌, ◌<◌}
 use mathlib.Core.Path.{◌≡◌, refl, sym, ap, ◌∙◌, subst}
 use mathlib.Core.Bool.{true, false, not}
 use mathlib.Core.List.{List, ◌∷◌, ◌++◌, append_assoc}
@@ -23,7 +23,7 @@ use Rattle.notepack.specs.declared.Walk.{Walk}
 use Rattle.notepack.specs.declared.Walk.TheVariants as walk-by
 use Rattle.notepack.specs.Strict.{pack_elements, pack_tag, pack_tags, pack}
 use Rattle.notepack.specs.Unpack.{unpack}
-use Rattle.notepack.specs.inner.Again.{texts_again, tags_again, event_again}
+use Rattle.notepack.specs.inner.Again.{texts_again, event_again}
 use Rattle.notepack.specs.inner.Answers.{Walked, walk, walk_at}
 use Rattle.notepack.proofs.Piece.{piece_decides}
 use Rattle.notepack.proofs.Lengths.{tag_form}

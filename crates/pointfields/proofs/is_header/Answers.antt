@@ -1,7 +1,6 @@
--- `is_header` has the tests of `isHeader`, in its order.
+-- `is_header` has the tests of `is_header`, in its order.
 use Rattle.pointer.specs.Pointer.{is_header}
 use borrow.Author.Tests.{eq-eqb, le-leb, lt-leb, ne_eqb}
-use borrow.Author.Rules.{rules}
 use Rattle.pointfields.proofs.is_header.Goals as goal
 
 pub returns-then-lower-ge72 : goal.returns-then-lower-ge72

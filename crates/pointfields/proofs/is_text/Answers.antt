@@ -1,7 +1,6 @@
 -- `is_text` has the test of `asked`.
 use Rattle.utf8.specs.inner.Width.{is_utf8}
 use borrow.Author.Tests.{eq-eqb, ne_eqb}
-use borrow.Author.Rules.{rules}
 use Rattle.pointfields.proofs.is_text.Goals as goal
 
 pub returns-then-version-eq1 : goal.returns-then-version-eq1

@@ -1,7 +1,6 @@
 -- `kind_at` has the tests of `kind_at`, in its order.
 use Rattle.pointer.specs.Pointer.{kind_at}
 use borrow.Author.Tests.{eq-eqb, le-leb, lt-leb, ne_eqb}
-use borrow.Author.Rules.{rules}
 use Rattle.pointfields.proofs.kind_at.Goals as goal
 
 pub returns-then-version-eq1 : goal.returns-then-version-eq1

@@ -1,5 +1,4 @@
 -- `named_at` is `named` of the word at a place.
-use borrow.Author.Rules.{rules}
 use Rattle.pointfields.proofs.named_at.Goals as goal
 
 pub returns : goal.returns

@@ -1,7 +1,6 @@
 -- `piece_at` has the tests of `piece_at`, in its order.
 use Rattle.pointer.specs.Pointer.{piece_at}
 use borrow.Author.Tests.{eq-eqb, le-leb, lt-leb, ne_eqb}
-use borrow.Author.Rules.{rules}
 use Rattle.pointfields.proofs.piece_at.Goals as goal
 
 pub returns-then-upper-lower : goal.returns-then-upper-lower

@@ -1,7 +1,6 @@
 -- `table_at` has the tests of `table_at`, in its order.
 use Rattle.pointer.specs.Pointer.{table_at}
 use borrow.Author.Tests.{eq-eqb, ne_eqb}
-use borrow.Author.Rules.{rules}
 use Rattle.pointfields.proofs.table_at.Goals as goal
 
 pub returns-in_default : goal.returns-in_default

@@ -1,7 +1,6 @@
--- `tag_table_at` has the tests of `tagTableAt`, in its order.
+-- `tag_table_at` has the tests of `tag_table_at`, in its order.
 use Rattle.pointer.specs.Pointer.{tag_table_at}
 use borrow.Author.Tests.{eq-eqb, le-leb, lt-leb, ne_eqb}
-use borrow.Author.Rules.{rules}
 use Rattle.pointfields.proofs.tag_table_at.Goals as goal
 
 pub returns-in_default : goal.returns-in_default

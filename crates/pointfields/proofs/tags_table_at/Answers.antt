@@ -1,7 +1,6 @@
--- `tags_table_at` has the tests of `tagsTableAt`, in its order.
+-- `tags_table_at` has the tests of `tags_table_at`, in its order.
 use Rattle.pointer.specs.Pointer.{tags_table_at}
 use borrow.Author.Tests.{eq-eqb, le-leb, lt-leb, ne_eqb}
-use borrow.Author.Rules.{rules}
 use Rattle.pointfields.proofs.tags_table_at.Goals as goal
 
 pub returns-in_default : goal.returns-in_default

@@ -1,6 +1,5 @@
--- `text_at` has the tests of `pointedText`, in its order.
+-- `text_at` has the tests of `pointed_text`, in its order.
 use Rattle.pointer.specs.Pointer.{pointed_text}
-use borrow.Author.Rules.{rules}
 use Rattle.pointfields.proofs.text_at.Goals as goal
 
 pub returns-in_default : goal.returns-in_default

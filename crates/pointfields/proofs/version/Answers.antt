@@ -1,7 +1,6 @@
 -- `version` has the tests of `header_at`, in its order.
 use borrow.Author.Tests.{le-leb, lt-leb}
 use Rattle.pointer.specs.Pointer.{header_at}
-use borrow.Author.Rules.{rules}
 use Rattle.pointfields.proofs.version.Goals as goal
 
 pub returns-then-is_header : goal.returns-then-is_header

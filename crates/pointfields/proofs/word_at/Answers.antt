@@ -1,6 +1,5 @@
 -- `word_at` is the number of eight bytes at a place.
 use Rattle.pointer.specs.Pointer.{word_at}
-use borrow.Author.Rules.{rules}
 use Rattle.pointfields.proofs.word_at.Goals as goal
 
 pub returns : goal.returns

@@ -1,8 +1,6 @@
-use mathlib.Core.Path.{◌≡◌, refl, sym, ap, ◌∙◌}
-use borrow.Author.Rules.{rules}
-use Rattle.buffer.proofs.Laws.{Left, start, part, done, also, same}
+use mathlib.Core.Path.{refl, sym, ap, ◌∙◌}
+use Rattle.buffer.proofs.Laws.{start, part, done, also, same}
 use Rattle.notepack.specs.Strict.{pack_elements}
-use Rattle.notepack.specs.inner.Again.{texts_again, texts_end}
 use Rattle.notepack.proofs.Again.{texts_turn, texts_left}
 use Rattle.strict.proofs.copy_elements.Goals as goal
 

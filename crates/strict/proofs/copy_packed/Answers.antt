@@ -2,7 +2,6 @@
 -- By the laws for the two ways; a slice's numbers are bytes.
 use mathlib.Core.Path.{refl}
 use native.Mathlib.Omega.{arith}
-use borrow.Author.Rules.{rules}
 use borrow.Author.Tests.{not-true}
 use Rattle.scan.proofs.AllLaws.{all_places}
 use Rattle.notepack.proofs.Again.{accepted}

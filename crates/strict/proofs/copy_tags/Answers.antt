@@ -1,9 +1,6 @@
 use mathlib.Core.Path.{ap}
-use Prim.Native.Nat.{◌-◌}
-use borrow.Author.Rules.{rules}
-use Rattle.buffer.proofs.Laws.{Left, start, part, done, also, same}
+use Rattle.buffer.proofs.Laws.{start, part, done, also, same}
 use Rattle.notepack.specs.Strict.{pack_tags}
-use Rattle.notepack.specs.inner.Again.{tags_again}
 use Rattle.notepack.proofs.Again.{tags_turn, tags_left_lem}
 use Rattle.strict.proofs.Laws.{tag_more}
 use Rattle.strict.proofs.copy_tags.Goals as goal

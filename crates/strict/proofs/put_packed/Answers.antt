@@ -1,5 +1,4 @@
 -- `put_packed` writes all in front of the tags, and then the tags.
-use borrow.Author.Rules.{rules}
 use Rattle.buffer.proofs.Laws.{then}
 use Rattle.strict.specs.inner.Copy.{packed_pieces}
 use Rattle.strict.proofs.put_packed.Goals as goal

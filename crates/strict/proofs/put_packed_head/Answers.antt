@@ -1,6 +1,5 @@
 -- `put_packed_head` writes all in front of the tags, piece by piece.
 -- Six writers in a row are one.
-use borrow.Author.Rules.{rules}
 use Rattle.buffer.proofs.Laws.{then}
 use Rattle.strict.specs.inner.Copy.{packed_head}
 use Rattle.strict.proofs.put_packed_head.Goals as goal

@@ -1,6 +1,5 @@
 -- `put_packed_part` writes the strict element that has a part's text.
 -- By the promises of `scan::part` and of the writer for each kind of part.
-use borrow.Author.Rules.{rules}
 use Rattle.notepack.proofs.Walking.{text_raw, text_plain}
 use Rattle.strict.proofs.put_packed_part.Goals as goal
 

@@ -1,6 +1,5 @@
 -- `put_packed_text` writes the strict element of its text, as bytes or as text.
--- By the law of `packElement` for each form; two writers in a row are one.
-use borrow.Author.Rules.{rules}
+-- By the law of `pack_element` for each form; two writers in a row are one.
 use Rattle.buffer.proofs.Laws.{then}
 use Rattle.notepack.proofs.Lengths.{element_bytes, element_text}
 use Rattle.strict.proofs.put_packed_text.Goals as goal

@@ -1,7 +1,6 @@
 -- `put_raw` writes the strict element whose text is the hex of its bytes: as those bytes, or 00 where there are none.
--- By the law of `packElement` for each; a slice's numbers are bytes.
+-- By the law of `pack_element` for each; a slice's numbers are bytes.
 use native.Mathlib.Omega.{arith}
-use borrow.Author.Rules.{rules}
 use Rattle.scan.proofs.AllLaws.{all_places}
 use Rattle.buffer.proofs.Laws.{then}
 use Rattle.notepack.proofs.Lengths.{element_hex, element_none}

@@ -1,5 +1,5 @@
 -- The meaning of the code's answers, case by case. Assumes nothing.
-use Rattle.std.specs.Prelude.{ℕ, Bool}
+use Rattle.std.specs.Prelude.{Bool}
 use Rattle.scan.specs.Choice.{Answer, shown}
 use Rattle.event.specs.inner.Told.{told}
 use Rattle.strict.specs.declared.StrictRead.{StrictRead}
