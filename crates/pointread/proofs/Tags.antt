@@ -7,7 +7,7 @@ use mathlib.Core.Bool.{true, false}
 use mathlib.Core.List.{List}
 use native.Mathlib.Omega.{arith}
 use lib.ListN.{length, get_or}
-use Rattle.scan.specs.Choice.{Answer, shown, refused, read, and_then, many}
+use Rattle.scan.specs.Choice.{Answer, shown, refused, read, many}
 use Rattle.scan.proofs.Step.{false_true}
 use Rattle.scan.proofs.Reading.{shown_gives}
 use Rattle.notepack.specs.declared.Part.{Part}

@@ -1,7 +1,6 @@
 -- `convert` answers as rules 18 and 12.1 say: 1 or 26 for the header, 26 for a v1, and else as a v0 is converted.
 -- By the laws of what a form of each version shows.
 use mathlib.Core.Path.{sym, ap, ◌∙◌}
-use borrow.Author.Rules.{rules}
 use Rattle.scan.specs.Choice.{shown}
 use Rattle.pointfields.specs.inner.Answers.{version_read}
 use Rattle.pointconvert.proofs.Converting.{no_header, not_first}

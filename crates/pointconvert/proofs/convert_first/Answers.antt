@@ -1,7 +1,6 @@
 -- `convert_first` answers as reading refuses, 28 for a split second, and else as writing its event does.
 -- By the laws of what a v0 shows, for each outcome of the reader and of the second.
 use mathlib.Core.Path.{sym, ap, ◌∙◌}
-use borrow.Author.Rules.{rules}
 use Rattle.moment.specs.Moment.{seconds_read}
 use Rattle.pointread.specs.inner.Answers.{outline_read}
 use Rattle.pointconvert.proofs.Converting.{no_form, form_holds, few_tags, event_shown, event_split}

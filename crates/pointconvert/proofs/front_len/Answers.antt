@@ -1,7 +1,6 @@
 -- `front_len` is the length of all in front of the tags: 128 bytes, four varints and the content.
 -- By the law of its length and what the varints measure.
 use native.Mathlib.Omega.{arith}
-use borrow.Author.Rules.{rules}
 use Rattle.pointconvert.proofs.Event.{front_length}
 use Rattle.pointconvert.proofs.front_len.Goals as goal
 

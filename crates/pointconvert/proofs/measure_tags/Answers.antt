@@ -1,13 +1,12 @@
-use Prim.Native.Nat.{◌+◌, ◌*◌, ◌/◌, ◌≤◌}
+use Prim.Native.Nat.{◌/◌}
 use mathlib.Core.Path.{ap}
 use native.Mathlib.Omega.{arith}
 use lib.ListN.{length}
-use borrow.Author.Rules.{rules}
 use Rattle.scan.proofs.AllLaws.{all_places}
 use Rattle.notepack.specs.Strict.{pack_elements, pack_tags}
-use Rattle.pointer.specs.inner.Again.{texts_from, tags_from}
+use Rattle.pointer.specs.inner.Again.{texts_from}
 use Rattle.pointer.proofs.Again.{tags_turn, tags_left_lem}
-use Rattle.pointconvert.proofs.Turns.{place_small, few_named, tags_more, Gathered, nothing_gathered, all_gathered, enough_gathered, some_gathered}
+use Rattle.pointconvert.proofs.Turns.{place_small, few_named, tags_more, nothing_gathered, all_gathered, enough_gathered, some_gathered}
 use Rattle.pointconvert.proofs.measure_tags.Goals as goal
 
 pub loop-left-init : goal.loop-left-init

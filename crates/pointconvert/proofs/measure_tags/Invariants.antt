@@ -1,16 +1,11 @@
 -- `measure_tags` adds the lengths of the tags that the table names, and leaves early once they pass 65,536.
 -- The invariant: what was gathered and the tags left make the whole sum, unless it passed the limit; the places stay
 -- small. Each turn is one law.
-use Prim.Native.Nat.{◌+◌, ◌*◌, ◌/◌, ◌≤◌}
-use mathlib.Core.Path.{ap}
-use native.Mathlib.Omega.{arith}
+use Prim.Native.Nat.{◌+◌, ◌*◌, ◌≤◌}
 use lib.ListN.{length}
-use borrow.Author.Rules.{rules}
-use Rattle.scan.proofs.AllLaws.{all_places}
-use Rattle.notepack.specs.Strict.{pack_elements, pack_tags}
-use Rattle.pointer.specs.inner.Again.{texts_from, tags_from}
-use Rattle.pointer.proofs.Again.{tags_turn, tags_left_lem}
-use Rattle.pointconvert.proofs.Turns.{place_small, few_named, tags_more, Gathered, nothing_gathered, all_gathered, enough_gathered, some_gathered}
+use Rattle.notepack.specs.Strict.{pack_tags}
+use Rattle.pointer.specs.inner.Again.{tags_from}
+use Rattle.pointconvert.proofs.Turns.{Gathered}
 use Rattle.pointconvert.proofs.measure_tags.Given as goal
 
 abbrev pub invariant-loop-left : goal.invariant-loop-left

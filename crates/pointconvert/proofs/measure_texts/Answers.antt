@@ -1,12 +1,9 @@
-use Prim.Native.Nat.{◌+◌, ◌*◌, ◌≤◌}
 use mathlib.Core.Path.{ap, ◌∙◌}
 use native.Mathlib.Omega.{arith}
 use lib.ListN.{length}
-use borrow.Author.Rules.{rules}
 use Rattle.notepack.specs.Strict.{pack_element, pack_elements}
-use Rattle.pointer.specs.inner.Again.{texts_from}
 use Rattle.pointer.proofs.Again.{texts_turn, texts_left}
-use Rattle.pointconvert.proofs.Turns.{texts_more, Gathered, nothing_gathered, all_gathered, enough_gathered, one_gathered, text_size}
+use Rattle.pointconvert.proofs.Turns.{texts_more, nothing_gathered, all_gathered, enough_gathered, one_gathered, text_size}
 use Rattle.pointconvert.proofs.measure_texts.Goals as goal
 
 pub loop-left-init : goal.loop-left-init

@@ -1,14 +1,10 @@
 -- `measure_texts` adds the lengths of the texts that the table names, and leaves early once they pass 65,536.
 -- The invariant: what was gathered and the texts left make the whole sum; the places stay small. Each turn is one law.
 use Prim.Native.Nat.{◌+◌, ◌*◌, ◌≤◌}
-use mathlib.Core.Path.{ap, ◌∙◌}
-use native.Mathlib.Omega.{arith}
 use lib.ListN.{length}
-use borrow.Author.Rules.{rules}
-use Rattle.notepack.specs.Strict.{pack_element, pack_elements}
+use Rattle.notepack.specs.Strict.{pack_elements}
 use Rattle.pointer.specs.inner.Again.{texts_from}
-use Rattle.pointer.proofs.Again.{texts_turn, texts_left}
-use Rattle.pointconvert.proofs.Turns.{texts_more, Gathered, nothing_gathered, all_gathered, enough_gathered, one_gathered, text_size}
+use Rattle.pointconvert.proofs.Turns.{Gathered}
 use Rattle.pointconvert.proofs.measure_texts.Given as goal
 
 abbrev pub invariant-loop-left : goal.invariant-loop-left

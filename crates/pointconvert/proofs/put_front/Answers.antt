@@ -1,6 +1,5 @@
 -- `put_front` writes all in front of the tags, piece by piece. Eight writers in a row are one.
 use native.Mathlib.Omega.{arith}
-use borrow.Author.Rules.{rules}
 use Rattle.buffer.proofs.Laws.{then, kept}
 use Rattle.pointconvert.specs.inner.Again.{packed_front}
 use Rattle.pointconvert.proofs.put_front.Goals as goal

@@ -1,11 +1,9 @@
-use Prim.Native.Nat.{◌+◌, ◌*◌, ◌/◌, ◌≤◌}
+use Prim.Native.Nat.{◌/◌}
 use mathlib.Core.Path.{ap}
 use native.Mathlib.Omega.{arith}
-use borrow.Author.Rules.{rules}
 use Rattle.scan.proofs.AllLaws.{all_places}
-use Rattle.buffer.proofs.Laws.{Left, start, part, done, also, same}
+use Rattle.buffer.proofs.Laws.{start, part, done, also, same}
 use Rattle.notepack.specs.Strict.{pack_tags}
-use Rattle.pointer.specs.inner.Again.{tags_from}
 use Rattle.pointer.proofs.Again.{tags_turn, tags_left_lem}
 use Rattle.pointconvert.proofs.Turns.{place_small, few_named, tag_more}
 use Rattle.pointconvert.proofs.put_tags.Goals as goal

@@ -1,15 +1,9 @@
 -- `put_tags` writes the strict tags that the table names. The invariant: what is left to write is that of the tags
 -- left; the places stay small. Each turn is one law: the count, the elements, and the tags behind.
-use Prim.Native.Nat.{◌+◌, ◌*◌, ◌/◌, ◌≤◌}
-use mathlib.Core.Path.{ap}
-use native.Mathlib.Omega.{arith}
-use borrow.Author.Rules.{rules}
-use Rattle.scan.proofs.AllLaws.{all_places}
-use Rattle.buffer.proofs.Laws.{Left, start, part, done, also, same}
+use Prim.Native.Nat.{◌+◌, ◌*◌, ◌≤◌}
+use Rattle.buffer.proofs.Laws.{Left}
 use Rattle.notepack.specs.Strict.{pack_tags}
 use Rattle.pointer.specs.inner.Again.{tags_from}
-use Rattle.pointer.proofs.Again.{tags_turn, tags_left_lem}
-use Rattle.pointconvert.proofs.Turns.{place_small, few_named, tag_more}
 use Rattle.pointconvert.proofs.put_tags.Given as goal
 
 abbrev pub invariant-loop-left : goal.invariant-loop-left

@@ -1,10 +1,7 @@
-use Prim.Native.Nat.{◌+◌, ◌*◌, ◌≤◌}
 use mathlib.Core.Path.{ap}
 use native.Mathlib.Omega.{arith}
-use borrow.Author.Rules.{rules}
-use Rattle.buffer.proofs.Laws.{Left, start, part, done, also, same}
+use Rattle.buffer.proofs.Laws.{start, part, done, also, same}
 use Rattle.notepack.specs.Strict.{pack_elements}
-use Rattle.pointer.specs.inner.Again.{texts_from}
 use Rattle.pointer.proofs.Again.{texts_turn, texts_left}
 use Rattle.pointconvert.proofs.put_texts.Goals as goal
 

@@ -1,13 +1,9 @@
 -- `put_texts` writes the strict elements of the texts that the table names. The invariant: what is left to write is
 -- that of the texts left; the places stay small. Each turn is one law.
 use Prim.Native.Nat.{◌+◌, ◌*◌, ◌≤◌}
-use mathlib.Core.Path.{ap}
-use native.Mathlib.Omega.{arith}
-use borrow.Author.Rules.{rules}
-use Rattle.buffer.proofs.Laws.{Left, start, part, done, also, same}
+use Rattle.buffer.proofs.Laws.{Left}
 use Rattle.notepack.specs.Strict.{pack_elements}
 use Rattle.pointer.specs.inner.Again.{texts_from}
-use Rattle.pointer.proofs.Again.{texts_turn, texts_left}
 use Rattle.pointconvert.proofs.put_texts.Given as goal
 
 abbrev pub invariant-loop-left : goal.invariant-loop-left

@@ -1,7 +1,6 @@
 -- `write_event` answers 29, 11 with the length needed, or the length written; and leaves the buffer so.
 -- By the laws of the answer for each outcome of the measure; two writers in a row are one.
 use native.Mathlib.Omega.{arith}
-use borrow.Author.Rules.{rules}
 use Rattle.scan.proofs.AllLaws.{all_places}
 use Rattle.buffer.proofs.Laws.{then, kept}
 use Rattle.pointconvert.proofs.Turns.{place_small}

@@ -1,6 +1,5 @@
 -- `check_shared` lends two tables with an entry for each word of 65,536 bytes.
 use native.Mathlib.Omega.{arith}
-use borrow.Author.Rules.{rules}
 use Rattle.pointread.proofs.Forms.{header_short}
 use Rattle.pointread.proofs.check_shared.Goals as goal
 

@@ -1,10 +1,6 @@
-use Prim.Native.Nat.{◌+◌, ◌*◌, ◌≤◌}
-use mathlib.Core.Path.{◌≡◌, refl, sym, ap, ◌∙◌}
+use mathlib.Core.Path.{refl, sym, ap, ◌∙◌}
 use native.Mathlib.Omega.{arith}
-use lib.ListN.{length}
-use borrow.Author.Rules.{rules}
 use Rattle.notepack.specs.inner.Answers.{element_read}
-use Rattle.pointread.specs.inner.Walk.{tags_fault}
 use Rattle.pointread.proofs.Turns.{tags_more, tags_bad, tags_done}
 use Rattle.pointread.proofs.check_tags.Goals as goal
 

@@ -1,13 +1,9 @@
 -- `check_tags`: the tags from the start on are as good as those from here on.
--- The turns are the laws `tags-more`, `tags-bad` and `tags-done`.
+-- The turns are the laws `tags_more`, `tags_bad` and `tags_done`.
 use Prim.Native.Nat.{◌+◌, ◌*◌, ◌≤◌}
-use mathlib.Core.Path.{◌≡◌, refl, sym, ap, ◌∙◌}
-use native.Mathlib.Omega.{arith}
+use mathlib.Core.Path.{◌≡◌}
 use lib.ListN.{length}
-use borrow.Author.Rules.{rules}
-use Rattle.notepack.specs.inner.Answers.{element_read}
 use Rattle.pointread.specs.inner.Walk.{tags_fault}
-use Rattle.pointread.proofs.Turns.{tags_more, tags_bad, tags_done}
 use Rattle.pointread.proofs.check_tags.Given as goal
 
 abbrev pub invariant-loop-left : goal.invariant-loop-left

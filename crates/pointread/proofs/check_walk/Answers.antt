@@ -1,6 +1,5 @@
 -- `check_walk`: what the plain walk says is so; where it says nothing the tables do.
 use mathlib.Core.Path.{sym}
-use borrow.Author.Rules.{rules}
 use Rattle.pointread.proofs.Forms.{header_long}
 use Rattle.pointread.proofs.check_walk.Goals as goal
 

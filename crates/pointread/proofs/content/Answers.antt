@@ -1,7 +1,6 @@
 -- `content` hands back the content's bytes, or none where the reader refuses.
 -- The content is the outline's; `scan::part` hands back its bytes.
 use mathlib.Core.Path.{sym, ap, ◌∙◌}
-use borrow.Author.Rules.{rules}
 use Rattle.scan.specs.Choice.{shown}
 use Rattle.pointread.specs.inner.Answers.{outline_read}
 use Rattle.pointread.proofs.Asking.{unread, content_outline}

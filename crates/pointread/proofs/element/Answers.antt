@@ -1,6 +1,5 @@
 -- `element` hands back a text's bytes, or none where it is refused.
 -- By what `find_element` found; `scan::part` hands back its bytes.
-use borrow.Author.Rules.{rules}
 use Rattle.pointread.proofs.element.Goals as goal
 
 pub returns-in-Found : goal.returns-in-Found

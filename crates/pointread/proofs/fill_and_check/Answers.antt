@@ -1,6 +1,5 @@
 -- `fill_and_check` fills both tables, then goes through the tags.
 use native.Mathlib.Omega.{arith}
-use borrow.Author.Rules.{rules}
 use Rattle.pointread.proofs.Forms.{header_long, header_short}
 use Rattle.pointread.proofs.fill_and_check.Goals as goal
 

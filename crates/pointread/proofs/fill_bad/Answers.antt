@@ -1,9 +1,6 @@
-use Prim.Native.Nat.{◌-◌, ◌≤◌}
 use mathlib.Core.Path.{◌≡◌, refl}
 use native.Mathlib.Omega.{arith}
-use lib.ListN.{length}
 use borrow.Author.Rules.{rules}
-use Rattle.pointread.specs.inner.Tables.{bad_from, Filled}
 use Rattle.pointread.proofs.Bad.{fill_none, none_bad, bad_before, fill_more}
 use Rattle.pointread.proofs.fill_bad.Goals as goal
 

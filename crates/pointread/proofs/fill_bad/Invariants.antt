@@ -1,12 +1,9 @@
 -- `fill_bad` goes backwards. The invariant: the table tells the first bad word from each word from i on.
--- A turn is `bad-before` and `fill_more`.
+-- A turn is `bad_before` and `fill_more`.
 use Prim.Native.Nat.{◌-◌, ◌≤◌}
-use mathlib.Core.Path.{◌≡◌, refl}
-use native.Mathlib.Omega.{arith}
+use mathlib.Core.Path.{◌≡◌}
 use lib.ListN.{length}
-use borrow.Author.Rules.{rules}
 use Rattle.pointread.specs.inner.Tables.{bad_from, Filled}
-use Rattle.pointread.proofs.Bad.{fill_none, none_bad, bad_before, fill_more}
 use Rattle.pointread.proofs.fill_bad.Given as goal
 
 abbrev pub invariant-loop-i : goal.invariant-loop-i

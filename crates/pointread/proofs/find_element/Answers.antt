@@ -2,7 +2,6 @@
 -- By the laws of tag i's table; the place of a pointer is small, since a word has 64 bits.
 use mathlib.Core.Path.{sym, ap, ◌∙◌}
 use native.Mathlib.Omega.{arith}
-use borrow.Author.Rules.{rules}
 use Rattle.scan.proofs.AllLaws.{all_places}
 use Rattle.notepack.specs.inner.Answers.{element_read}
 use Rattle.pointread.proofs.Elements.{element_table, element_none, element_refused, place_small}

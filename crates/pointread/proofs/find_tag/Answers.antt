@@ -1,8 +1,7 @@
 -- `find_tag` reads the form, then the pointer to tag i.
--- By the laws `table-found`, `table_none` and `unread`.
+-- By the laws `table_found`, `table_none` and `unread`.
 use mathlib.Core.Path.{sym, ap, ◌∙◌}
 use native.Mathlib.Omega.{arith}
-use borrow.Author.Rules.{rules}
 use Rattle.pointread.specs.inner.Answers.{outline_read}
 use Rattle.pointread.specs.inner.Walk.{tag_table}
 use Rattle.pointread.proofs.Asking.{unread}

@@ -1,6 +1,5 @@
--- `front` has the reads of `frontAt`, in its order.
+-- `front` has the reads of `front_at`, in its order.
 use Rattle.pointread.specs.inner.Walk.{front_at}
-use borrow.Author.Rules.{rules}
 use Rattle.pointread.proofs.front.Goals as goal
 
 pub returns-in-Refused : goal.returns-in-Refused

@@ -1,7 +1,6 @@
 -- `is_good` finds the piece, then asks of it what is asked of a text.
--- By the laws `good-piece` and `bad-piece`.
+-- By the laws `good_piece` and `bad_piece`.
 use mathlib.Core.Path.{sym, ap, ◌∙◌}
-use borrow.Author.Rules.{rules}
 use Rattle.notepack.specs.inner.Answers.{element_read}
 use Rattle.pointread.proofs.Texts.{piece_lies, good_piece, bad_piece}
 use Rattle.pointread.proofs.is_good.Goals as goal

@@ -1,8 +1,7 @@
 -- `is_text`: in a v0 the entry of the text's first word decides, and no entry where the text is empty.
--- By the laws `empty-text` and `end-decides`.
+-- By the laws `empty_text` and `end_decides`.
 use mathlib.Core.Path.{sym}
 use native.Mathlib.Omega.{arith}
-use borrow.Author.Rules.{rules}
 use borrow.Author.Tests.{eq-eqb}
 use Rattle.pointread.proofs.Texts.{entry_there, end_decides, empty_text}
 use Rattle.pointread.proofs.is_text.Goals as goal

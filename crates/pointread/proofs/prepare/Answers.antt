@@ -1,7 +1,6 @@
 -- `prepare` fills the table for a v0, and leaves it for a v1, which asks no text.
 use mathlib.Core.Path.{ap, ◌∙◌}
 use lib.ListN.{length}
-use borrow.Author.Rules.{rules}
 use Rattle.utf8stops.proofs.Table.{table_length}
 use Rattle.pointread.proofs.Texts.{stops_filled, stops_none}
 use Rattle.pointread.proofs.prepare.Goals as goal

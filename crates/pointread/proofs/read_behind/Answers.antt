@@ -1,7 +1,6 @@
 -- `read_behind`: the fields in front of the tags, then the tags.
 -- Each way out is a law of `Forms`, by what its calls answered.
 use mathlib.Core.Path.{sym, ap, ◌∙◌}
-use borrow.Author.Rules.{rules}
 use Rattle.pointread.specs.inner.Answers.{outline_read, checked}
 use Rattle.pointread.proofs.Forms.{walk_refused, walk_bad, walk_fine, tags_fit_lem}
 use Rattle.pointread.proofs.read_behind.Goals as goal

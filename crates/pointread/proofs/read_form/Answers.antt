@@ -1,6 +1,5 @@
 -- `read_form`: the header, then the form behind it.
 use mathlib.Core.Path.{sym, ap, ◌∙◌}
-use borrow.Author.Rules.{rules}
 use Rattle.pointer.specs.Pointer.{form_at}
 use Rattle.pointfields.specs.inner.Answers.{version_read}
 use Rattle.pointread.proofs.read_form.Goals as goal

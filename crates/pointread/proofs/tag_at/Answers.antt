@@ -1,8 +1,7 @@
 -- `tag_at`: the table of the tag, and the first bad word from its first word on decides.
--- By the laws `tag-none`, `tag-bad` and `tag-fine`.
+-- By the laws `tag_none`, `tag_bad` and `tag_fine`.
 use mathlib.Core.Path.{sym, ap, ◌∙◌}
 use native.Mathlib.Omega.{arith}
-use borrow.Author.Rules.{rules}
 use Rattle.notepack.specs.inner.Answers.{element_read}
 use Rattle.pointread.specs.inner.Walk.{pointed_tag}
 use Rattle.pointread.proofs.Tags.{tag_lies, tag_none, entry_told, tag_fine, tag_bad}

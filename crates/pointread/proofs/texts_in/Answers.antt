@@ -1,6 +1,5 @@
 -- `texts_in` tells how many pointers the table of tag i has, or the refusal.
 use mathlib.Core.Path.{sym, ap, ◌∙◌}
-use borrow.Author.Rules.{rules}
 use Rattle.notepack.specs.inner.Answers.{element_read}
 use Rattle.pointread.proofs.Elements.{texts_table, texts_refused}
 use Rattle.pointread.proofs.texts_in.Goals as goal

@@ -1,9 +1,8 @@
 -- `walk_tag`: the table of the tag, then its texts.
--- By the laws `tag-texts` and `tag-untabled`.
+-- By the laws `tag_texts_lem` and `tag_untabled`.
 use Prim.{tt}
 use mathlib.Core.Path.{sym, ap, ◌∙◌}
 use native.Mathlib.Omega.{arith}
-use borrow.Author.Rules.{rules}
 use Rattle.notepack.specs.inner.Answers.{element_read}
 use Rattle.pointread.proofs.Tags.{tag_lies}
 use Rattle.pointread.proofs.Turns.{tag_texts_lem, tag_untabled}

@@ -1,10 +1,6 @@
 use Prim.{tt}
-use Prim.Native.Nat.{◌+◌, ◌*◌, ◌≤◌}
-use mathlib.Core.Path.{◌≡◌, refl}
+use mathlib.Core.Path.{refl}
 use native.Mathlib.Omega.{arith}
-use lib.ListN.{length}
-use borrow.Author.Rules.{rules}
-use Rattle.pointread.specs.inner.Walk.{tags_fault}
 use Rattle.pointread.proofs.Turns.{fault_more, fault_bad, tags_done}
 use Rattle.pointread.proofs.walk_tags.Goals as goal
 

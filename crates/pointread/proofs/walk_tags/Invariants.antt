@@ -1,13 +1,9 @@
 -- `walk_tags`: the tags from the start on are as good as those from here on.
--- The turns are the laws `fault-more`, `fault-bad` and `tags-done`.
-use Prim.{tt}
+-- The turns are the laws `fault_more`, `fault_bad` and `tags_done`.
 use Prim.Native.Nat.{◌+◌, ◌*◌, ◌≤◌}
-use mathlib.Core.Path.{◌≡◌, refl}
-use native.Mathlib.Omega.{arith}
+use mathlib.Core.Path.{◌≡◌}
 use lib.ListN.{length}
-use borrow.Author.Rules.{rules}
 use Rattle.pointread.specs.inner.Walk.{tags_fault}
-use Rattle.pointread.proofs.Turns.{fault_more, fault_bad, tags_done}
 use Rattle.pointread.proofs.walk_tags.Given as goal
 
 abbrev pub invariant-loop-left : goal.invariant-loop-left

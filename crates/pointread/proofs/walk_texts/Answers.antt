@@ -1,11 +1,7 @@
 use Prim.{tt}
-use Prim.Native.Nat.{◌+◌, ◌*◌, ◌≤◌}
-use mathlib.Core.Path.{◌≡◌, refl, sym, ap, ◌∙◌}
+use mathlib.Core.Path.{refl, sym, ap, ◌∙◌}
 use native.Mathlib.Omega.{arith}
-use lib.ListN.{length}
-use borrow.Author.Rules.{rules}
 use Rattle.notepack.specs.inner.Answers.{element_read}
-use Rattle.pointread.specs.inner.Walk.{texts_fault}
 use Rattle.pointread.proofs.Turns.{texts_more, texts_bad, texts_done}
 use Rattle.pointread.proofs.walk_texts.Goals as goal
 

@@ -1,14 +1,9 @@
 -- `walk_texts`: the texts from the start on are as good as those from here on.
--- The turns are the laws `texts-more`, `texts-bad` and `texts-done`.
-use Prim.{tt}
+-- The turns are the laws `texts_more`, `texts_bad` and `texts_done`.
 use Prim.Native.Nat.{◌+◌, ◌*◌, ◌≤◌}
-use mathlib.Core.Path.{◌≡◌, refl, sym, ap, ◌∙◌}
-use native.Mathlib.Omega.{arith}
+use mathlib.Core.Path.{◌≡◌}
 use lib.ListN.{length}
-use borrow.Author.Rules.{rules}
-use Rattle.notepack.specs.inner.Answers.{element_read}
 use Rattle.pointread.specs.inner.Walk.{texts_fault}
-use Rattle.pointread.proofs.Turns.{texts_more, texts_bad, texts_done}
 use Rattle.pointread.proofs.walk_texts.Given as goal
 
 abbrev pub invariant-loop-left : goal.invariant-loop-left
