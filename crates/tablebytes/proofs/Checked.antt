@@ -1,22 +1,20 @@
 -- A table is checked before what is offered to it: a bad one answers 34 whatever is offered, and a good one hands on
 -- the refusal of the event, or answers an event with an outcome, 22 or 23.
 -- By the entries, which are told or refused with 34.
-use Prim.{Unit, tt}
+use Prim.{tt}
 use Prim.Native.Nat.{ℕ}
-use mathlib.Core.Path.{◌≡◌, refl, sym, ap, ◌∙◌}
+use mathlib.Core.Path.{◌≡◌, refl}
 use mathlib.Core.Bool.{Bool, true, false}
 use mathlib.Core.List.{List, []}
 use lib.ListN.{length}
 use lib.Dec.{eqb}
-use Rattle.scan.specs.Choice.{pick, Answer, shown, refused, and_then}
+use Rattle.scan.specs.Choice.{Answer, shown, refused}
 use Rattle.event.specs.Event.{Event}
 use Rattle.event.specs.inner.Tells.{value}
-use Rattle.slots.specs.declared.Slot.{Slot}
 use Rattle.slotbytes.specs.SlotBytes.{slots_in}
-use Rattle.archive.specs.declared.Outcome.{Outcome}
-use Rattle.archive.specs.Archive.{Entry, offered}
+use Rattle.archive.specs.Archive.{Entry}
 use Rattle.table.specs.Table.{entries_of}
-use Rattle.table.specs.Offer.{offered_event, Offer, offer_of}
+use Rattle.table.specs.Offer.{offered_event, offer_of}
 use Rattle.tablebytes.specs.Entries.{table_offer_of}
 use Rattle.tablebytes.specs.inner.Telling.{OfferTells}
 use Rattle.tablebytes.proofs.Telling.{At34, fine, at, entries_34, table_offer_tells}

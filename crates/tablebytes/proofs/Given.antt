@@ -11,11 +11,11 @@ use Rattle.event.specs.Event.{Event}
 use Rattle.notepack.specs.Unpack.{unpack}
 use Rattle.versioned.specs.Versioned.{start_of, given}
 use Rattle.versioned.proofs.Starting.{clash, given_shown}
-use Rattle.table.specs.Offer.{Offer, cells_after}
-use Rattle.tablebytes.specs.Entries.{table_offer_of, table_offer, bytes_after}
+use Rattle.table.specs.Offer.{Offer}
+use Rattle.tablebytes.specs.Entries.{table_offer_of, table_offer}
 use Rattle.tablebytes.specs.Runs.{Lent, after, Ran}
 use Rattle.tablebytes.specs.Runs as runs
-use Rattle.tablebytes.specs.Given.{Said, after_given, RanGiven, stop, next, ShowsOfferedGiven, RunsAsBare}
+use Rattle.tablebytes.specs.Given.{Said, after_given, stop, next, ShowsOfferedGiven, RunsAsBare}
 use Rattle.tablebytes.proofs.Checked.{Checked, bad, good, checked}
 use Rattle.tablebytes.proofs.Runs.{shows_offered}
 

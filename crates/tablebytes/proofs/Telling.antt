@@ -3,7 +3,7 @@
 -- Step by step along the definitions.
 use Prim.{Unit}
 use Prim.Native.Nat.{ℕ, zero, suc, ◌+◌, ◌<◌}
-use mathlib.Core.Path.{◌≡◌, refl, sym, ap, ◌∙◌}
+use mathlib.Core.Path.{◌≡◌, refl, ap}
 use mathlib.Core.Bool.{Bool, true, false}
 use mathlib.Core.List.{List, [], ◌∷◌, map}
 use native.Mathlib.Omega.{arith}
@@ -13,7 +13,7 @@ use borrow.Author.Tests.{eqb-true}
 use Rattle.scan.specs.Choice.{pick, Answer, shown, refused, and_then}
 use Rattle.scan.proofs.Step.{pick_by}
 use Rattle.event.specs.Event.{Event}
-use Rattle.event.specs.inner.Tells.{Tells, value, refusal}
+use Rattle.event.specs.inner.Tells.{Tells, refusal}
 use Rattle.notepack.specs.Strict.{pack}
 use Rattle.notepack.specs.Views.{nth}
 use Rattle.slots.specs.declared.Slot.{Slot}
