@@ -1,6 +1,5 @@
 -- `data_len` measures the data: the content, the table of tags, the tags.
 use native.Mathlib.Omega.{arith}
-use borrow.Author.Rules.{rules}
 use Rattle.pointwrite.proofs.Whole.{data_parts}
 use Rattle.pointwrite.proofs.data_len.Goals as goal
 

@@ -1,7 +1,6 @@
 -- `filling_len` tells how many zeros a filling has: at most 7.
 use mathlib.Core.Path.{sym}
 use native.Mathlib.Omega.{arith}
-use borrow.Author.Rules.{rules}
 use Rattle.pointer.proofs.Filled.{length_filling}
 use Rattle.pointwrite.proofs.filling_len.Goals as goal
 

@@ -1,6 +1,5 @@
 -- `measure_tag` measures the tag at a place: its table, then its texts. It has at most 255 texts.
 use native.Mathlib.Omega.{arith}
-use borrow.Author.Rules.{rules}
 use Rattle.scan.proofs.AllLaws.{all_places}
 use Rattle.notepack.proofs.Again.{count_few}
 use Rattle.pointwrite.proofs.Turns.{tag_table_lem, tag_sized, tag_ends}

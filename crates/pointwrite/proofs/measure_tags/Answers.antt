@@ -1,10 +1,6 @@
-use Prim.Native.Nat.{◌+◌, ◌*◌, ◌≤◌}
-use mathlib.Core.Path.{◌≡◌, refl}
+use mathlib.Core.Path.{refl}
 use native.Mathlib.Omega.{arith}
-use borrow.Author.Rules.{rules}
-use Rattle.notepack.specs.inner.Again.{tags_again}
 use Rattle.notepack.proofs.Again.{tags_left_lem}
-use Rattle.pointwrite.specs.inner.Pieces.{tags_size}
 use Rattle.pointwrite.proofs.Turns.{tag_turn, sizes_more, sizes_none}
 use Rattle.pointwrite.proofs.measure_tags.Goals as goal
 

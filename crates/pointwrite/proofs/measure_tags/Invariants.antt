@@ -1,13 +1,9 @@
 -- `measure_tags` measures the tags as it goes over them again. The invariant: what was gathered and what the tags left
 -- take is what all take; each takes at most 33,427,185 bytes. Each turn is one law.
 use Prim.Native.Nat.{◌+◌, ◌*◌, ◌≤◌}
-use mathlib.Core.Path.{◌≡◌, refl}
-use native.Mathlib.Omega.{arith}
-use borrow.Author.Rules.{rules}
+use mathlib.Core.Path.{◌≡◌}
 use Rattle.notepack.specs.inner.Again.{tags_again}
-use Rattle.notepack.proofs.Again.{tags_left_lem}
 use Rattle.pointwrite.specs.inner.Pieces.{tags_size}
-use Rattle.pointwrite.proofs.Turns.{tag_turn, sizes_more, sizes_none}
 use Rattle.pointwrite.proofs.measure_tags.Given as goal
 
 abbrev pub invariant-loop-left : goal.invariant-loop-left

@@ -1,11 +1,6 @@
-use Prim.Native.Nat.{◌+◌, ◌*◌, ◌≤◌}
-use mathlib.Core.Path.{◌≡◌, refl, sym, ◌∙◌}
+use mathlib.Core.Path.{refl, sym, ◌∙◌}
 use native.Mathlib.Omega.{arith}
-use lib.ListN.{length}
-use borrow.Author.Rules.{rules}
-use Rattle.notepack.specs.inner.Again.{texts_again, texts_end}
 use Rattle.notepack.proofs.Again.{texts_turn, texts_left}
-use Rattle.pointer.specs.Written.{padded_texts}
 use Rattle.pointwrite.proofs.Turns.{texts_length_lem, texts_none}
 use Rattle.pointwrite.proofs.measure_texts.Goals as goal
 

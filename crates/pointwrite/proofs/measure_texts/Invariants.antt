@@ -1,14 +1,10 @@
 -- `measure_texts` measures the texts as it goes over them again. The invariant: what was gathered and what the texts
 -- left take is what all take; they end where all end; each takes at most 131,079 bytes. Each turn is one law.
 use Prim.Native.Nat.{◌+◌, ◌*◌, ◌≤◌}
-use mathlib.Core.Path.{◌≡◌, refl, sym, ◌∙◌}
-use native.Mathlib.Omega.{arith}
+use mathlib.Core.Path.{◌≡◌}
 use lib.ListN.{length}
-use borrow.Author.Rules.{rules}
 use Rattle.notepack.specs.inner.Again.{texts_again, texts_end}
-use Rattle.notepack.proofs.Again.{texts_turn, texts_left}
 use Rattle.pointer.specs.Written.{padded_texts}
-use Rattle.pointwrite.proofs.Turns.{texts_length_lem, texts_none}
 use Rattle.pointwrite.proofs.measure_texts.Given as goal
 
 abbrev pub invariant-loop-left : goal.invariant-loop-left

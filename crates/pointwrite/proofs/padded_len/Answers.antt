@@ -1,7 +1,6 @@
 -- `padded_len` tells the length of a part's text with its filling: the text of an input of 65,536 bytes has at most
 -- twice as many.
 use native.Mathlib.Omega.{arith}
-use borrow.Author.Rules.{rules}
 use Rattle.notepack.specs.Unpack.{text_of}
 use Rattle.pointwrite.proofs.Lengths.{filling_padded}
 use Rattle.pointwrite.proofs.padded_len.Goals as goal

@@ -1,6 +1,5 @@
 -- `put_data` writes the content with its filling, the table of tags, and the tags. Three writers in a row are one.
 use native.Mathlib.Omega.{arith}
-use borrow.Author.Rules.{rules}
 use Rattle.buffer.proofs.Laws.{then}
 use Rattle.pointwrite.proofs.Whole.{data_parts, data_wrote}
 use Rattle.pointwrite.proofs.put_data.Goals as goal

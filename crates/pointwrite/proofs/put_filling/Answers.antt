@@ -1,5 +1,4 @@
 -- `put_filling` writes the zeros behind n bytes: so many lowest bytes of 0.
-use borrow.Author.Rules.{rules}
 use Rattle.pointwrite.proofs.Lengths.{filling_zeros}
 use Rattle.pointwrite.proofs.put_filling.Goals as goal
 

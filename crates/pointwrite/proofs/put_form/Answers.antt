@@ -1,5 +1,4 @@
 -- `put_form` writes the whole form: all in front of the data, the data, id and sig. Four writers in a row are one.
-use borrow.Author.Rules.{rules}
 use Rattle.buffer.proofs.Laws.{then}
 use Rattle.pointwrite.proofs.Whole.{form_wrote}
 use Rattle.pointwrite.proofs.put_form.Goals as goal

@@ -1,6 +1,5 @@
 -- `put_front` writes all in front of the data, piece by piece. Six writers in a row are one.
 use native.Mathlib.Omega.{arith}
-use borrow.Author.Rules.{rules}
 use Rattle.buffer.proofs.Laws.{then}
 use Rattle.notepack.specs.Unpack.{text_of}
 use Rattle.pointwrite.proofs.Lengths.{length_padded}

@@ -1,5 +1,4 @@
 -- `put_padded` writes a part's text and then its filling: two writers in a row are one.
-use borrow.Author.Rules.{rules}
 use Rattle.buffer.proofs.Laws.{then}
 use Rattle.pointer.specs.Written.{padded_text}
 use Rattle.pointwrite.proofs.put_padded.Goals as goal

@@ -1,6 +1,5 @@
 -- `put_tag` writes the tag at a place: its table, then its texts. Two writers in a row are one.
 use native.Mathlib.Omega.{arith}
-use borrow.Author.Rules.{rules}
 use Rattle.buffer.proofs.Laws.{then}
 use Rattle.pointwrite.proofs.Turns.{tag_room, tag_wrote, tag_behind, tag_ends}
 use Rattle.pointwrite.proofs.put_tag.Goals as goal

@@ -1,12 +1,7 @@
-use Prim.Native.Nat.{◌+◌}
-use mathlib.Core.Path.{◌≡◌, refl}
+use mathlib.Core.Path.{refl}
 use native.Mathlib.Omega.{arith}
-use borrow.Author.Rules.{rules}
-use Rattle.buffer.proofs.Laws.{Left, start, part, done, also, same}
-use Rattle.notepack.specs.inner.Again.{tags_again}
+use Rattle.buffer.proofs.Laws.{start, part, done, also, same}
 use Rattle.notepack.proofs.Again.{tags_left_lem}
-use Rattle.pointer.specs.Written.{tag_pointers}
-use Rattle.pointwrite.specs.inner.Pieces.{tags_size}
 use Rattle.pointwrite.proofs.Turns.{tag_turn, sizes_more, tag_pointers_more, tag_pointers_none}
 use Rattle.pointwrite.proofs.put_tag_pointers.Goals as goal
 

@@ -1,15 +1,11 @@
 -- `put_tags` writes the tags as it goes over them again. The invariant: what is left to write is the tags left, from
 -- the offset where they stand; and they end at the offset where all end.
 use Prim.Native.Nat.{◌+◌}
-use mathlib.Core.Path.{◌≡◌, refl}
-use native.Mathlib.Omega.{arith}
-use borrow.Author.Rules.{rules}
-use Rattle.buffer.proofs.Laws.{Left, start, part, done, also, same}
+use mathlib.Core.Path.{◌≡◌}
+use Rattle.buffer.proofs.Laws.{Left}
 use Rattle.notepack.specs.inner.Again.{tags_again}
-use Rattle.notepack.proofs.Again.{tags_left_lem}
 use Rattle.pointer.specs.Written.{tag_pieces}
 use Rattle.pointwrite.specs.inner.Pieces.{tags_size}
-use Rattle.pointwrite.proofs.Turns.{tag_turn, sizes_more, pieces_more, pieces_none}
 use Rattle.pointwrite.proofs.put_tags.Given as goal
 
 abbrev pub invariant-loop-left : goal.invariant-loop-left

@@ -1,6 +1,5 @@
 -- `put_text` writes a part's text: the hex of raw bytes, or the bytes.
 -- By the promises of `scan::part` and of the writer for each kind of part.
-use borrow.Author.Rules.{rules}
 use Rattle.notepack.proofs.Walking.{text_raw, text_plain}
 use Rattle.pointwrite.proofs.put_text.Goals as goal
 

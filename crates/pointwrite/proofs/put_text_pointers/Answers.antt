@@ -1,13 +1,8 @@
-use Prim.Native.Nat.{◌+◌}
-use mathlib.Core.Path.{◌≡◌, refl}
+use mathlib.Core.Path.{refl}
 use native.Mathlib.Omega.{arith}
-use lib.ListN.{length}
-use borrow.Author.Rules.{rules}
-use Rattle.buffer.proofs.Laws.{Left, start, part, done, also, same}
+use Rattle.buffer.proofs.Laws.{start, part, done, also, same}
 use Rattle.notepack.specs.Unpack.{text_of}
-use Rattle.notepack.specs.inner.Again.{texts_again}
 use Rattle.notepack.proofs.Again.{texts_turn, texts_left}
-use Rattle.pointer.specs.Written.{padded_texts, text_pointers}
 use Rattle.pointwrite.proofs.Lengths.{length_padded}
 use Rattle.pointwrite.proofs.Turns.{texts_length_lem, texts_none, pointers_more, pointers_none}
 use Rattle.pointwrite.proofs.put_text_pointers.Goals as goal

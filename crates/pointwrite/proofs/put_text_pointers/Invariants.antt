@@ -1,17 +1,11 @@
 -- `put_text_pointers` writes the pointers to texts as it goes over them again. The invariant: what is left to write is
 -- the pointers to the texts left, from the offset where they stand; and they end at the offset where all end.
 use Prim.Native.Nat.{◌+◌}
-use mathlib.Core.Path.{◌≡◌, refl}
-use native.Mathlib.Omega.{arith}
+use mathlib.Core.Path.{◌≡◌}
 use lib.ListN.{length}
-use borrow.Author.Rules.{rules}
-use Rattle.buffer.proofs.Laws.{Left, start, part, done, also, same}
-use Rattle.notepack.specs.Unpack.{text_of}
+use Rattle.buffer.proofs.Laws.{Left}
 use Rattle.notepack.specs.inner.Again.{texts_again}
-use Rattle.notepack.proofs.Again.{texts_turn, texts_left}
 use Rattle.pointer.specs.Written.{padded_texts, text_pointers}
-use Rattle.pointwrite.proofs.Lengths.{length_padded}
-use Rattle.pointwrite.proofs.Turns.{texts_length_lem, texts_none, pointers_more, pointers_none}
 use Rattle.pointwrite.proofs.put_text_pointers.Given as goal
 
 abbrev pub invariant-loop-left : goal.invariant-loop-left

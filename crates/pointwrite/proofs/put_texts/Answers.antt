@@ -1,7 +1,5 @@
-use mathlib.Core.Path.{◌≡◌, refl, sym, ap, ◌∙◌}
-use borrow.Author.Rules.{rules}
-use Rattle.buffer.proofs.Laws.{Left, start, part, done, also, same}
-use Rattle.notepack.specs.inner.Again.{texts_again, texts_end}
+use mathlib.Core.Path.{refl, sym, ap, ◌∙◌}
+use Rattle.buffer.proofs.Laws.{start, part, done, also, same}
 use Rattle.notepack.proofs.Again.{texts_turn, texts_left}
 use Rattle.pointer.specs.Written.{padded_texts}
 use Rattle.pointwrite.proofs.put_texts.Goals as goal

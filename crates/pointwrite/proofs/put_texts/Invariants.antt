@@ -1,10 +1,8 @@
 -- `put_texts` writes the texts, each with its filling, as it goes over them again. The invariant: what is left to write
 -- is that of the texts left, and they end where all end. Each turn is one law.
-use mathlib.Core.Path.{◌≡◌, refl, sym, ap, ◌∙◌}
-use borrow.Author.Rules.{rules}
-use Rattle.buffer.proofs.Laws.{Left, start, part, done, also, same}
+use mathlib.Core.Path.{◌≡◌}
+use Rattle.buffer.proofs.Laws.{Left}
 use Rattle.notepack.specs.inner.Again.{texts_again, texts_end}
-use Rattle.notepack.proofs.Again.{texts_turn, texts_left}
 use Rattle.pointer.specs.Written.{padded_texts}
 use Rattle.pointwrite.proofs.put_texts.Given as goal
 

@@ -3,7 +3,6 @@
 use mathlib.Core.Path.{ap}
 use native.Mathlib.Omega.{arith}
 use lib.ListN.{length}
-use borrow.Author.Rules.{rules}
 use Rattle.pointwrite.proofs.Lengths.{part_short, raw_length, plain_length}
 use Rattle.pointwrite.proofs.text_len.Goals as goal
 

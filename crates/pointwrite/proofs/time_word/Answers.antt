@@ -1,5 +1,4 @@
 -- `time_word` tells the word of a second's milliseconds: for every second that the reader lets pass they fit.
-use borrow.Author.Rules.{rules}
 use Rattle.pointwrite.proofs.Times.{time_fits, time_word, time_never}
 use Rattle.pointwrite.proofs.time_word.Goals as goal
 

@@ -3,7 +3,6 @@
 -- By the laws of the entry for each outcome of the walk and of the measure.
 use mathlib.Core.Path.{ap}
 use native.Mathlib.Omega.{arith}
-use borrow.Author.Rules.{rules}
 use Rattle.scan.proofs.AllLaws.{all_places}
 use Rattle.notepack.specs.inner.Again.{event_again}
 use Rattle.notepack.specs.inner.Answers.{walk}
