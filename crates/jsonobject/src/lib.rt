@@ -17,7 +17,7 @@ pub struct Cursor {
 }
 
 // The seven fields, each by its spot; from 0 where it is not found yet.
-#[derive(Drop)]
+#[derive(Clone, Copy)]
 pub struct Fields {
     pub id: Spot,
     pub pubkey: Spot,
