@@ -34,7 +34,7 @@ returns c =
     record {
       wrote = rw (some_again s a.tag a.room a.skip a.count a.from x y, ← first) put.wrote;
       next_value =
-        c.texts_end-next.ensures ∙ rw (put.next_value, first, ends_two s m rest (texts_end n s a.from), ends_two s n (m + rest) a.from, all);
+          c.texts_end-next.ensures ∙ rw (put.next_value, first, ends_two s m rest (texts_end n s a.from), ends_two s n (m + rest) a.from, all);
       skip_value = omega (arith, x);
       room_value = room_left a.room a.skip a.count x y;
     }

@@ -21,7 +21,7 @@ unfolding string_form
 returns c =
     let a = c.args in
     let k =
-      fitted {text = string_form a.bare a.b.now} (length_string a.bare a.b.now c.prefix_len.ensures.value c.encoded_len.ensures) c.if-out-n.false
-      (then c.put_prefix-o.ensures c.put_encoded.ensures)
+    fitted {text = string_form a.bare a.b.now} (length_string a.bare a.b.now c.prefix_len.ensures.value c.encoded_len.ensures) c.if-out-n.false
+    (then c.put_prefix-o.ensures c.put_encoded.ensures)
     in
     record { result_value = k.0; out_after = k.1 }
