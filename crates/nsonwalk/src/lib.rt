@@ -45,7 +45,7 @@ enum BodyRead {
 }
 
 // What is left to write once nothing is refused any more, and how long it will be.
-#[derive(Drop)]
+#[derive(Clone, Copy)]
 pub struct NsonWalked {
     pub created_at: usize,
     pub kind: usize,
