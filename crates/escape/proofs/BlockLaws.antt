@@ -1,12 +1,12 @@
 -- Blocks of a text: how much longer one gets, and how far one goes with no escape.
--- Each turn of the loops is one law whose premises are what the loop knows; `byte-tests` says what a byte becomes.
+-- Each turn of the loops is one law whose premises are what the loop knows; `byte_tests` says what a byte becomes.
 use Prim.Native.Nat.{ℕ, suc, ◌+◌, ◌-◌, ◌<◌, ◌≤◌}
 use mathlib.Core.Path.{◌≡◌, refl, sym, ap, ◌∙◌}
 use mathlib.Core.Bool.{Bool, true, false}
 use mathlib.Core.List.{List, [], ◌∷◌, ◌++◌}
 use native.Mathlib.Omega.{arith}
 use lib.ListN.{length, get_or, take, drop, length-append, length-take, length-drop, take-append-drop}
-use lib.Seq.{drop-drop, drop-append-le, take_all, length-take-le, get_or-take, get_or-drop}
+use lib.Seq.{drop-drop, drop-append-le, length-take-le, get_or-take, get_or-drop}
 use Rattle.scan.specs.Choice.{pick}
 use Rattle.scan.specs.inner.Blocks.{before_stop}
 use Rattle.scan.proofs.Step.{rest_none, rest_more, rest_block}

@@ -1,6 +1,6 @@
 -- What stands between quotes is the escaped form of the text that it stands for, and that text is UTF-8 where it is.
 -- By induction on the quoted text; each step is a bare byte or a letter behind a backslash.
-use Prim.Native.Nat.{ℕ, zero, suc, ◌+◌, ◌<◌, ◌≤◌}
+use Prim.Native.Nat.{ℕ, zero, suc, ◌<◌, ◌≤◌}
 use mathlib.Core.Path.{◌≡◌, refl}
 use mathlib.Core.Bool.{true}
 use mathlib.Core.List.{List, [], ◌∷◌, ◌++◌}

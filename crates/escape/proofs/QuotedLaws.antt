@@ -1,7 +1,7 @@
 -- An escaped text may stand between quotes, and the first bare quote ends it. What NSON can carry is a property of each
 -- byte.
 -- By the tests of the byte functions, and induction on the text.
-use Prim.Native.Nat.{ℕ, ◌+◌, ◌≤◌}
+use Prim.Native.Nat.{ℕ, ◌≤◌}
 use mathlib.Core.Path.{◌≡◌, refl, sym}
 use mathlib.Core.Bool.{true}
 use mathlib.Core.List.{List, [], ◌∷◌, ◌++◌}

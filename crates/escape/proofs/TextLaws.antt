@@ -1,7 +1,7 @@
 -- The laws of escaped texts, said once for every byte function with `ReadBack`: parts, lengths, the text read back,
 -- bytes and UTF-8.
 -- By induction on the text; each step is the form of one byte.
-use Prim.Native.Nat.{ℕ, ◌+◌, ◌*◌, ◌<◌, ◌≤◌}
+use Prim.Native.Nat.{ℕ, ◌*◌, ◌<◌, ◌≤◌}
 use mathlib.Core.Path.{◌≡◌, refl, sym, ap, ◌∙◌}
 use mathlib.Core.Bool.{false}
 use mathlib.Core.List.{List, [], ◌∷◌, ◌++◌, append_assoc, append-nil}

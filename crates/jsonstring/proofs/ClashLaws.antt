@@ -1,4 +1,4 @@
--- Blocks in which no byte clashes with the one before it are bare bytes and escapes: `quoting-block`.
+-- Blocks in which no byte clashes with the one before it are bare bytes and escapes: `quoting_block`.
 -- `Quoting s a i`: up to i they are whole, or up to the backslash before i. One byte more keeps it.
 use Prim.Native.Nat.{ℕ, zero, suc, ◌+◌, ◌-◌, ◌<◌, ◌≤◌}
 use mathlib.Core.Path.{◌≡◌, refl}

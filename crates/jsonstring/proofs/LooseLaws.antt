@@ -1,4 +1,4 @@
--- Bare bytes and escapes that are UTF-8 are passed in a string: `loose-text`, THE law of the fast way.
+-- Bare bytes and escapes that are UTF-8 are passed in a string: `loose_text`, THE law of the fast way.
 -- Character after character: an escape is whole characters of ASCII, and a character of several bytes is bare bytes
 -- above ASCII.
 use Prim.Native.Nat.{ℕ, zero, suc, ◌+◌, ◌-◌, ◌<◌, ◌≤◌}

@@ -1,5 +1,5 @@
 -- Escapes at a place against the grammar: each character that the RFC spells with a backslash is found, and only such.
--- Soundness is a walk over the tests of `escapeAt`; completeness reads the bytes off the span.
+-- Soundness is a walk over the tests of `escape_at`; completeness reads the bytes off the span.
 use Prim.Native.Nat.{ℕ, ◌+◌, ◌*◌, ◌-◌, ◌<◌, ◌≤◌, ◌^◌}
 use mathlib.Core.Path.{◌≡◌, refl}
 use mathlib.Core.Bool.{Bool, true, false}

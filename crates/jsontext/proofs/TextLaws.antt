@@ -1,6 +1,6 @@
 -- A string at a place against the grammar, in both directions: it is read exactly where the RFC spells one, and the
 -- bytes between its quotes are told.
--- Soundness is a walk over `charsAt`, which adds one character in front; completeness is one step for each kind of
+-- Soundness is a walk over `chars_at`, which adds one character in front; completeness is one step for each kind of
 -- character.
 use Prim.Native.Nat.{ℕ, zero, suc, ◌+◌, ◌-◌, ◌<◌, ◌≤◌}
 use mathlib.Core.Path.{◌≡◌, refl, sym, ap, ◌∙◌}

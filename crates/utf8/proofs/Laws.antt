@@ -1,4 +1,4 @@
--- The decision `isUtf8` says true exactly of the texts of RFC 3629's `UTF8-octets`, and a reader may go sequence by
+-- The decision `is_utf8` says true exactly of the texts of RFC 3629's `UTF8-octets`, and a reader may go sequence by
 -- sequence.
 -- One step law turns the recursion over bytes into a step over a whole sequence; both directions follow it.
 use Prim.Native.Nat.{ℕ, zero, suc, ◌+◌, ◌-◌, ◌<◌, ◌≤◌}

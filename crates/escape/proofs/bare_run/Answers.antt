@@ -1,10 +1,7 @@
-use Prim.Native.Nat.{◌+◌, ◌-◌, ◌≤◌, min}
-use mathlib.Core.Path.{◌≡◌}
 use native.Mathlib.Omega.{arith}
-use borrow.Author.Rules.{rules}
-use lib.ListN.{length, drop}
+use lib.ListN.{length}
 use Rattle.scan.proofs.BlockLaws.{stop_within, stop_more, stop_done}
-use Rattle.escape.specs.inner.Block.{is_escaped, run_of}
+use Rattle.escape.specs.inner.Block.{is_escaped}
 use Rattle.escape.proofs.bare_run.Goals as goal
 
 pub loop-i-init : goal.loop-i-init
@@ -12,10 +9,9 @@ loop-i-init c = let a = c.args in (omega arith, omega arith, omega (arith, stop_
 
 pub loop-i-preserved : goal.loop-i-preserved
 loop-i-preserved c =
-    let turn = c in
-    let q = turn.loop-i in
-    let n = length turn.args.block.now in
-    (omega arith, omega arith, stop_more (is_escaped _) _ q.i n q.m q.invariant.2 turn.loop-i-test.true q.invariant.1 c.is_escaped.ensures c.pick_byte.ensures c.lesser-m.ensures)
+    let q = c.loop-i in
+    let n = length c.args.block.now in
+    (omega arith, omega arith, stop_more (is_escaped _) _ q.i n q.m q.invariant.2 c.loop-i-test.true q.invariant.1 c.is_escaped.ensures c.pick_byte.ensures c.lesser-m.ensures)
 
 pub returns : goal.returns
 returns c =

@@ -1,13 +1,10 @@
 -- `bare_run` keeps the least place of a byte that becomes two. The invariant: the run is that place, or ends further
 -- on.
--- Each turn is `stop-more`; at the end the run is the least place, or the whole block.
+-- Each turn is `stop_more`; at the end the run is the least place, or the whole block.
 use Prim.Native.Nat.{◌+◌, ◌-◌, ◌≤◌, min}
 use mathlib.Core.Path.{◌≡◌}
-use native.Mathlib.Omega.{arith}
-use borrow.Author.Rules.{rules}
 use lib.ListN.{length, drop}
-use Rattle.scan.proofs.BlockLaws.{stop_within, stop_more, stop_done}
-use Rattle.escape.specs.inner.Block.{is_escaped, run_of}
+use Rattle.escape.specs.inner.Block.{run_of}
 use Rattle.escape.proofs.bare_run.Given as goal
 
 abbrev pub invariant-loop-i : goal.invariant-loop-i

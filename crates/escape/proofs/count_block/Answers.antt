@@ -1,11 +1,5 @@
-use Prim.Native.Nat.{◌+◌, ◌-◌, ◌≤◌}
-use mathlib.Core.Path.{◌≡◌}
 use mathlib.Core.Bool.{false}
 use native.Mathlib.Omega.{arith}
-use borrow.Author.Rules.{rules}
-use lib.ListN.{length, drop}
-use Rattle.escape.specs.Escape.{nson_byte, escaped}
-use Rattle.escape.specs.inner.Controls.{controls}
 use Rattle.escape.proofs.BlockLaws.{count_more, count_all, control_more, control_all}
 use Rattle.escape.proofs.count_block.Goals as goal
 
@@ -14,13 +8,12 @@ loop-i-init c = (omega arith, omega arith, omega arith, omega arith, omega arith
 
 pub loop-i-preserved : goal.loop-i-preserved
 loop-i-preserved c =
-    let test = c in
-    let v = test.loop-i.invariant in (
+    let v = c.loop-i.invariant in (
       omega arith,
       omega arith,
       omega arith,
-      count_more false _ _ _ _ v.3 test.loop-i-test.true c.is_escaped.ensures c.one_if-n.ensures.value,
-      rw c.is_uncarried-m.ensures.value (control_more _ _ _ _ v.4 test.loop-i-test.true),
+      count_more false _ _ _ _ v.3 c.loop-i-test.true c.is_escaped.ensures c.one_if-n.ensures.value,
+      rw c.is_uncarried-m.ensures.value (control_more _ _ _ _ v.4 c.loop-i-test.true),
     )
 
 pub returns : goal.returns

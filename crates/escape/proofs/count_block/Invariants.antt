@@ -3,13 +3,9 @@
 -- A byte adds 0 or 1 to each, so a sum is at most i and fits a byte.
 use Prim.Native.Nat.{◌+◌, ◌-◌, ◌≤◌}
 use mathlib.Core.Path.{◌≡◌}
-use mathlib.Core.Bool.{false}
-use native.Mathlib.Omega.{arith}
-use borrow.Author.Rules.{rules}
 use lib.ListN.{length, drop}
 use Rattle.escape.specs.Escape.{nson_byte, escaped}
 use Rattle.escape.specs.inner.Controls.{controls}
-use Rattle.escape.proofs.BlockLaws.{count_more, count_all, control_more, control_all}
 use Rattle.escape.proofs.count_block.Given as goal
 
 abbrev pub invariant-loop-i : goal.invariant-loop-i

@@ -1,4 +1,4 @@
--- `escape_letter` makes the tests of `escapeLetter`, in its order.
+-- `escape_letter` makes the tests of `escape_letter`, in its order.
 -- By `tests`: each return under the tests that lead to it.
 use Rattle.scan.proofs.Step.{tests}
 use Rattle.escape.specs.inner.Block.{escape_letter}

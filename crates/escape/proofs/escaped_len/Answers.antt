@@ -4,7 +4,6 @@ use Prim.Native.Nat.{ℕ}
 use mathlib.Core.Path.{ap, ◌∙◌}
 use mathlib.Core.List.{List}
 use lib.ListN.{length}
-use borrow.Author.Rules.{rules}
 use Rattle.escape.specs.Escape.{escaped}
 use Rattle.escape.proofs.TextLaws.{growth_most}
 use Rattle.escape.proofs.escaped_len.Goals as goal

@@ -1,8 +1,6 @@
-use Prim.Native.Nat.{◌+◌, ◌-◌, ◌≤◌}
-use mathlib.Core.Path.{◌≡◌}
+use Prim.Native.Nat.{◌+◌}
 use native.Mathlib.Omega.{arith}
-use lib.ListN.{length, drop, length-take, length-drop}
-use Rattle.escape.specs.Escape.{escaped}
+use lib.ListN.{drop, length-take, length-drop}
 use Rattle.escape.specs.inner.Block.{byte_by}
 use Rattle.escape.proofs.ByteLaws.{escaping_by}
 use Rattle.escape.proofs.TextLaws.{length_least, length_most}

@@ -1,14 +1,10 @@
 -- `escaped_len_by` adds block by block. The invariant: the sum and the length of what is left, escaped, make the whole.
--- Each turn is `length-block`; the whole is at most twice as long as the text, so no sum wraps.
+-- Each turn is `length_block`; the whole is at most twice as long as the text, so no sum wraps.
 use Prim.Native.Nat.{◌+◌, ◌-◌, ◌≤◌}
 use mathlib.Core.Path.{◌≡◌}
-use native.Mathlib.Omega.{arith}
-use lib.ListN.{length, drop, length-take, length-drop}
+use lib.ListN.{length, drop}
 use Rattle.escape.specs.Escape.{escaped}
 use Rattle.escape.specs.inner.Block.{byte_by}
-use Rattle.escape.proofs.ByteLaws.{escaping_by}
-use Rattle.escape.proofs.TextLaws.{length_least, length_most}
-use Rattle.escape.proofs.BlockLaws.{length_block, length_last}
 use Rattle.escape.proofs.escaped_len_by.Given as goal
 
 abbrev pub invariant-loop-i : goal.invariant-loop-i

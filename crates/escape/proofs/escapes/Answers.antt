@@ -1,10 +1,4 @@
-use Prim.Native.Nat.{◌+◌, ◌-◌, ◌≤◌}
-use mathlib.Core.Path.{◌≡◌}
 use native.Mathlib.Omega.{arith}
-use borrow.Author.Rules.{rules}
-use lib.ListN.{length, drop}
-use Rattle.escape.specs.Escape.{escaped}
-use Rattle.escape.specs.inner.Block.{byte_by}
 use Rattle.escape.proofs.BlockLaws.{count_more, count_all}
 use Rattle.escape.proofs.escapes.Goals as goal
 

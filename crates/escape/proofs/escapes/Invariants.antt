@@ -3,12 +3,9 @@
 -- A byte adds 0 or 1, so the sum is at most i and fits a byte.
 use Prim.Native.Nat.{◌+◌, ◌-◌, ◌≤◌}
 use mathlib.Core.Path.{◌≡◌}
-use native.Mathlib.Omega.{arith}
-use borrow.Author.Rules.{rules}
 use lib.ListN.{length, drop}
 use Rattle.escape.specs.Escape.{escaped}
 use Rattle.escape.specs.inner.Block.{byte_by}
-use Rattle.escape.proofs.BlockLaws.{count_more, count_all}
 use Rattle.escape.proofs.escapes.Given as goal
 
 abbrev pub invariant-loop-i : goal.invariant-loop-i

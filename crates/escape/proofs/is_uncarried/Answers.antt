@@ -1,4 +1,4 @@
--- `is_uncarried` makes the tests of `isUncarried`, in its order.
+-- `is_uncarried` makes the tests of `is_uncarried`, in its order.
 -- By `tests`: each return under the tests that lead to it.
 use native.Mathlib.Omega.{arith}
 use Rattle.scan.proofs.Step.{tests}

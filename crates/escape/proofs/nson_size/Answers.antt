@@ -1,9 +1,9 @@
-use Prim.Native.Nat.{◌+◌, ◌-◌, ◌≤◌}
+use Prim.Native.Nat.{◌+◌, ◌-◌}
 use mathlib.Core.Path.{◌≡◌}
 use mathlib.Core.Bool.{false}
 use native.Mathlib.Omega.{arith}
 use lib.ListN.{length, drop, length-take, length-drop}
-use Rattle.escape.specs.Escape.{nson_byte, escaped}
+use Rattle.escape.specs.Escape.{nson_byte}
 use Rattle.escape.specs.inner.Controls.{controls, nson_text}
 use Rattle.escape.proofs.ByteLaws.{escaping_by}
 use Rattle.escape.proofs.TextLaws.{length_least, length_most}

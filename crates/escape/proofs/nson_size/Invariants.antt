@@ -1,15 +1,10 @@
 -- `nson_size` adds block by block. The invariant: each sum and what is left make the whole.
--- Each turn is `length-block` and `controls-block`; a text in NSON is at most twice as long, so no sum wraps.
+-- Each turn is `length_block` and `controls_block`; a text in NSON is at most twice as long, so no sum wraps.
 use Prim.Native.Nat.{◌+◌, ◌-◌, ◌≤◌}
 use mathlib.Core.Path.{◌≡◌}
-use mathlib.Core.Bool.{false}
-use native.Mathlib.Omega.{arith}
-use lib.ListN.{length, drop, length-take, length-drop}
+use lib.ListN.{length, drop}
 use Rattle.escape.specs.Escape.{nson_byte, escaped}
-use Rattle.escape.specs.inner.Controls.{controls, nson_text}
-use Rattle.escape.proofs.ByteLaws.{escaping_by}
-use Rattle.escape.proofs.TextLaws.{length_least, length_most}
-use Rattle.escape.proofs.BlockLaws.{length_block, length_last, controls_block, controls_end}
+use Rattle.escape.specs.inner.Controls.{controls}
 use Rattle.escape.proofs.nson_size.Given as goal
 
 abbrev pub invariant-loop-i : goal.invariant-loop-i

@@ -1,11 +1,6 @@
-use Prim.Native.Nat.{◌-◌, ◌≤◌}
 use native.Mathlib.Omega.{arith}
-use borrow.Author.Rules.{rules}
-use lib.ListN.{length, drop}
 use Rattle.scan.proofs.Step.{rest_none, rest_more}
-use Rattle.buffer.proofs.Laws.{Left, start, part, same, done}
-use Rattle.escape.specs.Escape.{escaped}
-use Rattle.escape.specs.inner.Block.{byte_by}
+use Rattle.buffer.proofs.Laws.{start, part, same, done}
 use Rattle.escape.proofs.TextLaws.{escaped_none, escaped_more}
 use Rattle.escape.proofs.put_each.Goals as goal
 
@@ -14,8 +9,7 @@ loop-i-init c = (omega arith, start)
 
 pub loop-i-preserved : goal.loop-i-preserved
 loop-i-preserved c =
-    let turn = c in
-    let left = rw (rest_more _ _ turn.loop-i-test.true, escaped_more _ _ _) at turn.loop-i.invariant.1 in
+    let left = rw (rest_more _ _ c.loop-i-test.true, escaped_more _ _ _) at c.loop-i.invariant.1 in
     (omega arith, part left c.put_one-o.ensures)
 
 pub shape_of-out : goal.shape_of-out

@@ -1,6 +1,5 @@
 -- `put_escaped` writes an escaped text.
 -- By its flag.
-use borrow.Author.Rules.{rules}
 use Rattle.escape.proofs.put_escaped.Goals as goal
 
 pub returns : goal.returns

@@ -1,11 +1,8 @@
 use Prim.Native.Nat.{◌+◌, ◌-◌, ◌≤◌}
-use mathlib.Core.Path.{◌≡◌, refl, ◌∙◌}
+use mathlib.Core.Path.{refl, ◌∙◌}
 use native.Mathlib.Omega.{arith}
-use borrow.Author.Rules.{rules}
-use lib.ListN.{length, drop, length-set, length-take, length-drop}
-use Rattle.buffer.proofs.Laws.{Left, start, also, full, finish, kept}
-use Rattle.escape.specs.Escape.{escaped}
-use Rattle.escape.specs.inner.Block.{byte_by}
+use lib.ListN.{length, length-set, length-take, length-drop}
+use Rattle.buffer.proofs.Laws.{start, also, full, finish, kept}
 use Rattle.buffer.proofs.OverLaws.{two_bytes}
 use Rattle.scan.proofs.Step.{rest_whole}
 use Rattle.escape.proofs.BlockLaws.{run_written, run_letter}
@@ -32,10 +29,9 @@ bare_run-m-requires c = simp (length-take, length-drop) (omega arith)
 -- a block that is all run
 pub loop-i-preserved-then-m-eq64 : goal.loop-i-preserved-then-m-eq64
 loop-i-preserved-then-m-eq64 c =
-    let stored = c in
-    let q = stored.loop-i in
-    let a = stored.args in
-    let w = stored.put_bytes.ensures in
+    let q = c.loop-i in
+    let a = c.args in
+    let w = c.put_bytes.ensures in
     let is = rw c.if-m-eq64.true at c.bare_run-m.ensures.value in
     let l = run_written a.all a.s.now q.i (q.i + 64 - q.i) 64 (omega arith) is q.invariant.3 w (omega arith) in
     (omega arith, omega (arith, kept w), kept w ∙ q.invariant.2, l)
@@ -49,10 +45,9 @@ bounds-out-o-in-loop-i c = simp length-set (omega (arith, kept c.put_bytes.ensur
 -- a block with an escape
 pub loop-i-preserved : goal.loop-i-preserved
 loop-i-preserved c =
-    let stored = c in
-    let q = stored.loop-i in
-    let a = stored.args in
-    let w = stored.put_bytes.ensures in
+    let q = c.loop-i in
+    let a = c.args in
+    let w = c.put_bytes.ensures in
     let k = q.i + 64 - q.i in
     let fits : q.i + k ≤ length a.s.now = omega arith in
     let m = c.bare_run-m.result in

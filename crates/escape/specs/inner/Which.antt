@@ -1,5 +1,5 @@
 -- An escaping by its name in the code: what a byte becomes, and how many bytes at most. Assumes nothing.
-use Rattle.std.specs.Prelude.{ℕ, List, []}
+use Rattle.std.specs.Prelude.{ℕ, List}
 use Rattle.escape.specs.declared.Escaping.{Escaping}
 use Rattle.escape.specs.declared.Escaping.TheVariants.{Canonical, Nson}
 use Rattle.escape.specs.Escape.{nson_byte, canonical_byte}

@@ -1,14 +1,9 @@
--- `hex_value` makes the test of `hexValue`; other bytes are told by the hex of lower case.
+-- `hex_value` makes the test of `hex_value`; other bytes are told by the hex of lower case.
 -- A byte of the range A-F is at least its lower end, so that no difference falls below 0.
-use borrow.Author.Rules.{rules}
 use native.Mathlib.Omega.{arith}
 use Rattle.scan.proofs.PlaceLaws.{low_enough}
 use Rattle.jsontext.specs.inner.Escape.{hex_value}
 use Rattle.jsonescape.proofs.hex_value.Goals as goal
-
-pub is_within-requires : goal.is_within-requires
-unfolding hex_value
-is_within-requires c = search rules
 
 pub overflow_sub-result : goal.overflow_sub-result
 unfolding hex_value
@@ -17,10 +12,6 @@ overflow_sub-result c = let h = low_enough _ _ _ c.is_within.ensures c.if-is_wit
 pub returns-then-is_within : goal.returns-then-is_within
 unfolding hex_value
 returns-then-is_within c = simp (← c.is_within.ensures, c.if-is_within.true)
-
-pub value_of-requires : goal.value_of-requires
-unfolding hex_value
-value_of-requires c = search rules
 
 pub returns : goal.returns
 unfolding hex_value

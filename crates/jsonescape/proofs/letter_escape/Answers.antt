@@ -1,4 +1,4 @@
--- `letter_escape` makes the test of `letterEscape`.
+-- `letter_escape` makes the test of `letter_escape`.
 -- By the test alone.
 use Rattle.jsontext.specs.inner.Escape.{letter_escape}
 use borrow.Author.Tests.{eq-eqb, ne_eqb}

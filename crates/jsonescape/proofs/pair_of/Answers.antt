@@ -2,28 +2,11 @@
 -- The first unit is a high surrogate, so that no difference falls below 0.
 use Rattle.jsontext.specs.inner.Escape.{pair_of}
 use borrow.Author.Tests.{le-ltb, lt-ltb}
-use borrow.Author.Rules.{rules}
 use Rattle.jsonescape.proofs.pair_of.Goals as goal
 
 pub returns-then-v-lt56320 : goal.returns-then-v-lt56320
 unfolding pair_of
 returns-then-v-lt56320 c = simp (lt-ltb _ _ c.if-v-lt56320.true)
-
-pub overflow_sub-result : goal.overflow_sub-result
-unfolding pair_of
-overflow_sub-result c = search rules
-
-pub overflow_mul-result : goal.overflow_mul-result
-unfolding pair_of
-overflow_mul-result c = search rules
-
-pub overflow_add-result : goal.overflow_add-result
-unfolding pair_of
-overflow_add-result c = search rules
-
-pub overflow_add-result-then-v-lt57344 : goal.overflow_add-result-then-v-lt57344
-unfolding pair_of
-overflow_add-result-then-v-lt57344 c = search rules
 
 pub returns-then-v-lt57344 : goal.returns-then-v-lt57344
 unfolding pair_of

@@ -1,4 +1,4 @@
--- `unescaped_letter` makes the tests of `unescapedLetter`, in its order.
+-- `unescaped_letter` makes the tests of `unescaped_letter`, in its order.
 -- By the tests alone.
 use Rattle.jsontext.specs.inner.Escape.{unescaped_letter}
 use borrow.Author.Tests.{eq-eqb, ne_eqb}
@@ -40,10 +40,9 @@ returns-then-c-eq102 c =
 pub returns-then-c-eq110 : goal.returns-then-c-eq110
 unfolding unescaped_letter
 returns-then-c-eq110 c =
-    let p = c in
     simp (
-      ne_eqb _ _ p.if-c-eq34.false,
-      ne_eqb _ _ p.if-c-eq92.false,
+      ne_eqb _ _ c.if-c-eq34.false,
+      ne_eqb _ _ c.if-c-eq92.false,
       ne_eqb _ _ c.if-c-eq47.false,
       ne_eqb _ _ c.if-c-eq98.false,
       ne_eqb _ _ c.if-c-eq102.false,
@@ -53,11 +52,10 @@ returns-then-c-eq110 c =
 pub returns-then-c-eq114 : goal.returns-then-c-eq114
 unfolding unescaped_letter
 returns-then-c-eq114 c =
-    let p = c in
     simp (
-      ne_eqb _ _ p.if-c-eq34.false,
-      ne_eqb _ _ p.if-c-eq92.false,
-      ne_eqb _ _ p.if-c-eq47.false,
+      ne_eqb _ _ c.if-c-eq34.false,
+      ne_eqb _ _ c.if-c-eq92.false,
+      ne_eqb _ _ c.if-c-eq47.false,
       ne_eqb _ _ c.if-c-eq98.false,
       ne_eqb _ _ c.if-c-eq102.false,
       ne_eqb _ _ c.if-c-eq110.false,
@@ -67,12 +65,11 @@ returns-then-c-eq114 c =
 pub returns-then-c-eq116 : goal.returns-then-c-eq116
 unfolding unescaped_letter
 returns-then-c-eq116 c =
-    let p = c in
     simp (
-      ne_eqb _ _ p.if-c-eq34.false,
-      ne_eqb _ _ p.if-c-eq92.false,
-      ne_eqb _ _ p.if-c-eq47.false,
-      ne_eqb _ _ p.if-c-eq98.false,
+      ne_eqb _ _ c.if-c-eq34.false,
+      ne_eqb _ _ c.if-c-eq92.false,
+      ne_eqb _ _ c.if-c-eq47.false,
+      ne_eqb _ _ c.if-c-eq98.false,
       ne_eqb _ _ c.if-c-eq102.false,
       ne_eqb _ _ c.if-c-eq110.false,
       ne_eqb _ _ c.if-c-eq114.false,
@@ -82,12 +79,11 @@ returns-then-c-eq116 c =
 pub returns : goal.returns
 unfolding unescaped_letter
 returns c =
-    let p = c in
     simp (
-      ne_eqb _ _ p.if-c-eq34.false,
-      ne_eqb _ _ p.if-c-eq92.false,
-      ne_eqb _ _ p.if-c-eq47.false,
-      ne_eqb _ _ p.if-c-eq98.false,
+      ne_eqb _ _ c.if-c-eq34.false,
+      ne_eqb _ _ c.if-c-eq92.false,
+      ne_eqb _ _ c.if-c-eq47.false,
+      ne_eqb _ _ c.if-c-eq98.false,
       ne_eqb _ _ c.if-c-eq102.false,
       ne_eqb _ _ c.if-c-eq110.false,
       ne_eqb _ _ c.if-c-eq114.false,

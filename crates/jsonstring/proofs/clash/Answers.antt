@@ -1,7 +1,6 @@
--- `clash` reckons both ways of `clashOf` and chooses one.
+-- `clash` reckons both ways of `clash_of` and chooses one.
 -- A byte is at most one of n and the quote, so nothing goes below 0.
 use native.Mathlib.Omega.{arith}
-use borrow.Author.Rules.{rules}
 use Rattle.scan.proofs.BlockLaws.{one_of_two}
 use Rattle.jsonstring.proofs.ClashLaws.{clash_chosen}
 use Rattle.jsonstring.proofs.clash.Goals as goal
@@ -13,9 +12,8 @@ overflow_sub-is_one-2 c =
 
 pub returns : goal.returns
 returns c =
-    let ones = c in
-    let a = ones.args in
-    let e = clash_chosen a.before a.b ones.is_one.ensures.value ones.is_one-2.ensures.value ones.is_one-3.ensures.value c.control_count.ensures.value
+    let a = c.args in
+    let e = clash_chosen a.before a.b c.is_one.ensures.value c.is_one-2.ensures.value c.is_one-3.ensures.value c.control_count.ensures.value
     c.pick_byte.ensures in
     record {
       value = e.0;

@@ -1,9 +1,4 @@
-use Prim.Native.Nat.{◌+◌, ◌-◌, ◌≤◌}
-use mathlib.Core.Path.{◌≡◌}
 use native.Mathlib.Omega.{arith}
-use borrow.Author.Rules.{rules}
-use lib.ListN.{length, get_or, drop}
-use Rattle.scan.specs.inner.Blocks.{neighbours}
 use Rattle.jsonstring.specs.inner.Loose.{clash_of}
 use Rattle.scan.proofs.BlockLaws.{neighbours_again, neighbours_left}
 use Rattle.jsonstring.proofs.clashes.Goals as goal

@@ -2,12 +2,9 @@
 -- A byte adds at most 1, so the sum is at most 32 and fits a byte.
 use Prim.Native.Nat.{◌+◌, ◌-◌, ◌≤◌}
 use mathlib.Core.Path.{◌≡◌}
-use native.Mathlib.Omega.{arith}
-use borrow.Author.Rules.{rules}
 use lib.ListN.{length, get_or, drop}
 use Rattle.scan.specs.inner.Blocks.{neighbours}
 use Rattle.jsonstring.specs.inner.Loose.{clash_of}
-use Rattle.scan.proofs.BlockLaws.{neighbours_again, neighbours_left}
 use Rattle.jsonstring.proofs.clashes.Given as goal
 
 abbrev pub invariant-loop-i : goal.invariant-loop-i

@@ -1,4 +1,4 @@
--- `is_special` makes the tests of `isSpecial`, in its order.
+-- `is_special` makes the tests of `is_special`, in its order.
 -- By the tests alone.
 use borrow.Author.Tests.{lt-ltb, le-ltb, eq-eqb, ne_eqb}
 use Rattle.jsonstring.specs.inner.Plain.{is_special}

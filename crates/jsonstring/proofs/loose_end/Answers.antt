@@ -1,8 +1,5 @@
-use Prim.Native.Nat.{◌-◌, ◌≤◌}
 use native.Mathlib.Omega.{arith}
-use borrow.Author.Rules.{rules}
-use lib.ListN.{length}
-use Rattle.jsonstring.specs.inner.Loose.{LooseTo, nothing}
+use Rattle.jsonstring.specs.inner.Loose.{nothing}
 use Rattle.jsonstring.proofs.Turn.{before_end}
 use Rattle.jsontext.proofs.EscapeLaws.{width_fits}
 use Rattle.jsonstring.proofs.LooseLaws.{then, then_bare, then_escape, loose_onward, loose_inside}
@@ -34,9 +31,8 @@ returns-then-b-lt32 c = c.loop-i-2.invariant.2
 
 pub loop-i-2-preserved-then-b-ne92 : goal.loop-i-2-preserved-then-b-ne92
 loop-i-2-preserved-then-b-ne92 c =
-    let two = c in
-    let inv = two.loop-i-2.invariant in
-    (omega arith, omega arith, then_bare inv.2 (omega arith) two.if-b-eq34.false c.if-b-lt32.false c.if-b-ne92.true)
+    let inv = c.loop-i-2.invariant in
+    (omega arith, omega arith, then_bare inv.2 (omega arith) c.if-b-eq34.false c.if-b-lt32.false c.if-b-ne92.true)
 
 pub returns-then-w-eq0 : goal.returns-then-w-eq0
 returns-then-w-eq0 c = c.loop-i-2.invariant.2
@@ -46,8 +42,7 @@ overflow_add-i-in-loop-i-2 c = search (width_fits, before_end)
 
 pub loop-i-2-preserved : goal.loop-i-2-preserved
 loop-i-2-preserved c =
-    let four = c in
-    let inv = four.loop-i-2.invariant in
+    let inv = c.loop-i-2.invariant in
     (omega arith, omega arith, then_escape inv.2 (omega arith) c.if-b-ne92.false c.escape_at-e.ensures c.if-w-eq0.false)
 
 pub returns : goal.returns

@@ -1,13 +1,8 @@
 -- `loose_end` passes bare bytes and escapes. The invariant of both loops: nothing else stands from the start to here.
 -- A block adds its stretch by `then`, a turn of the inner loop adds one byte or one escape.
 use Prim.Native.Nat.{◌-◌, ◌≤◌}
-use native.Mathlib.Omega.{arith}
-use borrow.Author.Rules.{rules}
 use lib.ListN.{length}
-use Rattle.jsonstring.specs.inner.Loose.{LooseTo, nothing}
-use Rattle.jsonstring.proofs.Turn.{before_end}
-use Rattle.jsontext.proofs.EscapeLaws.{width_fits}
-use Rattle.jsonstring.proofs.LooseLaws.{then, then_bare, then_escape, loose_onward, loose_inside}
+use Rattle.jsonstring.specs.inner.Loose.{LooseTo}
 use Rattle.jsonstring.proofs.loose_end.Given as goal
 
 abbrev pub invariant-loop-i-2 : goal.invariant-loop-i-2

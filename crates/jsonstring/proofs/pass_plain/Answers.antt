@@ -1,7 +1,5 @@
-use Prim.Native.Nat.{◌-◌}
 use native.Mathlib.Omega.{arith}
-use borrow.Author.Rules.{rules}
-use Rattle.jsonstring.proofs.PlainLaws.{Passing, pass_start, pass_byte, pass_special, pass_end}
+use Rattle.jsonstring.proofs.PlainLaws.{pass_start, pass_byte, pass_special, pass_end}
 use Rattle.jsonstring.proofs.pass_plain.Goals as goal
 
 pub loop-i-init : goal.loop-i-init

@@ -1,9 +1,7 @@
 -- `pass_plain` passes plain bytes, at most 80. The invariant is `Passing`.
 -- Each turn is one law, and so is each way out.
 use Prim.Native.Nat.{◌-◌}
-use native.Mathlib.Omega.{arith}
-use borrow.Author.Rules.{rules}
-use Rattle.jsonstring.proofs.PlainLaws.{Passing, pass_start, pass_byte, pass_special, pass_end}
+use Rattle.jsonstring.proofs.PlainLaws.{Passing}
 use Rattle.jsonstring.proofs.pass_plain.Given as goal
 
 abbrev pub invariant-loop-i : goal.invariant-loop-i

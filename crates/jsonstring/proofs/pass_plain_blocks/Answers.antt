@@ -1,8 +1,4 @@
-use Prim.Native.Nat.{◌-◌}
 use native.Mathlib.Omega.{arith}
-use borrow.Author.Rules.{rules}
-use lib.ListN.{length}
-use Rattle.jsonstring.specs.inner.Plain.{PlainTo}
 use Rattle.jsonstring.proofs.PlainLaws.{plain_none, plain_block}
 use Rattle.jsonstring.proofs.pass_plain_blocks.Goals as goal
 

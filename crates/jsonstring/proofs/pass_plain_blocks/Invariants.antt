@@ -1,11 +1,8 @@
 -- `pass_plain_blocks` passes blocks of plain bytes. The invariant: all bytes from the start to here are plain.
--- A block is one use of `plain-block`: the part `&s[i..e]` is `take (e - i) (drop i s)`.
+-- A block is one use of `plain_block`: the part `&s[i..e]` is `take (e - i) (drop i s)`.
 use Prim.Native.Nat.{◌-◌}
-use native.Mathlib.Omega.{arith}
-use borrow.Author.Rules.{rules}
 use lib.ListN.{length}
 use Rattle.jsonstring.specs.inner.Plain.{PlainTo}
-use Rattle.jsonstring.proofs.PlainLaws.{plain_none, plain_block}
 use Rattle.jsonstring.proofs.pass_plain_blocks.Given as goal
 
 abbrev pub invariant-loop-i : goal.invariant-loop-i

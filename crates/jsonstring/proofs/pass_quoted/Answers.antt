@@ -1,9 +1,6 @@
-use Prim.Native.Nat.{◌-◌, ◌≤◌}
 use native.Mathlib.Omega.{arith}
-use borrow.Author.Rules.{rules}
-use lib.ListN.{length}
 use Rattle.jsonstring.specs.inner.Loose.{nothing}
-use Rattle.jsonstring.proofs.ClashLaws.{Quoting, quoting_start, quoting_block}
+use Rattle.jsonstring.proofs.ClashLaws.{quoting_start, quoting_block}
 use Rattle.jsonstring.proofs.pass_quoted.Goals as goal
 
 pub returns-then-s-i-eq92 : goal.returns-then-s-i-eq92

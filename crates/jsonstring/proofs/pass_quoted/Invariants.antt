@@ -1,12 +1,9 @@
 -- `pass_quoted` passes blocks without a clash. The invariant: bare bytes and escapes stand up to here, or up to the
 -- backslash before here.
--- A block is one use of `quoting-block`: the part `&s[i - 1..e]` is `take (e - (i - 1)) (drop (i - 1) s)`.
+-- A block is one use of `quoting_block`: the part `&s[i - 1..e]` is `take (e - (i - 1)) (drop (i - 1) s)`.
 use Prim.Native.Nat.{◌-◌, ◌≤◌}
-use native.Mathlib.Omega.{arith}
-use borrow.Author.Rules.{rules}
 use lib.ListN.{length}
-use Rattle.jsonstring.specs.inner.Loose.{nothing}
-use Rattle.jsonstring.proofs.ClashLaws.{Quoting, quoting_start, quoting_block}
+use Rattle.jsonstring.proofs.ClashLaws.{Quoting}
 use Rattle.jsonstring.proofs.pass_quoted.Given as goal
 
 abbrev pub invariant-loop-i : goal.invariant-loop-i

@@ -1,7 +1,6 @@
 -- `plain_end` passes 64 digits at once, the plain bytes of a block at once, or plain bytes one by one.
 -- Each way out is one law.
 use native.Mathlib.Omega.{arith}
-use borrow.Author.Rules.{rules}
 use mathlib.Core.Path.{refl}
 use lib.ListN.{length-take, length-drop}
 use Rattle.jsonstring.proofs.PlainLaws.{end_digits, end_block}

@@ -1,9 +1,5 @@
-use Prim.Native.Nat.{◌+◌, ◌-◌, ◌≤◌, min}
-use mathlib.Core.Path.{◌≡◌}
 use native.Mathlib.Omega.{arith}
-use borrow.Author.Rules.{rules}
-use lib.ListN.{length, drop}
-use Rattle.scan.specs.inner.Blocks.{before_stop}
+use lib.ListN.{length}
 use Rattle.scan.proofs.BlockLaws.{stop_within, stop_more, stop_done}
 use Rattle.jsonstring.specs.inner.Plain.{is_special}
 use Rattle.jsonstring.proofs.plain_prefix.Goals as goal
@@ -13,10 +9,9 @@ loop-i-init c = (omega arith, omega arith, omega (arith, stop_within is_special 
 
 pub loop-i-preserved : goal.loop-i-preserved
 loop-i-preserved c =
-    let turn = c in
-    let q = turn.loop-i in
-    let n = length turn.args.block.now in
-    (omega arith, omega arith, stop_more is_special _ q.i n q.m q.invariant.2 turn.loop-i-test.true q.invariant.1 c.is_special.ensures c.pick_byte.ensures c.lesser-m.ensures)
+    let q = c.loop-i in
+    let n = length c.args.block.now in
+    (omega arith, omega arith, stop_more is_special _ q.i n q.m q.invariant.2 c.loop-i-test.true q.invariant.1 c.is_special.ensures c.pick_byte.ensures c.lesser-m.ensures)
 
 pub returns : goal.returns
 returns c = search stop_done

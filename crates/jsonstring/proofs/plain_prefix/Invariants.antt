@@ -1,12 +1,9 @@
 -- `plain_prefix` keeps the least place of a special byte. The invariant: the first of them stands there, or further on.
--- Each turn is `stop-more`; at the end it is the least place, or the whole block.
+-- Each turn is `stop_more`; at the end it is the least place, or the whole block.
 use Prim.Native.Nat.{◌+◌, ◌-◌, ◌≤◌, min}
 use mathlib.Core.Path.{◌≡◌}
-use native.Mathlib.Omega.{arith}
-use borrow.Author.Rules.{rules}
 use lib.ListN.{length, drop}
 use Rattle.scan.specs.inner.Blocks.{before_stop}
-use Rattle.scan.proofs.BlockLaws.{stop_within, stop_more, stop_done}
 use Rattle.jsonstring.specs.inner.Plain.{is_special}
 use Rattle.jsonstring.proofs.plain_prefix.Given as goal
 

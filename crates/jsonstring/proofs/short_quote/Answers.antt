@@ -1,7 +1,6 @@
--- `short_quote` makes the tests of `isShortPlain`.
+-- `short_quote` makes the tests of `is_short_plain`.
 -- Each way out is one law.
 use native.Mathlib.Omega.{arith}
-use borrow.Author.Rules.{rules}
 use Rattle.scan.proofs.Fits.{next_fits, byte_positive}
 use Rattle.jsonstring.proofs.PlainLaws.{short_found, short_open, short_none}
 use Rattle.jsonstring.proofs.short_quote.Goals as goal

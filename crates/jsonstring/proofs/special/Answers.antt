@@ -1,7 +1,6 @@
--- `special` adds the four parts of `specialOf`.
+-- `special` adds the four parts of `special_of`.
 -- Each of them is at most 1.
 use native.Mathlib.Omega.{arith}
-use borrow.Author.Rules.{rules}
 use Rattle.jsonstring.specs.inner.Plain.{special_of}
 use Rattle.jsonstring.proofs.special.Goals as goal
 

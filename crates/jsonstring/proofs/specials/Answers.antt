@@ -1,10 +1,5 @@
-use Prim.Native.Nat.{◌+◌, ◌*◌, ◌-◌, ◌≤◌}
-use mathlib.Core.Path.{◌≡◌}
 use native.Mathlib.Omega.{arith}
-use borrow.Author.Rules.{rules}
-use lib.ListN.{length, drop}
 use Rattle.jsonstring.specs.inner.Plain.{special_of}
-use Rattle.scan.specs.inner.Blocks.{sum_of}
 use Rattle.scan.proofs.BlockLaws.{sum_again, sum_left}
 use Rattle.jsonstring.proofs.specials.Goals as goal
 

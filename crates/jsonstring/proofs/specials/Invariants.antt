@@ -2,12 +2,9 @@
 -- A byte adds at most 4, so the sum is at most 4 * 32 and fits a byte.
 use Prim.Native.Nat.{◌+◌, ◌*◌, ◌-◌, ◌≤◌}
 use mathlib.Core.Path.{◌≡◌}
-use native.Mathlib.Omega.{arith}
-use borrow.Author.Rules.{rules}
 use lib.ListN.{length, drop}
 use Rattle.jsonstring.specs.inner.Plain.{special_of}
 use Rattle.scan.specs.inner.Blocks.{sum_of}
-use Rattle.scan.proofs.BlockLaws.{sum_again, sum_left}
 use Rattle.jsonstring.proofs.specials.Given as goal
 
 abbrev pub invariant-loop-i : goal.invariant-loop-i

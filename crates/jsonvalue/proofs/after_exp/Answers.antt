@@ -1,8 +1,7 @@
--- `after_exp` makes the tests of `expAt`.
+-- `after_exp` makes the tests of `exp_at`.
 -- An e stands within the input, so that the place behind it fits.
 use Rattle.scan.proofs.Fits.{flag_fits}
 use Rattle.jsontext.specs.Token.{exp_at, is_e}
-use borrow.Author.Rules.{rules}
 use Rattle.jsonvalue.proofs.after_exp.Goals as goal
 
 pub overflow_add-at : goal.overflow_add-at

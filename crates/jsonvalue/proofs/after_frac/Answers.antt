@@ -1,9 +1,8 @@
--- `after_frac` makes the test of `fracAt`.
+-- `after_frac` makes the test of `frac_at`.
 -- A point stands within the input, so that the place behind it fits.
 use Rattle.scan.proofs.Fits.{next_fits}
 use Rattle.jsontext.specs.Token.{frac_at}
 use borrow.Author.Tests.{eq-eqb, ne_eqb}
-use borrow.Author.Rules.{rules}
 use Rattle.jsonvalue.proofs.after_frac.Goals as goal
 
 pub overflow_add-at : goal.overflow_add-at

@@ -1,9 +1,8 @@
--- `after_int` makes the tests of `intAt`.
+-- `after_int` makes the tests of `int_at`.
 -- A zero stands within the input, so that the place behind it fits.
 use Rattle.scan.proofs.Fits.{next_fits}
 use Rattle.jsontext.specs.Token.{int_at}
 use borrow.Author.Tests.{eq-eqb, ne_eqb}
-use borrow.Author.Rules.{rules}
 use Rattle.jsonvalue.proofs.after_int.Goals as goal
 
 pub overflow_add-result : goal.overflow_add-result

@@ -1,9 +1,8 @@
--- `after_minus` makes the test of `minusAt`.
+-- `after_minus` makes the test of `minus_at`.
 -- A minus stands within the input, so that the place behind it fits.
 use Rattle.scan.proofs.Fits.{next_fits}
 use Rattle.jsontext.specs.Token.{minus_at}
 use borrow.Author.Tests.{eq-eqb, ne_eqb}
-use borrow.Author.Rules.{rules}
 use Rattle.jsonvalue.proofs.after_minus.Goals as goal
 
 pub overflow_add-result : goal.overflow_add-result

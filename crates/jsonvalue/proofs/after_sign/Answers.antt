@@ -1,9 +1,8 @@
--- `after_sign` makes the tests of `signAt`.
+-- `after_sign` makes the tests of `sign_at`.
 -- A sign stands within the input, so that the place behind it fits.
 use Rattle.jsontext.specs.Token.{sign_at}
 use Rattle.scan.proofs.Fits.{next_fits}
 use borrow.Author.Tests.{eq-eqb, ne_eqb}
-use borrow.Author.Rules.{rules}
 use Rattle.jsonvalue.proofs.after_sign.Goals as goal
 
 pub overflow_add-result : goal.overflow_add-result

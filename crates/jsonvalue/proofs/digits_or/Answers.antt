@@ -1,7 +1,6 @@
--- `digits_or` makes the test of `digitsOr` and runs over the digits.
+-- `digits_or` makes the test of `digits_or` and runs over the digits.
 -- By what each call promises.
 use Rattle.jsontext.specs.Token.{digits_or}
-use borrow.Author.Rules.{rules}
 use Rattle.jsonvalue.proofs.digits_or.Goals as goal
 
 pub returns-then-is_within : goal.returns-then-is_within

@@ -1,4 +1,4 @@
--- `is_e` makes the tests of `isE`, in its order.
+-- `is_e` makes the tests of `is_e`, in its order.
 -- By the tests alone.
 use Rattle.jsontext.specs.Token.{is_e}
 use borrow.Author.Tests.{eq-eqb, ne_eqb}

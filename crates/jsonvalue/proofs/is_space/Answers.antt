@@ -1,4 +1,4 @@
--- `is_space` makes the tests of `isSpace`, in its order.
+-- `is_space` makes the tests of `is_space`, in its order.
 -- By the tests alone.
 use Rattle.jsontext.specs.Token.{is_space}
 use borrow.Author.Tests.{eq-eqb, ne_eqb}

@@ -1,5 +1,5 @@
 -- `is_short` says yes to ASCII at once; the rest is its callee's answer.
--- By `most-utf8`: bytes up to 7F are characters of their own.
+-- By `most_utf8`: bytes up to 7F are characters of their own.
 use mathlib.Core.Path.{sym}
 use Rattle.utf8.proofs.FittingLaws.{most_utf8}
 use Rattle.utf8.proofs.is_short.Goals as goal

@@ -1,6 +1,6 @@
 -- `width_at` asks the width of the four bytes at its place; ASCII is told before they are read, and past the end it is
 -- 0.
--- The bounds are the laws `width-most` and `width-left`, said of the result.
+-- The bounds are the laws `width_most` and `width_left`, said of the result.
 use Prim.Native.Nat.{ℕ, ◌-◌, ◌≤◌}
 use mathlib.Core.Path.{◌≡◌, sym}
 use mathlib.Core.List.{List}
@@ -24,30 +24,23 @@ bounded s at r e = record {
 }
 
 -- nothing stands there
-
--- an ASCII byte
-
--- four bytes that are there
-
--- four bytes, those past the end being 0
-
 pub returns-then-s-at : goal.returns-then-s-at
 returns-then-s-at c = let a = c.args in bounded _ _ _ (sym (width_none a.s.now a.at c.if-s-at.true))
 
+-- an ASCII byte
 pub returns-then-s-at-lt128 : goal.returns-then-s-at-lt128
 returns-then-s-at-lt128 c = let a = c.args in bounded _ _ _ (sym (width_ascii a.s.now a.at c.if-s-at.false c.if-s-at-lt128.true))
 
+-- four bytes that are there
 pub returns-then-s-at-ge4 : goal.returns-then-s-at-ge4
 returns-then-s-at-ge4 c =
-    let p = c in
-    let a = p.args in
-    bounded a.s.now a.at _ (rw (width_here a.s.now a.at p.if-s-at.false) c.width_of.ensures)
+    let a = c.args in
+    bounded a.s.now a.at _ (rw (width_here a.s.now a.at c.if-s-at.false) c.width_of.ensures)
 
+-- four bytes, those past the end being 0
 pub returns : goal.returns
 returns c =
-    let b = c in
-    let p = b in
-    let a = p.args in
+    let a = c.args in
     bounded a.s.now a.at _
-    (rw (width_here a.s.now a.at p.if-s-at.false, ← b.byte_at-b.ensures, ← b.byte_at-c.ensures, ← b.byte_at-d.ensures)
+    (rw (width_here a.s.now a.at c.if-s-at.false, ← c.byte_at-b.ensures, ← c.byte_at-c.ensures, ← c.byte_at-d.ensures)
     c.width_of-2.ensures)

@@ -1,5 +1,4 @@
 -- `ends_at` has the tests of `ends_at`, in its order.
-use borrow.Author.Rules.{rules}
 use borrow.Author.Tests.{eq-eqb, le-leb, lt-leb, ne_eqb}
 use Rattle.utf8stops.specs.Stops.{ends_at}
 use Rattle.utf8stops.proofs.ends_at.Goals as goal
@@ -7,14 +6,6 @@ use Rattle.utf8stops.proofs.ends_at.Goals as goal
 pub returns-then-end-stop-2 : goal.returns-then-end-stop-2
 unfolding ends_at
 returns-then-end-stop-2 c = search (eq-eqb, le-leb)
-
-pub byte_at-requires : goal.byte_at-requires
-unfolding ends_at
-byte_at-requires c = search rules
-
-pub is_within-requires : goal.is_within-requires
-unfolding ends_at
-is_within-requires c = search rules
 
 pub returns-then-end-stop : goal.returns-then-end-stop
 unfolding ends_at

@@ -1,4 +1,4 @@
--- `stop_of`: behind eight bytes of ASCII stands a multiple of 8 that the table tells (`stop-ascii`); else the walk decides.
+-- `stop_of`: behind eight bytes of ASCII stands a multiple of 8 that the table tells (`stop_ascii`); else the walk decides.
 use mathlib.Core.Path.{sym, ◌∙◌}
 use native.Mathlib.Omega.{arith}
 use Rattle.utf8stops.proofs.StopLaws.{stop_within}
@@ -7,23 +7,21 @@ use Rattle.utf8stops.proofs.Pass.{told_later}
 use Rattle.utf8stops.proofs.stop_of.Goals as goal
 
 pub entry_at-requires : goal.entry_at-requires
-entry_at-requires c = let a = c in (told_later a.requires.0 (omega arith), omega (arith, a.requires.2))
+entry_at-requires c = (told_later c.requires.0 (omega arith), omega (arith, c.requires.2))
 
 pub returns-then-are_ascii : goal.returns-then-are_ascii
 returns-then-are_ascii c =
-    let a = c in
     let b = c.are_ascii.ensures c.if-are_ascii.true in
-    let e = c.entry_at.ensures ∙ sym (stop_ascii 8 a.args.d.now a.args.at b) in
+    let e = c.entry_at.ensures ∙ sym (stop_ascii 8 c.args.d.now c.args.at b) in
     record {
       value = e;
-      upper_bound = omega (arith, e, stop_within a.args.d.now a.args.at (omega (arith, a.requires.1)));
+      upper_bound = omega (arith, e, stop_within c.args.d.now c.args.at (omega (arith, c.requires.1)));
     }
 
 pub returns : goal.returns
 returns c =
-    let a = c in
     let e = c.walk.ensures in
     record {
       value = e;
-      upper_bound = omega (arith, e, stop_within a.args.d.now a.args.at (omega (arith, a.requires.1)));
+      upper_bound = omega (arith, e, stop_within c.args.d.now c.args.at (omega (arith, c.requires.1)));
     }

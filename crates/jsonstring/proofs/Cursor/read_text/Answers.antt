@@ -2,7 +2,6 @@
 -- Plain bytes up to a quote are a string and its own text; else by the promise of `string`.
 use mathlib.Core.Path.{sym, ap, ◌∙◌}
 use native.Mathlib.Omega.{arith}
-use borrow.Author.Rules.{rules}
 use Rattle.jsonstring.specs.inner.Answers.{string_read}
 use Rattle.jsonstring.specs.inner.Plain.{plain, other, refused}
 use Rattle.jsonstring.proofs.PlainLaws.{plain_own, short_is, short_not, short_inside, short_string}

@@ -1,9 +1,6 @@
-use Prim.Native.Nat.{◌+◌, ◌-◌, ◌≤◌}
 use native.Mathlib.Omega.{arith}
-use borrow.Author.Rules.{rules}
-use lib.ListN.{length}
 use Rattle.scan.proofs.Fits.{next_fits}
-use Rattle.jsonstring.proofs.Turn.{InText, text_ascii, before_end, texts}
+use Rattle.jsonstring.proofs.Turn.{text_ascii, before_end, texts}
 use Rattle.jsonstring.proofs.PlainLaws.{text_plain}
 use Rattle.jsontext.proofs.EscapeLaws.{width_fits}
 use Rattle.jsonstring.proofs.Cursor.slow_string.Goals as goal
@@ -40,8 +37,7 @@ loop-i-2-preserved-then-b-eq92 c = (omega arith, search texts, omega arith)
 
 pub loop-i-2-preserved-then-b-lt128 : goal.loop-i-2-preserved-then-b-lt128
 loop-i-2-preserved-then-b-lt128 c =
-    let p = c in
-    let q = p.loop-i-2 in
+    let q = c.loop-i-2 in
     let ascii = text_ascii _ _ _ q.invariant.1 (omega arith) c.if-b-eq34.false c.if-b-lt32.false c.if-b-eq92.false c.if-b-lt128.true in
     (omega arith, ascii, omega arith)
 

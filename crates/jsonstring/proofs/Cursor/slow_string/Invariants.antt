@@ -1,14 +1,9 @@
 -- `Cursor::slow_string` reads a string. The invariant of both loops: the string read from its start is the string read
 -- from here.
--- A block of plain bytes is passed by `text-plain`; each turn and each end of the inner loop is one law of `texts`.
+-- A block of plain bytes is passed by `text_plain`; each turn and each end of the inner loop is one law of `texts`.
 use Prim.Native.Nat.{◌+◌, ◌-◌, ◌≤◌}
-use native.Mathlib.Omega.{arith}
-use borrow.Author.Rules.{rules}
 use lib.ListN.{length}
-use Rattle.scan.proofs.Fits.{next_fits}
-use Rattle.jsonstring.proofs.Turn.{InText, text_ascii, before_end, texts}
-use Rattle.jsonstring.proofs.PlainLaws.{text_plain}
-use Rattle.jsontext.proofs.EscapeLaws.{width_fits}
+use Rattle.jsonstring.proofs.Turn.{InText}
 use Rattle.jsonstring.proofs.Cursor.slow_string.Given as goal
 
 abbrev pub invariant-loop-i-2 : goal.invariant-loop-i-2

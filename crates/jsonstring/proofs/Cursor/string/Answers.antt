@@ -1,9 +1,8 @@
--- `Cursor::string` reads a string. Where the end is found at once and UTF-8 stands before it, `string-loose` says that
+-- `Cursor::string` reads a string. Where the end is found at once and UTF-8 stands before it, `string_loose` says that
 -- this is the string.
 -- In any other case `slow_string` has the same contract.
 use mathlib.Core.Path.{refl}
 use native.Mathlib.Omega.{arith}
-use borrow.Author.Rules.{rules}
 use Rattle.scan.proofs.Fits.{byte_place, next_fits}
 use Rattle.jsonstring.proofs.LooseLaws.{loose_onward, string_loose}
 use Rattle.jsonstring.proofs.Cursor.string.Goals as goal

@@ -1,9 +1,7 @@
-use borrow.Author.Rules.{rules}
 use borrow.Author.Tests.{eq-eqb, ne_eqb}
 use native.Mathlib.Omega.{arith}
 use Rattle.jsontext.specs.Value.{skip_colon, skip_item, skip_member, skip_value_by}
 use Rattle.jsontext.proofs.ValueComplete.{value_open}
-use Rattle.scan.proofs.Fits.{byte_positive, byte_place, next_fits, close_fits}
 use Rattle.jsonvalue.proofs.Walk.{walk_again, walk_less, walks}
 use Rattle.jsonvalue.proofs.Cursor.+skip_item_skip_member_skip_value_skip_walk.Goals as goal
 

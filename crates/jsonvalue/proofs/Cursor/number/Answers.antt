@@ -1,8 +1,7 @@
--- `Cursor::number` reads the parts of a number one after the other, as `skipNumber` does.
+-- `Cursor::number` reads the parts of a number one after the other, as `skip_number` does.
 -- By what each call promises.
 use Rattle.jsontext.specs.Token.{skip_number, number_from, unsigned_from}
 use borrow.Author.Tests.{eq-eqb, ne_eqb}
-use borrow.Author.Rules.{rules}
 use Rattle.jsonvalue.proofs.Cursor.number.Goals as goal
 
 pub returns-then-j-i : goal.returns-then-j-i

@@ -1,10 +1,7 @@
-use Prim.Native.Nat.{◌-◌}
-use mathlib.Core.Path.{◌≡◌, refl}
+use mathlib.Core.Path.{refl}
 use borrow.Author.Rules.{rules}
-use lib.ListN.{length}
-use Rattle.scan.specs.Place.{run_at}
 use Rattle.scan.proofs.PlaceLaws.{runs}
-use Rattle.jsontext.specs.Token.{is_space, space_at}
+use Rattle.jsontext.specs.Token.{space_at}
 use Rattle.jsonvalue.proofs.Cursor.skip_space.Goals as goal
 
 pub loop-i-init : goal.loop-i-init

@@ -2,12 +2,10 @@
 -- from here ends.
 -- Each turn is one law of `runs`.
 use Prim.Native.Nat.{◌-◌}
-use mathlib.Core.Path.{◌≡◌, refl}
-use borrow.Author.Rules.{rules}
+use mathlib.Core.Path.{◌≡◌}
 use lib.ListN.{length}
 use Rattle.scan.specs.Place.{run_at}
-use Rattle.scan.proofs.PlaceLaws.{runs}
-use Rattle.jsontext.specs.Token.{is_space, space_at}
+use Rattle.jsontext.specs.Token.{is_space}
 use Rattle.jsonvalue.proofs.Cursor.skip_space.Given as goal
 
 abbrev pub invariant-loop-i : goal.invariant-loop-i

@@ -2,7 +2,6 @@
 -- A literal that stands ends within the input, so that no place wraps.
 use mathlib.Core.Path.{sym, ◌∙◌}
 use native.Mathlib.Omega.{arith}
-use borrow.Author.Rules.{rules}
 use Rattle.scan.proofs.PlaceLaws.{stands_span}
 use Rattle.scan.proofs.SpanLaws.{span_fits}
 use Rattle.jsontext.specs.Token.{word_at}

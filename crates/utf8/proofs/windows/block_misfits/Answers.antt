@@ -1,5 +1,5 @@
 -- `block_misfits` counts, unless the highest byte says that all is ASCII.
--- By `fitting-ascii`: then every window fits.
+-- By `fitting_ascii`: then every window fits.
 use native.Mathlib.Omega.{arith}
 use Rattle.utf8.proofs.FittingLaws.{fitting_ascii}
 use Rattle.utf8.proofs.windows.block_misfits.Goals as goal

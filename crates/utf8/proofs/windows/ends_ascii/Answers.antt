@@ -1,5 +1,5 @@
 -- `ends_ascii` asks for the highest byte of the first and of the last 16, which overlap.
--- By `most-ends`: each byte is among the first or the last.
+-- By `most_ends`: each byte is among the first or the last.
 use native.Mathlib.Omega.{arith}
 use borrow.Author.Tests.{ltb-true}
 use lib.ListN.{length-take}

@@ -1,5 +1,5 @@
 -- `fitting_end` goes block after block while none has a misfit. The invariant: all up to three bytes on from here fit.
--- A block is one law, `fitting-block`; where one has a misfit it stops before the block.
+-- A block is one law, `fitting_block`; where one has a misfit it stops before the block.
 use Prim.Native.Nat.{◌+◌, ◌-◌, ◌≤◌}
 use mathlib.Core.Path.{◌≡◌}
 use lib.ListN.{length}

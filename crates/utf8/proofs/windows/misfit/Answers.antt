@@ -1,5 +1,5 @@
 -- `misfit` is 0 where all its tests say that the last byte fits; what it is elsewhere does not matter.
--- By `fits_low` and `fits-second`, at the tests on the way.
+-- By `fits_low` and `fits_second`, at the tests on the way.
 use native.Mathlib.Omega.{arith}
 use Rattle.utf8.proofs.FittingLaws.{fits_low, fits_second}
 use Rattle.utf8.proofs.windows.misfit.Goals as goal
