@@ -1,6 +1,6 @@
 -- What the lister prints is at most 128 bytes long: each number is within its limit, so it has few digits.
 -- By the limits of the event that is shown, and by the numbers and places that the reader refuses with.
-use Prim.Native.Nat.{ℕ, zero, suc, ◌+◌, ◌≤◌, ◌<◌, ◌^◌}
+use Prim.Native.Nat.{ℕ, ◌≤◌, ◌<◌, ◌^◌}
 use mathlib.Core.Path.{◌≡◌, refl, sym, ap, ◌∙◌}
 use mathlib.Core.Bool.{Bool, true, false}
 use mathlib.Core.List.{List, [], ◌∷◌, ◌++◌}
@@ -15,10 +15,9 @@ use Rattle.scan.proofs.Step.{pick_true, false_true}
 use Rattle.scan.specs.Bytes.{IsBytes}
 use Rattle.buffer.specs.inner.Store.{Buffer, puts, Wrote}
 use Rattle.buffer.proofs.Laws.{puts_eq}
-use Rattle.decimal.specs.Decimal.{decimal}
 use Rattle.decimal.proofs.Spelling.{length_most, length_u64, length_u16}
-use Rattle.event.specs.Event.{Event, Valid}
-use Rattle.event.specs.inner.Tells.{among, Tells, value, refusal}
+use Rattle.event.specs.Event.{Event}
+use Rattle.event.specs.inner.Tells.{among, Tells, refusal}
 use Rattle.event.specs.declared.Refusal.{Refusal}
 use Rattle.notepack.specs.declared.Head.{Head}
 use Rattle.notepack.specs.declared.HeadRead.{HeadRead}
