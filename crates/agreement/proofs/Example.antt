@@ -1,7 +1,7 @@
 -- The demand is not empty: the example of rule 12.4 is accepted by both readers; with a count that lies the plain JSON
 -- reader still shows the event, and the NSON reader refuses. By running the definitions.
 use Prim.Native.Nat.{ℕ}
-use mathlib.Core.Path.{◌≡◌, refl, sym, ◌∙◌}
+use mathlib.Core.Path.{◌≡◌, refl}
 use mathlib.Core.List.{List, [], ◌∷◌, ◌++◌}
 use native.Mathlib.Omega.{arith}
 use lib.ListN.{length, replicate}
@@ -11,7 +11,7 @@ use Rattle.scan.specs.Place.{begins, stands_at, within, run, run_at}
 use Rattle.utf8.specs.Encode.{encode}
 use Rattle.utf8.specs.inner.Width.{width_at}
 use Rattle.hexdigits.specs.Hex.{hexes, value_of, unhex, all_digits}
-use Rattle.decimal.specs.Decimal.{decimal_in, decimal, is_digit}
+use Rattle.decimal.specs.Decimal.{decimal_in, decimal}
 use Rattle.escape.specs.Escape.{nson_byte, escaped}
 use Rattle.scan.specs.Compare.{same_bytes}
 use Rattle.event.specs.Event.{Event}

@@ -2,7 +2,7 @@
 -- the same event.
 -- No name of the seven is `nson`, so each name has the same values in both texts.
 use mathlib.Core.Path.{◌≡◌, refl, sym, ◌∙◌}
-use mathlib.Core.Bool.{true, false}
+use mathlib.Core.Bool.{false}
 use mathlib.Core.List.{List}
 use Rattle.scan.specs.Ascii.{ascii}
 use Rattle.scan.proofs.Step.{false_true}
@@ -11,7 +11,7 @@ use Rattle.event.specs.Event.{Text, Event}
 use Rattle.scan.proofs.CompareLaws.{same_same}
 use Rattle.jsontext.proofs.OneValue.{chars_one, one_value}
 use Rattle.jsontext.specs.Grammar as json
-use Rattle.jsonevent.specs.Meaning.{Values, no_value, named, other, Once, once, Says, Shallow, no_member, known, ignored, IsEvent, is_event}
+use Rattle.jsonevent.specs.Meaning.{Values, named, other, Once, once, Says, Shallow, known, ignored, IsEvent, is_event}
 use Rattle.jsonevent.proofs.Whole.{sound, complete}
 use Rattle.agreement.specs.Counted.{OtherField, ended, kept, removed, added}
 use Rattle.agreement.specs.Demand3.{FieldIgnored}

@@ -3,7 +3,7 @@
 -- Piece by piece: a text is no longer than its spelling, an element than its string with a comma, a field than its
 -- member; then over the members.
 use Prim.Native.Nat.{ℕ, zero, suc, ◌+◌, ◌*◌, ◌-◌, ◌^◌, ◌<◌, ◌≤◌}
-use mathlib.Core.Path.{◌≡◌, refl, subst}
+use mathlib.Core.Path.{◌≡◌, refl, ap, subst}
 use mathlib.Core.Bool.{Bool, true, false}
 use mathlib.Core.List.{List, [], ◌∷◌, ◌++◌}
 use native.Mathlib.Omega.{arith}
@@ -62,6 +62,7 @@ total w (x ∷ l) = w x + total w l
 module _ {A : Type 0} (most : ℕ) (Is : json.Json → A → Type 0) (w : A → ℕ)
     (item : (v : json.Json) (x : A) (l : List ℕ) → Is v x → json.Spells v l → length l ≤ most → w x ≤ length l + 1) where
   items_shorter : {i : json.Items} {xs : List A} {l : List ℕ} → Each Is i xs → json.SpellsItems i l → length l ≤ most → total w xs ≤ length l + 1
+  items_shorter {l = l} Each.none h n = elim h [ ]
   items_shorter (Each.also {v = v} {x = x} g Each.none) (json.last_item {l = l} h) n = omega (arith, item v x l g h n)
   items_shorter (Each.also {v = v} {x = y} g gs) (json.more_items {l = l} {r = r} h (json.separator {w = u} {x = x} p q) hs) n =
       let a = length-append l ((u ++ (0x2C ∷ x)) ++ r) in
@@ -182,9 +183,13 @@ found_item [] k x h = omega arith
 found_item (y ∷ f) zero x h = omega arith
 found_item (y ∷ f) (suc k) x h = omega (arith, found_item f k x h)
 
+-- behind the last member nothing changes
+tracks_end : {f g : Fields} → Tracks f json.no_member g → g ≡ f
+tracks_end no_more = refl
+
 members_shorter : {m : json.Members} {l : List ℕ} {f g : Fields} → json.SpellsMembers m l → Tracks f m g → length l ≤ 65_536
     → total taken g ≤ total taken f + length l
-members_shorter {f = f} (json.last_member h) (then {x = x} c i y no_more) n = omega (arith, member_item y h n, found_item f _ x i)
+members_shorter {f = f} (json.last_member h) (then {x = x} c i y t) n = omega (arith, member_item y h n, found_item f _ x i, ap (total taken) (tracks_end t))
 members_shorter {f = f} (json.more_members {l = l} {r = r} h (json.separator {w = w} {x = z} p q) hs) (then {x = x} d i y t) n =
     let a = length-append l ((w ++ (0x2C ∷ z)) ++ r) in
     let b = length-append (w ++ (0x2C ∷ z)) r in
@@ -197,7 +202,14 @@ unfolding pack
 pack_taken e = simp length-append (omega arith)
 
 object_shorter : {v : json.Json} {l : List ℕ} {e : Event} → json.Spells v l → IsEvent v e → length l ≤ 65_536 → length (pack e) ≤ length l
+object_shorter json.is_false i n = elim i [ ]
+object_shorter json.is_null i n = elim i [ ]
+object_shorter json.is_true i n = elim i [ ]
 object_shorter (json.empty_object p) i n = absurd (no_event i)
+object_shorter (json.empty_array p) i n = elim i [ ]
+object_shorter (json.is_array p h q) i n = elim i [ ]
+object_shorter (json.is_number h) i n = elim i [ ]
+object_shorter (json.is_string h) i n = elim i [ ]
 object_shorter {e = e} (json.is_object {w = w} {l = l} {x = x} p h q) i n =
     let a = length-append w (l ++ (x ++ (0x7D ∷ []))) in
     let b = length-append l (x ++ (0x7D ∷ [])) in

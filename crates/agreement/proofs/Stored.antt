@@ -1,7 +1,7 @@
 -- An event and the bytes of its elements fix the packed bytes, and these are strict exactly if each element is.
 -- Along the layout: a number has one spelling. No strict element is longer than another, so where the bytes agree as a
 -- whole, they agree element by element.
-use Prim.Native.Nat.{ℕ, ◌+◌, ◌≤◌}
+use Prim.Native.Nat.{ℕ, ◌≤◌}
 use mathlib.Core.Path.{◌≡◌, refl, sym, ap, ◌∙◌}
 use mathlib.Core.List.{List, [], ◌∷◌, ◌++◌, map, flatten}
 use mathlib.Core.Bool.{true}
