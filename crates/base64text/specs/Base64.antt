@@ -39,7 +39,7 @@ abbrev pub third : ℕ → ℕ → ℕ
 third c d = c % 4 * 64 + d % 64
 
 -- a byte for each eight bits of the characters. (Any other byte counts as 0 here, and a lone last character as nothing;
--- a reader asks `inAlphabet` and `endsWhole` first.)
+-- a reader asks `in_alphabet` and `ends_whole` first.)
 unfoldable pub decoded : List ℕ → List ℕ
 decoded [] = []
 decoded (a ∷ []) = []
@@ -49,7 +49,7 @@ decoded (a ∷ b ∷ c ∷ d ∷ t) =
     first (six_bits a) (six_bits b) ∷ second (six_bits b) (six_bits c) ∷ third (six_bits c) (six_bits d) ∷ decoded t
 
 -- whether a text ends as base64 does: its length leaves 0, 2 or 3 after division by 4, and the bits left over are zero.
--- (Here too a reader asks `inAlphabet` of each byte first.)
+-- (Here too a reader asks `in_alphabet` of each byte first.)
 unfoldable pub ends_whole : List ℕ → Bool
 ends_whole [] = true
 ends_whole (a ∷ []) = false

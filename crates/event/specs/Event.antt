@@ -42,4 +42,4 @@ pub record Valid (e : Event) : Type 0 where
   pub each : All ValidTag e.tags
   pub text : Utf8 e.content
 
--- Equality of events is `≡`; texts are compared as text, byte for byte (`sameBytes` of crate scan decides it).
+-- Equality of events is `≡`; texts are compared as text, byte for byte (`same_bytes` of crate scan decides it).

@@ -16,7 +16,7 @@ abbrev pub hexes : List ℕ → List ℕ
 hexes [] = []
 hexes (b ∷ l) = digit_of (b / 16) ∷ digit_of (b % 16) ∷ hexes l
 
--- a byte for each two digits. (Any other byte counts as 0 here; the readers ask `allDigits` first.)
+-- a byte for each two digits. (Any other byte counts as 0 here; the readers ask `all_digits` first.)
 unfoldable pub unhex : List ℕ → List ℕ
 unhex [] = []
 unhex (a ∷ []) = []

@@ -1,5 +1,5 @@
 -- The closing brace: an event is read there exactly where the fields hold its seven parts, and else 15 is told.
--- Field by field along `closeAt`.
+-- Field by field along `close_at`.
 use Prim.Native.Nat.{ℕ, ◌+◌}
 use mathlib.Core.Path.{◌≡◌, refl}
 use Rattle.scan.specs.Choice.{Answer, shown, refused, Read, read, and_then}

@@ -1,6 +1,6 @@
 -- The seven names and their numbers: a text has the number k exactly if it is the name of field k, and 7 exactly if it
 -- is none of the seven.
--- By the steps of `indexIn`; that the seven differ from each other is found by computation.
+-- By the steps of `index_in`; that the seven differ from each other is found by computation.
 use Prim.Native.Nat.{ℕ, zero, suc, ◌<◌}
 use mathlib.Core.Path.{◌≡◌, refl, sym}
 use mathlib.Core.List.{List, [], ◌∷◌}

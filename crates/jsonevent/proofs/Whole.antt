@@ -1,4 +1,4 @@
--- The reader and the meaning are one: `readJson` shows an event exactly if the input is a JSON text whose tree is that
+-- The reader and the meaning are one: `read_json` shows an event exactly if the input is a JSON text whose tree is that
 -- event, of at most 65,536 bytes.
 -- The object's two laws, with the white space around it and the input's end.
 use Prim.Native.Nat.{ℕ, ◌≤◌}

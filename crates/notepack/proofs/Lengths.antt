@@ -1,5 +1,5 @@
 -- The strict element by the form in which it goes, and how long it is.
--- The one place where `packElement` is opened; writers and measures cite these.
+-- The one place where `pack_element` is opened; writers and measures cite these.
 use Prim.Native.Nat.{ℕ, ◌+◌, ◌*◌, ◌/◌}
 use mathlib.Core.Path.{◌≡◌, refl, sym, ap, ◌∙◌}
 use mathlib.Core.Bool.{Bool, true, false}

@@ -1,4 +1,4 @@
--- The strict form (rules 3): every varint as short as it can be, and each element raw or as text by `goesAsBytes`
+-- The strict form (rules 3): every varint as short as it can be, and each element raw or as text by `goes_as_bytes`
 -- (rule 3.3). Assumes nothing.
 use Rattle.std.specs.Prelude.{ℕ, ◌+◌, ◌*◌, List, [], ◌∷◌, ◌++◌, length}
 use Rattle.scan.specs.Choice.{pick}

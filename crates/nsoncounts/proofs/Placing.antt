@@ -1,4 +1,4 @@
--- The counts that were read are those that stand at their places: `counts-placed`. Each read ends where its digits do.
+-- The counts that were read are those that stand at their places: `counts_placed`. Each read ends where its digits do.
 -- Along the reads; n counts by induction on n.
 use Prim.Native.Nat.{ℕ, zero, suc, ◌+◌, ◌*◌, ◌≤◌}
 use mathlib.Core.Path.{◌≡◌, refl, sym, ap, ◌∙◌}

@@ -1,4 +1,4 @@
--- A text has no fault exactly if it is made of bare bytes and escapes and is UTF-8: `no-fault` and `faultless`.
+-- A text has no fault exactly if it is made of bare bytes and escapes and is UTF-8: `no_fault` and `faultless`.
 -- One step law for each test of the definition at a place; both directions follow them.
 use Prim.Native.Nat.{ℕ, zero, suc, ◌+◌, ◌-◌, ◌<◌, ◌≤◌}
 use mathlib.Core.Path.{◌≡◌, refl, sym, ap, ◌∙◌}

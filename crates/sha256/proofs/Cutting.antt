@@ -1,5 +1,5 @@
 -- Cutting a message elsewhere changes nothing, and what is hashed in pieces is the digest.
--- The blocks of l ++ k are those of l, and then those of what is behind them and k (`hashed-append`).
+-- The blocks of l ++ k are those of l, and then those of what is behind them and k (`hashed_append`).
 use Rattle.std.proofs.Common.{◌≡◌, ℕ, zero, suc, ◌+◌, ◌*◌, ◌/◌, ◌%◌, ◌≤◌, List, [], ◌++◌, length, take, drop, sym, refl, ap, ◌∙◌, append_assoc, zero-add, arith, length-append, length-drop, length-take-le, drop-drop, take_at}
 use lib.Seq.{take-append-le, drop-append-le}
 use Rattle.sha256.specs.declared.Words.{Words}

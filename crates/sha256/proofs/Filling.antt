@@ -1,5 +1,5 @@
 -- What the code's blocks are: a piece that stays within a block, a piece that ends it, and the padding.
--- By what stands at the start of a buffer of zeros (`written-front`) and `hashed-append`.
+-- By what stands at the start of a buffer of zeros (`written_front`) and `hashed_append`.
 use Rattle.std.proofs.Common.{◌≡◌, ℕ, zero, suc, ◌+◌, ◌-◌, ◌*◌, ◌/◌, ◌%◌, ◌^◌, ◌<◌, ◌≤◌, Bool, true, false, leb, List, [], ◌∷◌, ◌++◌, length, take, drop, replicate, sym, refl, ap, ◌∙◌, append_assoc, append-nil, zero-add, arith, length-append, length-drop, take-append-drop, length-take-le, take_all, take_at, le-leb, leb-false}
 use mathlib.Core.Logic.{dite}
 use native.Mathlib.Decide.{dec_le}

@@ -1,5 +1,5 @@
 -- The pieces of a message, added one after the other as `add` does it and finished, give the digest of the whole; a
--- refused piece changes nothing. By induction on the pieces, with `added-append`.
+-- refused piece changes nothing. By induction on the pieces, with `added_append`.
 use Rattle.std.proofs.Common.{◌≡◌, ℕ, ◌+◌, ◌%◌, ◌^◌, ◌<◌, true, false, List, [], ◌∷◌, ◌++◌, length, sym, refl, ap, ◌∙◌, append_assoc, append-nil, arith, length-append}
 use mathlib.Core.List.{flatten}
 use lib.ListN.{length-replicate}

@@ -1,5 +1,5 @@
 -- The bytes of the slots after an offer: read, they are the slots after it; and the slots after it, written, are those
--- bytes. By the laws of one slot of all (`slots-over`, `slots_set`).
+-- bytes. By the laws of one slot of all (`slots_over`, `slots_set`).
 use Prim.Native.Nat.{ℕ, ◌+◌, ◌*◌, ◌≤◌}
 use mathlib.Core.Path.{◌≡◌, refl, sym, ap, ◌∙◌}
 use mathlib.Core.List.{List, ◌++◌}

@@ -1,5 +1,5 @@
 -- A varint is read at a place exactly where its spelling is the span, and what is written reads back.
--- The laws of `spelled` at a place, through `Span`; callers speak of `Spells` and `varintAt` alone.
+-- The laws of `spelled` at a place, through `Span`; callers speak of `Spells` and `varint_at` alone.
 use Prim.Native.Nat.{ℕ, ◌+◌, ◌^◌, ◌≤◌, ◌<◌}
 use mathlib.Core.Path.{◌≡◌, refl, sym, ap, ◌∙◌}
 use mathlib.Core.List.{List, ◌++◌}

@@ -1,5 +1,5 @@
 -- `alphabet_end` passes blocks in which no byte counts, and looks byte by byte where one does.
--- The invariant is one equation: the run from the start ends where the run from here does. A block is `block-passed`.
+-- The invariant is one equation: the run from the start ends where the run from here does. A block is `block_passed`.
 use Prim.Native.Nat.{◌-◌, ◌≤◌}
 use mathlib.Core.Path.{◌≡◌}
 use lib.ListN.{length}

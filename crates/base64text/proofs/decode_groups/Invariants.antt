@@ -1,5 +1,5 @@
 -- `decode_groups` turns four characters into three bytes a turn. The invariant: what is left to write is the decoding of the rest,
--- and the place moves by the groups passed. A turn is `decode-turn` and three stores.
+-- and the place moves by the groups passed. A turn is `decode_turn` and three stores.
 use Prim.Native.Nat.{◌≤◌, ◌+◌, ◌-◌, ◌*◌, ◌/◌, ◌%◌}
 use mathlib.Core.Path.{◌≡◌}
 use lib.ListN.{length, drop}

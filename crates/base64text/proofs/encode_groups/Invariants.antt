@@ -1,5 +1,5 @@
 -- `encode_groups` turns three bytes into four characters a turn. The invariant: what is left to write is the encoding of the rest,
--- and the place moves by the groups passed. A turn is `encode-turn` and four stores.
+-- and the place moves by the groups passed. A turn is `encode_turn` and four stores.
 use Prim.Native.Nat.{◌≤◌, ◌+◌, ◌-◌, ◌*◌, ◌/◌, ◌%◌}
 use mathlib.Core.Path.{◌≡◌}
 use lib.ListN.{length, drop}

@@ -1,4 +1,4 @@
--- `is_outside` goes by the ranges of the alphabet: `range-outside`, with the tests that were passed on the way.
+-- `is_outside` goes by the ranges of the alphabet: `range_outside`, with the tests that were passed on the way.
 use mathlib.Core.Path.{sym, ◌∙◌}
 use native.Mathlib.Omega.{arith}
 use borrow.Author.Tests.{eq-eqb, ne_eqb}

@@ -1,5 +1,5 @@
 -- `put_decoded` writes as many whole groups as there is room for, and then one group more, whatever of it fits.
--- `decoded-cut`: what is behind the buffer's end does not matter. The table that is lent is the definition's, computed.
+-- `decoded_cut`: what is behind the buffer's end does not matter. The table that is lent is the definition's, computed.
 use mathlib.Core.Path.{refl, sym}
 use native.Mathlib.Omega.{arith}
 use lib.ListN.{length}

@@ -1,4 +1,4 @@
--- `six_bits` goes by the ranges of the alphabet: `range-bits`, with the tests that were passed on the way.
+-- `six_bits` goes by the ranges of the alphabet: `range_bits`, with the tests that were passed on the way.
 use mathlib.Core.Path.{sym, ◌∙◌}
 use native.Mathlib.Omega.{arith}
 use borrow.Author.Tests.{eq-eqb, ne_eqb}

@@ -1,5 +1,5 @@
 -- `list_tag` lists what is asked for of one tag: it passes some elements, writes some rows and passes the others.
--- By `some-again`, and the ends of three runs, one behind the other.
+-- By `some_again`, and the ends of three runs, one behind the other.
 use Prim.Native.Nat.{◌+◌, ◌-◌}
 use mathlib.Core.Path.{◌≡◌, ◌∙◌}
 use native.Mathlib.Omega.{arith}

@@ -1,5 +1,5 @@
 -- The elements as a second pass finds them from place to place, behind the reader; `proofs/Again` shows that on an
--- accepted input they are those of `inTags`. Assumes nothing.
+-- accepted input they are those of `in_tags`. Assumes nothing.
 use Rattle.std.specs.Prelude.{ℕ, zero, suc, List, [], ◌∷◌, ◌++◌}
 use Rattle.notepack.specs.inner.Again.{part_again, count_again, texts_end}
 use Rattle.elements.specs.Elements.{TagElement}

@@ -1,4 +1,4 @@
--- A lowercase hex digit, for the laws of `allDigits`. Assumes nothing.
+-- A lowercase hex digit, for the laws of `all_digits`. Assumes nothing.
 use Rattle.std.specs.Prelude.{ℕ, ◌≤◌}
 
 -- 0-9 a-f, and no other byte

@@ -1,5 +1,5 @@
 -- `same_text` compares two parts as texts, whichever way each is stored.
--- By the laws of hex and of `sameBytes`; a slice's numbers are bytes.
+-- By the laws of hex and of `same_bytes`; a slice's numbers are bytes.
 use mathlib.Core.Path.{◌∙◌}
 use native.Mathlib.Omega.{arith}
 use Rattle.scan.proofs.AllLaws.{all_places, all_take, all_drop}

@@ -1,5 +1,5 @@
 -- `read_packed` tells the value that its callee found, or the refusal.
--- The definition is that of the callee, by the law `numbers-walked`.
+-- The definition is that of the callee, by the law `numbers_walked`.
 use Rattle.notepack.proofs.Viewing.{numbers_walked}
 use Rattle.notepack.proofs.read_packed.Goals as goal
 

@@ -1,5 +1,5 @@
 -- `texts_in` tells the value that its callee found, or the refusal.
--- The definition is that of the callee, by the law `tag-start`.
+-- The definition is that of the callee, by the law `tag_start_lem`.
 use mathlib.Core.Path.{sym}
 use Rattle.notepack.proofs.Viewing.{tag_start_lem}
 use Rattle.notepack.proofs.texts_in.Goals as goal

@@ -1,4 +1,4 @@
--- Whether NSON can carry an event: the decision. `proofs/Decision` shows that it is `Carries` (`carries-exactly`).
+-- Whether NSON can carry an event: the decision. `proofs/Decision` shows that it is `Carries` (`carries_exactly`).
 -- Assumes nothing.
 use Rattle.std.specs.Prelude.{◌+◌, Bool, true, false, List, [], ◌∷◌, length, leb}
 use Rattle.scan.specs.Choice.{pick}

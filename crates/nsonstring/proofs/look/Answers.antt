@@ -1,6 +1,6 @@
 -- `look`: a simple text that is UTF-8 has no fault, and its escapes tell the length; else each by the function that
 -- tells it.
--- By `seen-simple`; all ASCII is UTF-8. The part from the start on is the whole.
+-- By `seen_simple`; all ASCII is UTF-8. The part from the start on is the whole.
 use Prim.Native.Nat.{ℕ}
 use mathlib.Core.Path.{sym, ap, ◌∙◌}
 use mathlib.Core.List.{List}

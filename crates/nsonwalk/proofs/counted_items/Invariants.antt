@@ -1,6 +1,6 @@
 -- `counted_items` gathers the length of the items' elements. The invariant is one equation: all items are those that
 -- are left behind what was gathered.
--- A turn is one law of `Turns`. An element is at most `elementMost` bytes long, so nothing passes a word.
+-- A turn is one law of `Turns`. An element is at most `element_most` bytes long, so nothing passes a word.
 use borrow.Author.Rules.{rules}
 use Rattle.nsonwalk.specs.inner.Walk.{element_most}
 use Prim.Native.Nat.{◌+◌, ◌*◌, ◌≤◌}

@@ -1,6 +1,6 @@
 -- `tag_list` gathers the length of the tags' strict form. The invariant is one equation: all tags are those that are
 -- left behind what was gathered.
--- A turn is one law of `Turns`. A tag is at most `tagMost` bytes long and has at most 255 counts, so nothing passes a
+-- A turn is one law of `Turns`. A tag is at most `tag_most` bytes long and has at most 255 counts, so nothing passes a
 -- word.
 use borrow.Author.Rules.{rules}
 use Rattle.nsonwalk.specs.inner.Walk.{tag_most}

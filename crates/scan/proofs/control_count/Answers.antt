@@ -1,4 +1,4 @@
--- `control_count` makes the test of `controlCount`.
+-- `control_count` makes the test of `control_count`.
 -- 1 and 0 are at most 1.
 use native.Mathlib.Omega.{arith}
 use borrow.Author.Tests.{lt-ltb, le-ltb}

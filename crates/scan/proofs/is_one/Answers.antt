@@ -1,4 +1,4 @@
--- `is_one` makes the test of `isOne`.
+-- `is_one` makes the test of `is_one`.
 -- 1 and 0 are at most 1.
 use native.Mathlib.Omega.{arith}
 use borrow.Author.Tests.{eq-eqb, ne_eqb}

@@ -1,5 +1,5 @@
--- `add` takes a piece in. Where nothing waits it is settled as it is (`none-waits`). A piece that stays within its block
--- waits there (`short-piece`); of any other the first bytes end the block and the rest is settled (`rest-settled`).
+-- `add` takes a piece in. Where nothing waits it is settled as it is (`none_waits`). A piece that stays within its block
+-- waits there (`short_piece`); of any other the first bytes end the block and the rest is settled (`rest_settled`).
 use Rattle.std.proofs.Common.{◌≡◌, ℕ, ◌-◌, ◌%◌, List, length, take, drop, ◌∙◌, arith, length-drop, length-take, take_all, rules}
 use Rattle.sha256.proofs.Filling.{is_long, not_long, none_waits, short_piece, rest_settled}
 use Rattle.sha256.proofs.add.Goals as goal

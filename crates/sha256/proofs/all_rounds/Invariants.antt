@@ -1,6 +1,6 @@
 -- `all_rounds` makes the schedule and goes through the rounds, eight of each in a turn. The invariant is `Going`: what is
 -- made is the schedule's start, and the rounds that are left give the result.
--- Each turn is `going-turn`, the last sixteen rounds are `going_done`.
+-- Each turn is `going_turn`, the last sixteen rounds are `going_done`.
 use Rattle.std.proofs.Common.{◌≡◌, ◌-◌, ◌%◌, ◌≤◌, take}
 use Rattle.sha256.specs.Compression.{schedule, rounds}
 use Rattle.sha256.proofs.Turns.{Going}

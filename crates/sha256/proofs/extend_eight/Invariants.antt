@@ -1,5 +1,5 @@
 -- `extend_eight` makes eight more words of the schedule. The invariant: what the first i words are extended to is the
--- schedule of t + 8. Each turn is `schedule-turn`, the end `schedule-done`.
+-- schedule of t + 8. Each turn is `schedule_turn`, the end `schedule_done`.
 use Rattle.std.proofs.Common.{◌≡◌, ◌+◌, ◌-◌, ◌≤◌, length, take}
 use Rattle.sha256.specs.Compression.{schedule}
 use Rattle.sha256.proofs.extend_eight.Given as goal

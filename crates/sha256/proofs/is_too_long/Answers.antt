@@ -1,5 +1,5 @@
 -- `is_too_long` compares without a sum that could wrap: first the count alone, then the piece with what is left
--- (`long-shift`).
+-- (`long_shift`).
 use Rattle.std.proofs.Common.{◌+◌, ◌^◌, sym, arith, le-leb}
 use Rattle.sha256.specs.Pieces.{is_too_long}
 use Rattle.sha256.proofs.Filling.{long_shift}

@@ -1,5 +1,5 @@
 -- `load` stores the block's words. The invariant: those stored so far, and those of the bytes that are left, are all.
--- Each turn is `words-turn`, the end `words-done`.
+-- Each turn is `words_turn`, the end `words_done`.
 use Rattle.std.proofs.Common.{◌≡◌, ◌-◌, ◌*◌, ◌≤◌, ◌++◌, length, take, drop}
 use Rattle.sha256.specs.Compression.{words_of}
 use Rattle.sha256.proofs.load.Given as goal

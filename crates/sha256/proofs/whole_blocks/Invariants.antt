@@ -1,5 +1,5 @@
 -- `whole_blocks` hashes block after block. The invariant: the blocks that are left, from the value so far, give the
--- result. Each turn is `blocks-turn`, the end `blocks-done`.
+-- result. Each turn is `blocks_turn`, the end `blocks_done`.
 use Rattle.std.proofs.Common.{◌≡◌, ◌-◌, ◌/◌, ◌≤◌, length, drop}
 use Rattle.sha256.specs.Compression.{blocks}
 use Rattle.sha256.proofs.whole_blocks.Given as goal

@@ -1,4 +1,4 @@
--- `state_of` reads words, count and pending bytes where the definition reads them (`state-made`).
+-- `state_of` reads words, count and pending bytes where the definition reads them (`state_made`).
 use mathlib.Core.Path.{refl}
 use Rattle.sha256bytes.proofs.Entries.{state_made}
 use Rattle.sha256bytes.proofs.state_of.Goals as goal

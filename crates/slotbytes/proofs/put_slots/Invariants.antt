@@ -1,5 +1,5 @@
 -- `put_slots` writes the bytes of each slot. The invariant: what is left to write is that of the slots from i on.
--- Each turn is `bytes-turn`, the end `bytes-end`.
+-- Each turn is `bytes_turn`, the end `bytes_end`.
 use Prim.Native.Nat.{◌-◌}
 use lib.ListN.{drop}
 use Rattle.buffer.proofs.Laws.{Left}

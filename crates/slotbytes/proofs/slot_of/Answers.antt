@@ -1,4 +1,4 @@
--- `slot_of` tells the slot of 16 bytes: its three parts are read where the definition reads them (`slot-made`).
+-- `slot_of` tells the slot of 16 bytes: its three parts are read where the definition reads them (`slot_made`).
 use Rattle.slotbytes.proofs.Turns.{slot_made}
 use Rattle.slotbytes.proofs.slot_of.Goals as goal
 

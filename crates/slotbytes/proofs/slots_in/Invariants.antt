@@ -1,5 +1,5 @@
 -- `slots_in` tells the 64 slots of a buffer. The invariant: the table has 64 slots, and its first i are the buffer's.
--- Each turn is `table-turn`, the end `table-end`.
+-- Each turn is `table_turn`, the end `table_end`.
 use Prim.Native.Nat.{◌-◌}
 use mathlib.Core.Path.{◌≡◌}
 use lib.ListN.{length, take}

@@ -1,7 +1,7 @@
 -- The decision: how many bytes one sequence takes, and whether a text is made of sequences. `Laws.is-utf8` shows that
--- `isUtf8` is `Utf8`. Of one sequence: `WidthLaws.width-accepts` (a character of `Utf8` has its length as width),
--- `width-consumes` (a width other than 0 is that of a character that stands there), both stated by `scan/inner/Span`,
--- which an auditor of them reads too; and `width-here` (`width_at` is `width_of` of four bytes). Assumes nothing.
+-- `is_utf8` is `Utf8`. Of one sequence: `WidthLaws.width-accepts` (a character of `Utf8` has its length as width),
+-- `width_consumes` (a width other than 0 is that of a character that stands there), both stated by `scan/inner/Span`,
+-- which an auditor of them reads too; and `width_here` (`width_at` is `width_of` of four bytes). Assumes nothing.
 use Rattle.std.specs.Prelude.{ℕ, zero, suc, ◌+◌, ◌-◌, Bool, true, false, ◌&&◌, List, [], ◌∷◌, length, ltb, eqb}
 use Rattle.scan.specs.Choice.{pick}
 use Rattle.scan.specs.Place.{byte_at, within}

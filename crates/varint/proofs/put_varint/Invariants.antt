@@ -1,5 +1,5 @@
 -- `put_varint` writes the shortest spelling. The invariant: what is left to write is the spelling of the rest.
--- Each turn is the step `uleb-more`, the last byte `uleb-last`.
+-- Each turn is the step `uleb_more`, the last byte `uleb_last`.
 use Rattle.buffer.proofs.Laws.{Left}
 use Rattle.varint.specs.Uleb.{uleb}
 use Rattle.varint.proofs.put_varint.Given as goal

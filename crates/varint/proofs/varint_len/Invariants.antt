@@ -1,6 +1,6 @@
 -- `varint_len` counts the bytes of the shortest spelling. The invariant: what is counted and what the rest takes are
 -- one more than the whole.
--- Each turn is `length_more`; the bound is `length-ten`.
+-- Each turn is `length_more`; the bound is `length_ten`.
 use Prim.Native.Nat.{◌+◌, ◌≤◌}
 use mathlib.Core.Path.{◌≡◌}
 use lib.ListN.{length}

@@ -1,4 +1,4 @@
--- What the steps of the comparison tell; `proofs/Choosing` shows that together they are `rivalsGiven`. Assumes nothing.
+-- What the steps of the comparison tell; `proofs/Choosing` shows that together they are `rivals_given`. Assumes nothing.
 use Rattle.std.specs.Prelude.{ℕ, Bool, List}
 use Rattle.scan.specs.Choice.{Answer, shown, refused}
 use Rattle.notepack.specs.declared.Head.{Head}

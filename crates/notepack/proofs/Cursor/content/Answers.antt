@@ -1,4 +1,4 @@
--- `Cursor::content` reads its length and then its text, as `contentAt` does.
+-- `Cursor::content` reads its length and then its text, as `content_at` does.
 -- Each return is the definition at the answers of the calls on the way.
 use borrow.Author.Rules.{rules}
 use Rattle.notepack.specs.Unpack.{content_at}
