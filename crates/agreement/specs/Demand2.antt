@@ -40,7 +40,7 @@ pub record Demand2 : Type 0 where
   -- They are strict exactly if each element is stored as the strict form has it.
   pub strict_elements : (s : List ℕ) (e : Event) (ls : List (List (List ℕ))) → unpack s ≡ shown e → Stored e.tags ls → s ≡ packed_with e ls
       → (strict s ≡ shown true) ↔ (ls ≡ stored_strict e.tags)
-  -- ---- the canonical text. `canonical` is NIP-01's; `proofs/Demand2.canonical-text` has it byte by byte.
+  -- ---- the canonical text. `canonical` is NIP-01's; `proofs/Demand2.canonical_text` has it byte by byte.
 
   -- It is what is written, given room.
   pub writes_canonical : (s d : List ℕ) (e : Event) → unpack s ≡ shown e → length (canonical e) ≤ length d

@@ -83,7 +83,7 @@ place_of n (held d ∷ s) = pick (same_name n (name_of d)) zero (suc (place_of n
 unfoldable pub is_ephemeral : ℕ → Bool
 is_ephemeral k = within 20_000 29_999 k
 
--- equal in all seven: one strict form (`Laws.same-event`)
+-- equal in all seven: one strict form (`Laws.same_event_lem`)
 unfoldable pub same_event : Event → Event → Bool
 same_event d e = same_bytes (pack d) (pack e)
 

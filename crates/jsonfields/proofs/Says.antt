@@ -1,4 +1,4 @@
--- What a spot says is the field's value as json/specs/Field reads it, and its length is that of the value's strict
+-- What a spot says is the field's value as jsonevent/specs/Field reads it, and its length is that of the value's strict
 -- form.
 -- One equation and one record of what a field takes, kind by kind: hex, a number, tags, a text, a value that is
 -- ignored.

@@ -146,13 +146,11 @@ impl Cursor {
         let found = jsonstring::Cursor { at }.string(&s[..]);
         match found {
             StringRead::Text(p, next) => {
-                let from = p.from;
-                let count = p.count;
                 if spells_hex(s, p, n) {
                     return SpotRead::Found(
                         Spot {
-                            from,
-                            count,
+                            from: p.from,
+                            count: p.count,
                             number: n as u64,
                             len: n,
                         },

@@ -1,5 +1,5 @@
--- An object by its spots is the object as json/specs/Object reads it: `object-said`. And what holds of every spot that
--- is read for a field holds of the object's seven: `object-each`. Read by read, and by induction on the members.
+-- An object by its spots is the object as jsonevent/specs/Object reads it: `object_said`. And what holds of every spot that
+-- is read for a field holds of the object's seven: `object_each`. Read by read, and by induction on the members.
 use Prim.Native.Nat.{ℕ, zero, suc, ◌+◌, ◌≤◌, ◌<◌, ◌^◌}
 use mathlib.Core.Path.{◌≡◌, refl, sym, ap, ◌∙◌, subst}
 use mathlib.Core.Bool.{Bool, true, false}

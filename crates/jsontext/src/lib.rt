@@ -3,7 +3,7 @@
 #![tactic(auto)]
 
 // The bytes of a string between its quotes, as spelled.
-#[derive(Drop)]
+#[derive(Clone, Copy)]
 pub struct Spelled {
     pub from: usize,
     pub count: usize,

@@ -1,6 +1,6 @@
 -- What a field says at the closing brace: where it is missing, or of another kind, there is nothing to give but 15.
 -- Laws: an event that `close_at` reads is one whose parts the seven fields hold, and all else is 15 at the brace
--- (`Closing.close-told`); an event's own fields give the event (`Closing.close-event`); the whole reader shows an event
+-- (`Closing.close_told`); an event's own fields give the event (`Closing.close_event`); the whole reader shows an event
 -- exactly if the text, of at most 65,536 bytes, has a tree that is that event (`Whole.exactly`). Of `is_missing`: what
 -- one of the seven fields says is not missing (`Says.Says-some`), which is one direction only. Assumes nothing.
 use Rattle.std.specs.Prelude.{ℕ, ◌+◌, Bool, true, false, List}

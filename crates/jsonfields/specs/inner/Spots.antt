@@ -1,5 +1,5 @@
 -- The value of each field by its spot: where it stands, and how it goes into the strict form. It is read as
--- json/specs/Field reads it, with the same refusals, and every number of the spot is fixed. Assumes nothing.
+-- jsonevent/specs/Field reads it, with the same refusals, and every number of the spot is fixed. Assumes nothing.
 use Rattle.std.specs.Prelude.{ℕ, ◌+◌, List, length, eqb}
 use Rattle.scan.specs.Choice.{pick, Answer, refused, Read, read, and_then}
 use Rattle.scan.specs.Place.{byte_at}
@@ -15,7 +15,7 @@ use Rattle.jsonfields.specs.declared.Spot.{Spot}
 use Rattle.jsonfields.specs.declared.Field.{Field}
 use Rattle.jsonfields.specs.declared.Field.TheVariants as field-by
 
--- a field's number, as json/specs/Meaning lists the names; 7 for any other
+-- a field's number, as jsonevent/specs/Meaning lists the names; 7 for any other
 abbrev pub field_number : Field → ℕ
 field_number field-by.Id = 0
 field_number field-by.Pubkey = 1

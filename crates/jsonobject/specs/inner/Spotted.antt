@@ -1,4 +1,4 @@
--- An event's object, read as json/specs/Object reads it, with the spot of each field in place of what it says. Every
+-- An event's object, read as jsonevent/specs/Object reads it, with the spot of each field in place of what it says. Every
 -- number of the answer is fixed, the length of the strict form among them. Assumes nothing.
 use Rattle.std.specs.Prelude.{ℕ, zero, suc, ◌+◌, Bool, true, false, List, [], ◌∷◌, length, get_or, set, eqb}
 use Rattle.scan.specs.Choice.{pick, Answer, refused, Read, read, and_then}
