@@ -71,7 +71,7 @@ prove_library() {
     # a core for each 4 GB that are free
     cores=$(awk -v all="$(nproc)" '/^MemAvailable:/ { n = int($2 / 4000000) }
         END { print n < 1 ? 1 : n < all ? n : all }' /proc/meminfo)
-    echo "First the library is proved: $(crates_below kezubimoryu | wc -l) crates, some 30 to 60 minutes on four cores from"
+    echo "First the library is proved: $(crates_below kezubimoryu | wc -l) crates, some 20 to 40 minutes on four cores from"
     echo "nothing; less where a part of them is proved already."
     (cd crates/kezubimoryu && rt lib --jobs "$cores") 2>&1 | tee "$built/log" | while read -r kind name _; do
         case $kind in crate) crate=${name%:} ;; logic=proved) echo "$crate is proved" ;; esac
