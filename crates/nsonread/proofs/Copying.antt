@@ -5,7 +5,7 @@ use mathlib.Core.Path.{◌≡◌, refl, sym, ap, ◌∙◌}
 use mathlib.Core.Bool.{true, false}
 use mathlib.Core.List.{List, [], ◌∷◌, ◌++◌, append_assoc}
 use native.Mathlib.Omega.{arith}
-use Rattle.scan.specs.Choice.{shown, Read, read}
+use Rattle.scan.specs.Choice.{shown, Read}
 use Rattle.scan.proofs.Reading.{read_same}
 use Rattle.scan.proofs.Many.{after}
 use Rattle.varint.specs.Uleb.{uleb}

@@ -1,7 +1,6 @@
 -- `nson_len` tells the length that the strict form of the event takes, or the refusal of the reading.
 -- By what the walk says of each.
 use mathlib.Core.Path.{ap}
-use borrow.Author.Rules.{rules}
 use Rattle.nsonwalk.specs.inner.Answers.{nson_walk}
 use Rattle.nsonread.proofs.Whole.{len_refused, len_shown}
 use Rattle.nsonread.proofs.nson_len.Goals as goal

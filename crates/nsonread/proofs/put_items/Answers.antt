@@ -1,9 +1,6 @@
-use borrow.Author.Rules.{rules}
-use Prim.Native.Nat.{◌+◌, ◌*◌, ◌≤◌}
-use mathlib.Core.Path.{◌≡◌, refl, sym, ◌∙◌}
+use mathlib.Core.Path.{refl, sym, ◌∙◌}
 use native.Mathlib.Omega.{arith}
-use Rattle.buffer.proofs.Laws.{Left, start, part, done, also, same}
-use Rattle.nsonread.specs.inner.Copy.{items_text, items_end}
+use Rattle.buffer.proofs.Laws.{start, part, done, also, same}
 use Rattle.nsonread.proofs.Writing.{items_write, items_written}
 use Rattle.nsonread.proofs.put_items.Goals as goal
 

@@ -1,13 +1,10 @@
 -- `put_items` writes the elements one after the other. The invariant: what is left to write is the text of the items
 -- left, and they end where all end.
 -- A turn is one law of `Writing`; a count is at most 65,535, so no place passes a word.
-use borrow.Author.Rules.{rules}
 use Prim.Native.Nat.{◌+◌, ◌*◌, ◌≤◌}
-use mathlib.Core.Path.{◌≡◌, refl, sym, ◌∙◌}
-use native.Mathlib.Omega.{arith}
-use Rattle.buffer.proofs.Laws.{Left, start, part, done, also, same}
+use mathlib.Core.Path.{◌≡◌}
+use Rattle.buffer.proofs.Laws.{Left}
 use Rattle.nsonread.specs.inner.Copy.{items_text, items_end}
-use Rattle.nsonread.proofs.Writing.{items_write, items_written}
 use Rattle.nsonread.proofs.put_items.Given as goal
 
 abbrev pub invariant-loop-left : goal.invariant-loop-left

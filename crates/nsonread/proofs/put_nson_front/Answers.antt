@@ -2,7 +2,6 @@
 -- Eight writers in a row are one.
 use Rattle.buffer.proofs.Laws.{then, kept}
 use Rattle.nsonread.specs.inner.Copy.{nson_front_text}
-use borrow.Author.Rules.{rules}
 use Rattle.nsonread.proofs.put_nson_front.Goals as goal
 
 pub shape_of-out : goal.shape_of-out

@@ -1,8 +1,5 @@
-use borrow.Author.Rules.{rules}
-use Prim.Native.Nat.{◌+◌, ◌*◌, ◌≤◌}
 use native.Mathlib.Omega.{arith}
-use Rattle.buffer.proofs.Laws.{Left, start, part, done, also, same}
-use Rattle.nsonread.specs.inner.Copy.{nson_tags_text}
+use Rattle.buffer.proofs.Laws.{start, part, done, also, same}
 use Rattle.nsonread.proofs.Writing.{tags_write, tags_written}
 use Rattle.nsonread.proofs.put_nson_tags.Goals as goal
 

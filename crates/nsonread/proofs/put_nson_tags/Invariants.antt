@@ -2,12 +2,9 @@
 -- is the text of the tags left.
 -- A turn is one law of `Writing`; a tag's items end less than 16,712,192 bytes behind its bracket, so no place passes a
 -- word.
-use borrow.Author.Rules.{rules}
 use Prim.Native.Nat.{◌+◌, ◌*◌, ◌≤◌}
-use native.Mathlib.Omega.{arith}
-use Rattle.buffer.proofs.Laws.{Left, start, part, done, also, same}
+use Rattle.buffer.proofs.Laws.{Left}
 use Rattle.nsonread.specs.inner.Copy.{nson_tags_text}
-use Rattle.nsonread.proofs.Writing.{tags_write, tags_written}
 use Rattle.nsonread.proofs.put_nson_tags.Given as goal
 
 abbrev pub invariant-loop-left : goal.invariant-loop-left

@@ -3,7 +3,6 @@
 use native.Mathlib.Omega.{arith}
 use Rattle.buffer.proofs.Laws.{then}
 use Rattle.nsonread.specs.inner.Copy.{strict_of}
-use borrow.Author.Rules.{rules}
 use Rattle.nsonread.proofs.put_strict_of.Goals as goal
 
 pub put_nson_front-o-requires : goal.put_nson_front-o-requires

@@ -4,7 +4,6 @@
 use mathlib.Core.Path.{ap}
 use Rattle.nsonwalk.specs.inner.Answers.{nson_walk}
 use Rattle.nsonread.proofs.Whole.{write_refused, write_short, write_fitted}
-use borrow.Author.Rules.{rules}
 use Rattle.nsonread.proofs.read_nson.Goals as goal
 
 pub returns-then-out-need : goal.returns-then-out-need

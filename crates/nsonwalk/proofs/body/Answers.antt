@@ -5,7 +5,6 @@ use native.Mathlib.Omega.{arith}
 use Rattle.nsoncounts.specs.inner.Counted.{counts_of}
 use Rattle.nsoncounts.specs.inner.Answers.{amount_read}
 use Rattle.nsonwalk.proofs.Parts.{kind_stops, content_stops, tags_stop, body_found}
-use borrow.Author.Rules.{rules}
 use Rattle.nsonwalk.proofs.body.Goals as goal
 
 pub returns-in-Refused : goal.returns-in-Refused

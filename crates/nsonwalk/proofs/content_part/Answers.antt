@@ -4,7 +4,6 @@ use mathlib.Core.Path.{sym, ap, ◌∙◌}
 use native.Mathlib.Omega.{arith}
 use Rattle.nsoncounts.specs.inner.Answers.{skip}
 use Rattle.nsonwalk.proofs.Parts.{mark_stops, content_gathered}
-use borrow.Author.Rules.{rules}
 use Rattle.nsonwalk.proofs.content_part.Goals as goal
 
 pub returns-in-Past : goal.returns-in-Past

@@ -8,7 +8,6 @@ use native.Mathlib.Omega.{arith}
 use lib.ListN.{length}
 use Rattle.notepack.specs.Strict.{pack_element}
 use Rattle.nsoncounts.proofs.Laws.{part_most}
-use borrow.Author.Rules.{rules}
 use Rattle.nsonwalk.proofs.counted_element_len.Goals as goal
 
 pub returns-then-len-n : goal.returns-then-len-n

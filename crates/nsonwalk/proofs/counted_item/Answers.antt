@@ -5,7 +5,6 @@ use native.Mathlib.Omega.{arith}
 use Rattle.nsoncounts.specs.inner.Answers.{skip, amount_read}
 use Rattle.nsonwalk.proofs.Sizing.{quote_stops, text_stops, end_stops, item_gathered}
 use Rattle.nsoncounts.proofs.Spelling.{no_escape_lem}
-use borrow.Author.Rules.{rules}
 use Rattle.nsonwalk.proofs.counted_item.Goals as goal
 
 pub returns-in-Refused : goal.returns-in-Refused

@@ -1,11 +1,7 @@
-use borrow.Author.Rules.{rules}
-use Rattle.nsonwalk.specs.inner.Walk.{element_most}
-use Prim.Native.Nat.{◌+◌, ◌*◌, ◌≤◌}
-use mathlib.Core.Path.{◌≡◌, refl, sym, ap, ◌∙◌}
-use mathlib.Core.Bool.{false}
+use mathlib.Core.Path.{refl, sym, ap, ◌∙◌}
 use native.Mathlib.Omega.{arith}
 use Rattle.nsoncounts.specs.inner.Answers.{skip, amount_read}
-use Rattle.nsonwalk.proofs.Turns.{items_left, items_turn, items_comma, items_item, items_done}
+use Rattle.nsonwalk.proofs.Turns.{items_turn, items_comma, items_item, items_done}
 use Rattle.nsonwalk.proofs.counted_items.Goals as goal
 
 pub loop-left-init : goal.loop-left-init

@@ -1,14 +1,11 @@
 -- `counted_items` gathers the length of the items' elements. The invariant is one equation: all items are those that
 -- are left behind what was gathered.
 -- A turn is one law of `Turns`. An element is at most `element_most` bytes long, so nothing passes a word.
-use borrow.Author.Rules.{rules}
 use Rattle.nsonwalk.specs.inner.Walk.{element_most}
 use Prim.Native.Nat.{◌+◌, ◌*◌, ◌≤◌}
-use mathlib.Core.Path.{◌≡◌, refl, sym, ap, ◌∙◌}
+use mathlib.Core.Path.{◌≡◌}
 use mathlib.Core.Bool.{false}
-use native.Mathlib.Omega.{arith}
-use Rattle.nsoncounts.specs.inner.Answers.{skip, amount_read}
-use Rattle.nsonwalk.proofs.Turns.{items_left, items_turn, items_comma, items_item, items_done}
+use Rattle.nsonwalk.proofs.Turns.{items_left}
 use Rattle.nsonwalk.proofs.counted_items.Given as goal
 
 abbrev pub invariant-loop-left : goal.invariant-loop-left

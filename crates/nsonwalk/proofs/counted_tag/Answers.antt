@@ -7,7 +7,6 @@ use Rattle.nson.specs.Read.{item_at, tag_at}
 use Rattle.nsoncounts.specs.inner.Counted.{item_sizes}
 use Rattle.nsoncounts.specs.inner.Answers.{skip, amount_read}
 use Rattle.nsonwalk.proofs.Sizing.{open_stops, inside_stops, close_stops, tag_gathered}
-use borrow.Author.Rules.{rules}
 use Rattle.nsonwalk.proofs.counted_tag.Goals as goal
 
 pub returns-in-Refused : goal.returns-in-Refused

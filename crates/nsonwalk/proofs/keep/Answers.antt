@@ -1,7 +1,6 @@
 -- `keep` measures what is kept: each number's varint, the content and the tags.
 -- Every part is small, so the sums fit; the length is the one that was measured.
 use mathlib.Core.Path.{refl}
-use borrow.Author.Rules.{rules}
 use Rattle.nsonwalk.proofs.keep.Goals as goal
 
 pub returns : goal.returns

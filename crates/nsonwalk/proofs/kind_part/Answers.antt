@@ -1,7 +1,6 @@
 -- `kind_part`: the label, then the kind.
 -- By the definition, one after the other.
 use Rattle.nson.specs.Read.{kind_part_at, kind_at}
-use borrow.Author.Rules.{rules}
 use Rattle.nsonwalk.proofs.kind_part.Goals as goal
 
 pub returns-in-Past : goal.returns-in-Past

@@ -8,7 +8,6 @@ use Rattle.nsoncounts.specs.inner.Counted.{tag_sizes}
 use Rattle.nsoncounts.specs.inner.Answers.{skip, amount_read}
 use Rattle.nsonwalk.proofs.Sizing.{open_stops, inside_stops, close_stops}
 use Rattle.nsonwalk.proofs.Parts.{tags_gathered}
-use borrow.Author.Rules.{rules}
 use Rattle.nsonwalk.proofs.tag_array.Goals as goal
 
 pub returns-in-Refused : goal.returns-in-Refused

@@ -1,11 +1,7 @@
-use borrow.Author.Rules.{rules}
-use Rattle.nsonwalk.specs.inner.Walk.{tag_most}
-use Prim.Native.Nat.{◌+◌, ◌*◌, ◌≤◌}
-use mathlib.Core.Path.{◌≡◌, refl, sym, ap, ◌∙◌}
-use mathlib.Core.Bool.{false}
+use mathlib.Core.Path.{refl, sym, ap, ◌∙◌}
 use native.Mathlib.Omega.{arith}
 use Rattle.nsoncounts.specs.inner.Answers.{skip, amount_read}
-use Rattle.nsonwalk.proofs.Turns.{tags_left, tags_turn, tags_comma, tags_tag, tags_done}
+use Rattle.nsonwalk.proofs.Turns.{tags_turn, tags_comma, tags_tag, tags_done}
 use Rattle.nsonwalk.proofs.tag_list.Goals as goal
 
 pub loop-left-init : goal.loop-left-init

@@ -2,14 +2,11 @@
 -- left behind what was gathered.
 -- A turn is one law of `Turns`. A tag is at most `tag_most` bytes long and has at most 255 counts, so nothing passes a
 -- word.
-use borrow.Author.Rules.{rules}
 use Rattle.nsonwalk.specs.inner.Walk.{tag_most}
 use Prim.Native.Nat.{◌+◌, ◌*◌, ◌≤◌}
-use mathlib.Core.Path.{◌≡◌, refl, sym, ap, ◌∙◌}
+use mathlib.Core.Path.{◌≡◌}
 use mathlib.Core.Bool.{false}
-use native.Mathlib.Omega.{arith}
-use Rattle.nsoncounts.specs.inner.Answers.{skip, amount_read}
-use Rattle.nsonwalk.proofs.Turns.{tags_left, tags_turn, tags_comma, tags_tag, tags_done}
+use Rattle.nsonwalk.proofs.Turns.{tags_left}
 use Rattle.nsonwalk.proofs.tag_list.Given as goal
 
 abbrev pub invariant-loop-left : goal.invariant-loop-left

@@ -5,7 +5,6 @@ use native.Mathlib.Omega.{arith}
 use Rattle.nsoncounts.specs.inner.Counted.{tag_sizes}
 use Rattle.nsoncounts.specs.inner.Answers.{skip, amount_read}
 use Rattle.nsonwalk.proofs.Parts.{label_stops, list_stops, brace_stops, part_gathered}
-use borrow.Author.Rules.{rules}
 use Rattle.nsonwalk.proofs.tags_part.Goals as goal
 
 pub returns-in-Refused : goal.returns-in-Refused

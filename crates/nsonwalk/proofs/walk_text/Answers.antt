@@ -5,7 +5,6 @@ use native.Mathlib.Omega.{arith}
 use Rattle.nsoncounts.specs.inner.Answers.{amount_read, sizes_read}
 use Rattle.nsonwalk.specs.inner.Answers.{body_read}
 use Rattle.nsonwalk.proofs.Walking.{walk_long, walk_head, walk_counts, walk_body, walk_end, walk_done}
-use borrow.Author.Rules.{rules}
 use Rattle.nsonwalk.proofs.walk_text.Goals as goal
 
 pub returns-then-s-gt65536 : goal.returns-then-s-gt65536
