@@ -4,9 +4,8 @@ use Prim.Native.Nat.{ℕ, ◌<◌}
 use mathlib.Core.Path.{◌≡◌, refl, sym, ap, ◌∙◌}
 use mathlib.Core.List.{List}
 use lib.ListN.{length, get_or, replicate}
-use lib.Dec.{eqb}
 use borrow.Author.Tests.{eq-eqb, ne_eqb}
-use Rattle.scan.specs.Choice.{Answer, shown, refused, and_then}
+use Rattle.scan.specs.Choice.{Answer, shown, refused}
 use Rattle.scan.proofs.AllLaws.{all_places}
 use Rattle.buffer.specs.inner.Store.{Wrote}
 use Rattle.buffer.proofs.Places.{all_over}
@@ -14,7 +13,7 @@ use Rattle.slots.specs.declared.Slot.{Slot}
 use Rattle.slotbytes.specs.SlotBytes.{slots_in, slots_bytes}
 use Rattle.archive.specs.declared.Outcome.{Outcome}
 use Rattle.table.specs.Standing.{Stand, stand_of}
-use Rattle.table.specs.Offer.{Offer, offer, outcome_of, place_in, slots_after, cells_after}
+use Rattle.table.specs.Offer.{Offer, offer, outcome_of, slots_after, cells_after}
 use Rattle.table.proofs.Offers.{offer_apart, offer_within}
 use Rattle.tablebytes.specs.Entries.{table_offer_of, table_offer, bytes_after, table_slot, sized, zeroed}
 use Rattle.tableread.proofs.Entries.{clash}
