@@ -51,12 +51,25 @@ fn list(out: &mut [u8], s: &[u8]) -> usize
     }
 }
 
+// Reads until the buffer is full or the input ends, and hands back how many bytes stand in it.
+fn read_full(input: &mut impl Read, out: &mut [u8]) -> io::Result<usize> {
+    let mut n = 0;
+    while n < out.len() {
+        let k = input.read(&mut out[n..])?;
+        if k == 0 {
+            break;
+        }
+        n += k;
+    }
+    Ok(n)
+}
+
 // One byte more than the limit is read, so that a longer input is refused with 1 and the program still ends. A read or a
 // write that fails ends it with the error.
 fn main(rt: HostRuntime) -> io::Result<()> {
-    let mut input = Vec::new(rt.alloc());
-    rt.stdin().take(65537).read_to_end(&mut input)?;
+    let mut input = [0u8; 65537];
+    let n = read_full(&mut rt.stdin(), &mut input)?;
     let mut text = [0u8; 128];
-    let k = list(&mut text, &input);
+    let k = list(&mut text, scan::part(&input, 0, n));
     rt.write_all(scan::part(&text, 0, k))
 }

@@ -74,10 +74,23 @@ fn tabled(rt: &impl Print, label: &[u8], s: &[u8], t: &[u8]) -> io::Result<()> {
     content(rt, label, tableslot::slot_event(twice, &cells, 0))
 }
 
-// At most 65,537 bytes are read. A read or a write that fails ends the program with the error.
+// Reads until the buffer is full or the input ends, and hands back how many bytes stand in it.
+fn read_full(input: &mut impl Read, out: &mut [u8]) -> io::Result<usize> {
+    let mut n = 0;
+    while n < out.len() {
+        let k = input.read(&mut out[n..])?;
+        if k == 0 {
+            break;
+        }
+        n += k;
+    }
+    Ok(n)
+}
+
+// A read or a write that fails ends the program with the error.
 fn main(rt: HostRuntime) -> io::Result<()> {
-    let mut input = Vec::new(rt.alloc());
-    let n = rt.stdin().take(65537).read_to_end(&mut input)?;
+    let mut input = [0u8; 65537];
+    let n = read_full(&mut rt.stdin(), &mut input)?;
     let half = n / 2;
     let first = scan::part(&input, 0, half);
     let second = scan::part(&input, half, half);
