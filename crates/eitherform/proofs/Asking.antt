@@ -6,7 +6,7 @@ use mathlib.Core.Bool.{Bool}
 use mathlib.Core.List.{List}
 use lib.ListN.{length, drop}
 use lib.Dec.{leb}
-use Rattle.scan.specs.Choice.{pick, Answer, shown, refused}
+use Rattle.scan.specs.Choice.{Answer, shown, refused}
 use Rattle.scan.proofs.Step.{pick_by}
 use Rattle.buffer.specs.Entry.{writes}
 use Rattle.event.specs.Event.{Event}

@@ -1,11 +1,11 @@
 -- What an offer of an input of either form answers and leaves: 34 first of all, then the refusals of the input, moved.
 -- A bad table answers 34 whatever is offered, a good one hands on the refusal of the input.
 use Prim.Native.Nat.{ℕ}
-use mathlib.Core.Path.{◌≡◌, refl, sym, ap, ◌∙◌}
+use mathlib.Core.Path.{◌≡◌, refl, ap, ◌∙◌}
 use mathlib.Core.Bool.{Bool, false}
 use mathlib.Core.List.{List, []}
 use lib.ListN.{drop}
-use Rattle.scan.specs.Choice.{pick, Answer, shown, refused}
+use Rattle.scan.specs.Choice.{Answer, shown, refused}
 use Rattle.scan.proofs.Step.{false_true}
 use Rattle.event.specs.Event.{Event}
 use Rattle.notepack.specs.Unpack.{payload_at, head_at, packed_at, unpack}
@@ -81,6 +81,6 @@ module _ (slots cells : List ℕ) where
       rw z
       record {
         answers = ap (moved b) (q ∙ ap (λ (l : List ℕ). outcome_of (table_offer slots cells l)) r) ∙ m.answers;
-        slots_left = f ∙ ap (λ (l : List ℕ). bytes_after (table_offer slots cells l) slots) r ∙ m.slots-left;
+        slots_left = f ∙ ap (λ (l : List ℕ). bytes_after (table_offer slots cells l) slots) r ∙ m.slots_left;
         cells_left = g ∙ ap (λ (l : List ℕ). cells_after (table_offer slots cells l) cells) r ∙ m.cells_left;
       }

@@ -1,0 +1,19 @@
+-- `is_strict` answers the strict question of an input of either form.
+-- By the two laws of `Asking`: the start is refused, or the bare bytes were asked.
+use mathlib.Core.Path.{sym, ap, ◌∙◌}
+use Rattle.strict.specs.Strict.{strict}
+use Rattle.strict.proofs.Telling.{strict_tells}
+use Rattle.versioned.specs.inner.Answers.{start_read}
+use Rattle.eitherform.proofs.Asking.{none_told, some_told}
+use Rattle.eitherform.proofs.is_strict.Goals as goal
+
+pub returns-in-Refused : goal.returns-in-Refused
+returns-in-Refused c =
+    let a = c.args in
+    none_told strict a.bare a.s.now (sym c.start-first.ensures ∙ ap start_read c.in-Refused.is)
+
+pub returns-in-At : goal.returns-in-At
+returns-in-At c =
+    let a = c.args in
+    let e = sym c.start-first.ensures ∙ ap start_read c.in-At.is in
+    c.moved_strict.ensures ∙ some_told strict a.bare a.s.now strict_tells e c.from.ensures c.is_strict.ensures

@@ -1,0 +1,41 @@
+-- `write_nson` answers and leaves what the NSON writer does of an input of either form.
+-- By the laws of `Asking`: the start is refused, or the bare bytes were asked.
+use Prim.Native.Nat.{ℕ}
+use mathlib.Core.Path.{refl, sym, ap, ◌∙◌}
+use mathlib.Core.List.{List}
+use Rattle.scan.specs.Choice.{Answer}
+use Rattle.buffer.specs.Entry.{writes, leaves}
+use Rattle.event.specs.Event.{Event}
+use Rattle.notepack.specs.Unpack.{unpack}
+use Rattle.notepack.proofs.Telling.{unpack_tells}
+use Rattle.nson.specs.Nson.{nson}
+use Rattle.nson.specs.Entries.{carried}
+use Rattle.versioned.specs.inner.Answers.{start_read}
+use Rattle.eitherform.proofs.Asking.{none_written, none_left, some_written, some_left, nson_passes}
+use Rattle.eitherform.proofs.write_nson.Goals as goal
+
+abbrev told : List ℕ → Answer Event → Answer ℕ
+told d x = writes nson (carried x) d
+
+abbrev left : List ℕ → Answer Event → List ℕ
+left d x = leaves nson (carried x) d
+
+pub returns-in-Refused : goal.returns-in-Refused
+returns-in-Refused c =
+    let a = c.args in
+    let e = sym c.start-first.ensures ∙ ap start_read c.in-Refused.is in
+    record {
+      result_value = none_written unpack a.bare a.s.now (told a.out.now) (nson_passes a.out.now) e;
+      out_after = none_left unpack a.bare a.s.now (left a.out.now) a.out.now (λ n p. refl) e;
+    }
+
+pub returns-in-At : goal.returns-in-At
+returns-in-At c =
+    let a = c.args in
+    let e = sym c.start-first.ensures ∙ ap start_read c.in-At.is in
+    let r = c.from.ensures in
+    let done = c.write_nson.ensures in
+    record {
+      result_value = c.moved_writing.ensures ∙ some_written unpack a.bare a.s.now unpack_tells e r (told a.out.now) (nson_passes a.out.now) done.result_value;
+      out_after = some_left unpack a.bare a.s.now unpack_tells e r (left a.out.now) a.out.now (λ n p. refl) done.out_after;
+    }
