@@ -5,12 +5,12 @@
 use Prim.Native.Nat.{ℕ, ◌≤◌, ◌<◌}
 use mathlib.Core.Path.{◌≡◌, refl, sym, ap, ◌∙◌}
 use mathlib.Core.Bool.{Bool, true, false}
-use mathlib.Core.List.{List, [], ◌∷◌, ◌++◌}
+use mathlib.Core.List.{List, [], ◌∷◌}
 use native.Mathlib.Omega.{arith}
 use lib.ListN.{length, take, drop}
 use lib.Dec.{leb, eqb}
 use lib.Seq.{take_at}
-use borrow.Author.Tests.{le-leb, lt-leb, eq-eqb, ne_eqb}
+use borrow.Author.Tests.{le-leb, lt-leb}
 use Rattle.scan.specs.Choice.{pick, Answer, shown, refused, and_then}
 use Rattle.scan.specs.Place.{begins, stands_at}
 use Rattle.buffer.specs.Entry.{leaves, filled}
@@ -28,7 +28,7 @@ use Rattle.nson.specs.Entries.{nson_leaves}
 use Rattle.nson.specs.inner.Needs.{nson_needs}
 use Rattle.agreement.proofs.Agree.{both_accept}
 use Rattle.agreement.proofs.Entries.{fits}
-use Rattle.bothreaders.specs.Both.{Compared, compared, both_of, first_of, second_of, both, both_first, both_second}
+use Rattle.bothreaders.specs.Both.{Compared, both_of, first_of, second_of, both, both_first, both_second}
 
 -- ---- what a measuring says of the reading
 
