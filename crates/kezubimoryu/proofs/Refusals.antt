@@ -44,15 +44,15 @@ use Rattle.bothreaders.specs.Both.{Compared, compared, both_of, first_of, second
 use Rattle.nson.specs.Read.{read_nson}
 use Rattle.versionedrivals.proofs.Telling.{rivals_given_tell}
 use Rattle.table.specs.Standing.{Stand}
-use Rattle.table.specs.Offer.{Offer, outcome_of, cells_after}
-use Rattle.tablebytes.specs.Entries.{table_offer_of, bytes_after, table_slot, sized, zeroed}
+use Rattle.table.specs.Offer.{Offer, cells_after}
+use Rattle.tablebytes.specs.Entries.{table_offer_of, bytes_after, sized, zeroed}
 use Rattle.tablebytes.specs.inner.Telling as telling
 use Rattle.tablebytes.specs.inner.Telling.{OfferTells, outcome, of_event, over_a_cell, full, SlotTells, found, no_event}
 use Rattle.tablebytes.proofs.Telling.{table_offer_tells, table_slot_tells}
 use Rattle.sha256.specs.Pieces.{started}
 use Rattle.sha256.specs.declared.Hash.{Hash}
 use Rattle.sha256bytes.specs.StateBytes.{bytes_of_state, add_in, finish_in}
-use Rattle.sha256bytes.proofs.Telling.{HashTells, shows, short, too_long, add_tells, finish_tells}
+use Rattle.sha256bytes.proofs.Telling.{HashTells, short, too_long, add_tells, finish_tells}
 use Rattle.identity.specs.Identity.{belongs}
 use Rattle.identity.proofs.Telling.{belongs_tells}
 use Rattle.kezubimoryu.specs.Entries.{outcome_number}
