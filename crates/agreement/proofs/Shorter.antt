@@ -26,7 +26,7 @@ use Rattle.jsonevent.specs.Field.{Value, missing, bytes, number, tags, text, Fie
 use Rattle.jsonevent.specs.Object.{read_json}
 use Rattle.jsonevent.specs.inner.Closing.{is_missing}
 use Rattle.jsonevent.proofs.Says.{FieldSays, id_says, pubkey_says, sig_says, time_says, kind_says, tags_says, content_says, ignored_says, fields_of}
-use Rattle.jsonevent.proofs.Tracks.{Tracks, no_more, then, event_tracks, no_event}
+use Rattle.jsonevent.proofs.Tracks.{Tracks, tracks_none, then, event_tracks, no_event}
 use Rattle.jsonevent.proofs.Whole.{sound}
 use Rattle.agreement.specs.Demand3.{TextEnough}
 use Rattle.agreement.proofs.Agree.{both_accept}
@@ -183,13 +183,9 @@ found_item [] k x h = omega arith
 found_item (y ∷ f) zero x h = omega arith
 found_item (y ∷ f) (suc k) x h = omega (arith, found_item f k x h)
 
--- behind the last member nothing changes
-tracks_end : {f g : Fields} → Tracks f json.no_member g → g ≡ f
-tracks_end no_more = refl
-
 members_shorter : {m : json.Members} {l : List ℕ} {f g : Fields} → json.SpellsMembers m l → Tracks f m g → length l ≤ 65_536
     → total taken g ≤ total taken f + length l
-members_shorter {f = f} (json.last_member h) (then {x = x} c i y t) n = omega (arith, member_item y h n, found_item f _ x i, ap (total taken) (tracks_end t))
+members_shorter {f = f} (json.last_member h) (then {x = x} c i y t) n = omega (arith, member_item y h n, found_item f _ x i, ap (total taken) (tracks_none t))
 members_shorter {f = f} (json.more_members {l = l} {r = r} h (json.separator {w = w} {x = z} p q) hs) (then {x = x} d i y t) n =
     let a = length-append l ((w ++ (0x2C ∷ z)) ++ r) in
     let b = length-append (w ++ (0x2C ∷ z)) r in

@@ -3,7 +3,7 @@
 -- Along the members with the fields that they leave (`Tracks`); each member takes a byte, so the input's length is fuel
 -- enough.
 use Prim.Native.Nat.{ℕ, zero, suc, ◌+◌, ◌<◌}
-use mathlib.Core.Path.{◌≡◌, refl, sym, ap, ◌∙◌}
+use mathlib.Core.Path.{◌≡◌, sym, ap, ◌∙◌}
 use mathlib.Core.Bool.{true}
 use mathlib.Core.List.{List}
 use native.Mathlib.Omega.{arith}
@@ -23,7 +23,7 @@ use Rattle.jsonevent.specs.Field.{Value, field_of, Fields, field}
 use Rattle.jsonevent.specs.Object.{colon_at, member_at, after_member, members_at, inside_at, object_at}
 use Rattle.jsonevent.specs.inner.Closing.{is_missing, close_at}
 use Rattle.jsonevent.proofs.Says.{FieldSays}
-use Rattle.jsonevent.proofs.Tracks.{Tracks, no_more, then, no_event, event_tracks}
+use Rattle.jsonevent.proofs.Tracks.{Tracks, tracks_none, then, no_event, event_tracks}
 use Rattle.jsonevent.proofs.Closing.{close_event}
 use Rattle.jsonevent.proofs.FieldComplete.{quoted_accepts, field_accepts}
 
@@ -51,10 +51,6 @@ module _ (s : List ℕ) (f g : Fields) where
   unfolding members_at after_member
   member_more X zero n a b c d h e i j o r = absurd (omega arith)
   member_more X (suc k) n a b c d h e i j o r = rw (e, i, j, o) (r k (omega arith))
-
--- where no member is left, the fields stay
-tracks_none : {f g : Fields} → Tracks f json.no_member g → f ≡ g
-tracks_none no_more = refl
 
 -- members that are tracked are read up to the closing brace, where the fields that they leave decide
 pub members_accept : {m : json.Members} {f g : Fields} {X : Answer (Read Event)} {s l : List ℕ} {a b c : ℕ} (k : ℕ) → json.SpellsMembers m l → Tracks f m g

@@ -27,6 +27,10 @@ pub data Tracks : Fields → json.Members → Fields → Type 0 where
   then : {f g : Fields} {n t : List ℕ} {v : json.Json} {m : json.Members} {x : Value} → json.Chars n t → is_missing (field f (field_of t)) ≡ true
       → FieldSays (field_of t) v x → Tracks (set f (field_of t) x) m g → Tracks f (json.member n v m) g
 
+-- where no member is left, the fields stay
+pub tracks_none : {f g : Fields} → Tracks f json.no_member g → f ≡ g
+tracks_none no_more = refl
+
 -- field k before and behind the members
 pub data Found (k : ℕ) (f : Fields) (m : json.Members) (g : Fields) : Type 0 where
   kept : Values (name k) m [] → field g k ≡ field f k → Found k f m g
