@@ -5,8 +5,6 @@ use Rattle.scan.proofs.Step.{false_true}
 use Rattle.nsonstring.proofs.Counting.{counting_first, counting_block, counting_done}
 use Rattle.nsonstring.proofs.count_simple.Goals as goal
 
--- the rest is a block up to the end
-
 pub returns-then-clash-ne0 : goal.returns-then-clash-ne0
 returns-then-clash-ne0 c = λ q. absurd (false_true (sym c.no_count.ensures ∙ q))
 
@@ -36,6 +34,7 @@ loop-i-preserved c =
 pub returns-then-x-ne0-2 : goal.returns-then-x-ne0-2
 returns-then-x-ne0-2 c = λ q. absurd (false_true (sym c.no_count-then-x-ne0-2.ensures ∙ q))
 
+-- the rest is a block up to the end
 pub returns : goal.returns
 returns c =
     let looked = c.look_at-x-2.ensures in

@@ -2,12 +2,6 @@ use native.Mathlib.Omega.{arith}
 use Rattle.nsonstring.proofs.Turns.{at_start, turns, on_escape, on_char}
 use Rattle.nsonstring.proofs.first_fault.Goals as goal
 
--- `first_fault` goes character by character. The invariant is `At`: the earliest fault of the whole is the earliest
-
--- from here on.
-
--- Every turn and every way out is one law of `turns`.
-
 pub loop-i-init : goal.loop-i-init
 loop-i-init c = at_start _
 

@@ -1,3 +1,6 @@
+-- `first_fault` goes character by character. The invariant is `At`: the earliest fault of the whole is the earliest
+-- from here on.
+-- Every turn and every way out is one law of `turns`.
 use Prim.Native.Nat.{◌-◌}
 use lib.ListN.{length}
 use Rattle.nsonstring.proofs.Turns.{At}

@@ -1,3 +1,4 @@
+-- `is_letter` has the tests of `is_letter`, in its order.
 use Rattle.nsonstring.specs.Counted.{is_letter}
 use borrow.Author.Tests.{eq-eqb, ne_eqb}
 use Rattle.nsonstring.proofs.is_letter.Goals as goal

@@ -4,12 +4,6 @@ use Rattle.jsonunescape.proofs.Unescape.{run_onward}
 use Rattle.nsonstring.proofs.Runs.{at_start, turn, run_end, at_end}
 use Rattle.nsonstring.proofs.is_spelled.Goals as goal
 
--- `is_spelled` goes from backslash to backslash. The invariant is `Before`: if the text from here on is quoted, the
-
--- whole is.
-
--- Each turn is one law of `Runs`; every way out with no says nothing.
-
 pub loop-i-init : goal.loop-i-init
 loop-i-init c = (omega arith, at_start _)
 

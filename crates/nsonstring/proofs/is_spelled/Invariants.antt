@@ -1,3 +1,6 @@
+-- `is_spelled` goes from backslash to backslash. The invariant is `Before`: if the text from here on is quoted, the
+-- whole is.
+-- Each turn is one law of `Runs`; every way out with no says nothing.
 use Prim.Native.Nat.{◌-◌, ◌≤◌}
 use lib.ListN.{length}
 use Rattle.nsonstring.proofs.Runs.{Before}

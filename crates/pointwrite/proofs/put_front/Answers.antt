@@ -7,14 +7,12 @@ use Rattle.pointwrite.proofs.Whole.{data_parts, front_wrote}
 use Rattle.pointwrite.proofs.put_front.Goals as goal
 
 -- the content stands in the data
-
--- and so does the table of tags
-
 pub put_pointer-e-requires : goal.put_pointer-e-requires
 put_pointer-e-requires c =
     let a = c.args in
     omega (arith, data_parts a.s.now a.h, length_padded (text_of a.s.now a.h.content), c.text_len-content.ensures.value, c.requires.len_value.0, c.requires.len_value.1)
 
+-- and so does the table of tags
 pub overflow_mul-h : goal.overflow_mul-h
 overflow_mul-h c = omega (arith, data_parts c.args.s.now c.args.h, c.requires.len_value.0, c.requires.len_value.1)
 

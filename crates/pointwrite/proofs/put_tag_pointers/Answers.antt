@@ -5,14 +5,13 @@ use Rattle.notepack.proofs.Again.{tags_left_lem}
 use Rattle.pointwrite.proofs.Turns.{tag_turn, sizes_more, tag_pointers_more, tag_pointers_none}
 use Rattle.pointwrite.proofs.put_tag_pointers.Goals as goal
 
--- the table stands in the data
-
 pub loop-left-init : goal.loop-left-init
 loop-left-init c = (start, refl)
 
 pub measure_tag-tag-requires : goal.measure_tag-tag-requires
 measure_tag-tag-requires c = c.requires.0
 
+-- the table stands in the data
 pub put_pointer-o-requires : goal.put_pointer-o-requires
 put_pointer-o-requires c =
     let tag = c.measure_tag-tag.ensures in

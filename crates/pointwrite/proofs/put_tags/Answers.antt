@@ -5,11 +5,10 @@ use Rattle.notepack.proofs.Again.{tags_left_lem}
 use Rattle.pointwrite.proofs.Turns.{tag_turn, sizes_more, pieces_more, pieces_none}
 use Rattle.pointwrite.proofs.put_tags.Goals as goal
 
--- the tag stands in the data
-
 pub loop-left-init : goal.loop-left-init
 loop-left-init c = (start, refl)
 
+-- the tag stands in the data
 pub put_tag-tag-requires : goal.put_tag-tag-requires
 put_tag-tag-requires c =
     let q = c.loop-left in

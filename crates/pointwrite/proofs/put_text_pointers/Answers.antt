@@ -7,11 +7,10 @@ use Rattle.pointwrite.proofs.Lengths.{length_padded}
 use Rattle.pointwrite.proofs.Turns.{texts_length_lem, texts_none, pointers_more, pointers_none}
 use Rattle.pointwrite.proofs.put_text_pointers.Goals as goal
 
--- the text stands in the data
-
 pub loop-left-init : goal.loop-left-init
 loop-left-init c = (start, refl)
 
+-- the text stands in the data
 pub put_pointer-o-requires : goal.put_pointer-o-requires
 put_pointer-o-requires c =
     let read = c.part_again-again in

@@ -10,8 +10,6 @@ use Rattle.notepack.proofs.Again.{accepted}
 use Rattle.pointwrite.proofs.Whole.{write_refused, write_long, write_short, write_fitted}
 use Rattle.pointwrite.proofs.write_pointer.Goals as goal
 
--- the time is one that the reader lets pass
-
 pub data_len-data-requires : goal.data_len-data-requires
 data_len-data-requires c =
     let a = c.args in
@@ -35,6 +33,7 @@ returns-then-out-len c =
     let f = write_short a.s.now a.out.now g.shows g.sound.valid c.data_len-data.ensures.value c.if-len-gt-MAX_INPUT.false c.if-out-len.true in
     record { result_value = f.0; out_after = f.1 }
 
+-- the time is one that the reader lets pass
 pub put_form-requires : goal.put_form-requires
 unfolding event_again
 put_form-requires c =

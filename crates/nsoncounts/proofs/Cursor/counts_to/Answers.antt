@@ -7,10 +7,6 @@ use Rattle.nsoncounts.proofs.Counting.{kind_stops, content_stops, number_stops, 
 use Rattle.nsoncounts.proofs.Placing.{kind_on, descriptor_on}
 use Rattle.nsoncounts.proofs.Cursor.counts_to.Goals as goal
 
--- ---- no place is below 320
-
--- ---- the ways out
-
 pub field_digits-digits-requires : goal.field_digits-digits-requires
 field_digits-digits-requires c = c.requires.descriptors_place_le_end
 
