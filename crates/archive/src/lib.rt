@@ -2,7 +2,7 @@
 #![tactic(auto)]
 
 // What an offer comes to.
-#[derive(Drop)]
+#[derive(Clone, Copy, Debug, PartialEq, Eq)]
 pub enum Outcome {
     // kept in a free slot
     New,

@@ -4,24 +4,24 @@
 use Prim.Native.Nat.{ℕ, zero, suc, ◌+◌, ◌-◌, ◌<◌, ◌≤◌}
 use mathlib.Core.Path.{◌≡◌, refl, sym, ap, ◌∙◌}
 use mathlib.Core.Bool.{Bool, true, false}
-use mathlib.Core.List.{List, [], ◌∷◌}
+use mathlib.Core.List.{List, [], ◌∷◌, ◌++◌}
 use native.Mathlib.Nat.{add-zero}
 use native.Mathlib.Omega.{arith}
 use native.Mathlib.Decide.{dec_lt}
 use mathlib.Core.Logic.{dite}
-use lib.ListN.{length, get_or, take, drop}
+use lib.ListN.{length, get_or, drop, length-append, length-drop}
+use lib.Seq.{drop-drop}
 use lib.Dec.{ltb, eqb}
-use borrow.Author.Tests.{eqb-true, ltb-true, le-ltb}
+use borrow.Author.Tests.{eqb-true, ltb-true, lt-ltb, le-ltb}
 use Rattle.scan.specs.Bytes.{All, none, also}
 use Rattle.scan.specs.Choice.{pick}
-use Rattle.scan.specs.Place.{within, run, run_at}
+use Rattle.scan.specs.Place.{run, run_at}
 use Rattle.scan.specs.inner.Blocks.{sum_of}
 use Rattle.scan.proofs.Step.{false_true}
-use Rattle.scan.proofs.PlaceLaws.{run_over, run_stops}
-use Rattle.scan.proofs.BlockLaws.{block_none}
+use Rattle.scan.proofs.PlaceLaws.{run_stops}
 use Rattle.base64text.specs.Base64.{alphabet, character_of, six_bits, in_alphabet}
 use Rattle.base64text.specs.inner.Tables.{bits_from, bits_table, is_outside}
-use Rattle.base64text.proofs.Below.{every_at}
+use Rattle.base64text.proofs.Below.{every, every_at}
 
 pub alphabet_long : (t : List ℕ) → t ≡ alphabet → length t ≡ 64
 unfolding alphabet
@@ -73,40 +73,68 @@ pub table_bits : (t : List ℕ) (b : ℕ) → t ≡ bits_table → b < 256 → g
 unfolding bits_table
 table_bits t b e h = let z : 0 + b ≡ b = omega arith in rw e (bits_from_lem 256 0 b h ∙ ap six_bits z)
 
-bits_long : (n i : ℕ) → length (bits_from n i) ≡ n
-bits_long zero i = refl
-bits_long (suc n) i = ap suc (bits_long n (i + 1))
+-- ---- the ranges, and the bytes between them
 
-pub table_long : (t : List ℕ) → t ≡ bits_table → length t ≡ 256
-unfolding bits_table
-table_long t e = rw e (bits_long 256 0)
+in_range : (f : ℕ → ℕ) (n i : ℕ) → every (λ k. eqb (six_bits k) (f k)) n i ≡ true → (b : ℕ) → i ≤ b → b < i + n → six_bits b ≡ f b
+in_range f n i e b l h = eqb-true (six_bits b) (f b) (every_at (λ k. eqb (six_bits k) (f k)) n i e b l h)
 
--- ---- the ranges
+module _ (b : ℕ) where
+  pub bits_upper : 65 ≤ b → b ≤ 90 → six_bits b ≡ b - 65
+  unfolding six_bits alphabet run
+  bits_upper l h = in_range (λ k. k - 65) 26 65 refl b l (omega arith)
 
--- the six bits by the alphabet's ranges
-abbrev pub bits_by_range : ℕ → ℕ
-bits_by_range b =
-    pick (within 65 90 b) (b - 65)
-    (pick (within 97 122 b) (b - 71)
-    (pick (within 48 57 b) (b + 4)
-    (pick (eqb b 43) 62
-    (pick (eqb b 47) 63 64))))
+  pub bits_lower : 97 ≤ b → b ≤ 122 → six_bits b ≡ b - 71
+  unfolding six_bits alphabet run
+  bits_lower l h = in_range (λ k. k - 71) 26 97 refl b l (omega arith)
 
-pub range_bits : (b : ℕ) → b < 256 → bits_by_range b ≡ six_bits b
-unfolding six_bits alphabet run within
-range_bits b h = eqb-true (bits_by_range b) (six_bits b) (every_at (λ k. eqb (bits_by_range k) (six_bits k)) 256 0 refl b (omega arith) (omega arith))
+  pub bits_number : 48 ≤ b → b ≤ 57 → six_bits b ≡ b + 4
+  unfolding six_bits alphabet run
+  bits_number l h = in_range (λ k. k + 4) 10 48 refl b l (omega arith)
 
--- a byte outside the alphabet by these ranges, of which two touch
-abbrev pub outside_by_range : ℕ → ℕ
-outside_by_range b = pick (within 97 122 b) 0 (pick (within 65 90 b) 0 (pick (within 47 57 b) 0 (pick (eqb b 43) 0 1)))
+  pub bits_plus : b ≡ 43 → six_bits b ≡ 62
+  unfolding six_bits alphabet run
+  bits_plus e = rw e
 
-pub range_outside : (b : ℕ) → b < 256 → outside_by_range b ≡ is_outside b
-unfolding is_outside in_alphabet six_bits alphabet run within
-range_outside b h = eqb-true (outside_by_range b) (is_outside b) (every_at (λ k. eqb (outside_by_range k) (is_outside k)) 256 0 refl b (omega arith) (omega arith))
+  pub bits_slash : b ≡ 47 → six_bits b ≡ 63
+  unfolding six_bits alphabet run
+  bits_slash e = rw e
+
+  pub bits_below_plus : b < 43 → six_bits b ≡ 64
+  unfolding six_bits alphabet run
+  bits_below_plus h = in_range (λ k. 64) 43 0 refl b (omega arith) (omega arith)
+
+  pub bits_below_slash : 43 < b → b < 47 → six_bits b ≡ 64
+  unfolding six_bits alphabet run
+  bits_below_slash l h = in_range (λ k. 64) 3 44 refl b l (omega arith)
+
+  pub bits_below_upper : 57 < b → b < 65 → six_bits b ≡ 64
+  unfolding six_bits alphabet run
+  bits_below_upper l h = in_range (λ k. 64) 7 58 refl b l (omega arith)
+
+  pub bits_below_lower : 90 < b → b < 97 → six_bits b ≡ 64
+  unfolding six_bits alphabet run
+  bits_below_lower l h = in_range (λ k. 64) 6 91 refl b l (omega arith)
+
+  pub bits_above : 122 < b → b < 256 → six_bits b ≡ 64
+  unfolding six_bits alphabet run
+  bits_above l h = in_range (λ k. 64) 133 123 refl b l (omega arith)
+
+  -- and so which bytes count as outside
+  pub outside_not : six_bits b < 64 → is_outside b ≡ 0
+  unfolding is_outside in_alphabet
+  outside_not h = rw (lt-ltb (six_bits b) 64 h)
+
+  pub outside_is : 64 ≤ six_bits b → is_outside b ≡ 1
+  unfolding is_outside in_alphabet
+  outside_is h = rw (le-ltb (six_bits b) 64 h)
+
+pub ruleset ranges = (bits_upper, bits_lower, bits_number, bits_plus, bits_slash, bits_below_plus, bits_below_slash, bits_below_upper, bits_below_lower, bits_above)
+
+pub ruleset outside = (ranges, outside_not, outside_is)
 
 -- ---- a byte that counts, and one that does not
 
-pub counts_in : (b : ℕ) {n : ℕ} → n ≡ is_outside b → n ≡ 0 → in_alphabet b ≡ true
+counts_in : (b : ℕ) {n : ℕ} → n ≡ is_outside b → n ≡ 0 → in_alphabet b ≡ true
 unfolding is_outside
 counts_in b e z = go (in_alphabet b) (sym e ∙ z)
   where
@@ -114,15 +142,32 @@ counts_in b e z = go (in_alphabet b) (sym e ∙ z)
     go true h = refl
     go false h = absurd (omega arith)
 
-pub counts_out : (b : ℕ) {n : ℕ} → n ≡ is_outside b → (n ≡ 0 → ⊥) → in_alphabet b ≡ false
+-- the test of a byte that counts is whether it is of the alphabet
+pub inside_zero : (b : ℕ) → eqb (is_outside b) 0 ≡ in_alphabet b
 unfolding is_outside
-counts_out b {n} e z = go (in_alphabet b) e
+inside_zero b = go (in_alphabet b)
   where
-    go : (t : Bool) → n ≡ pick t 0 1 → t ≡ false
-    go true h = absurd (z h)
-    go false h = refl
+    go : (t : Bool) → eqb (pick t 0 1) 0 ≡ t
+    go true = refl
+    go false = refl
 
 -- a block in which none counts is passed
-pub block_passed : (t : List ℕ) (i e : ℕ) {n : ℕ} → i ≤ e → e ≤ length t → n ≡ sum_of is_outside (take (e - i) (drop i t)) → n ≡ 0
-    → run_at in_alphabet t i ≡ run_at in_alphabet t e
-block_passed t i e l h q z = run_over in_alphabet t (e - i) i e (omega arith) h (λ k m n. counts_in _ refl (block_none is_outside t i e h q z k m n))
+passed : (x r : List ℕ) (i : ℕ) → sum_of is_outside x ≡ 0 → run in_alphabet (x ++ r) i ≡ run in_alphabet r (i + length x)
+unfolding run sum_of
+passed [] r i e = rw add-zero
+passed (b ∷ x) r i e =
+    let p = counts_in b refl (omega arith) in
+    let k : i + 1 + length x ≡ i + suc (length x) = omega arith in
+    rw p (passed x r (i + 1) (omega arith) ∙ ap (run in_alphabet r) k)
+
+pub block_passed : (t : List ℕ) (i : ℕ) (x r : List ℕ) → i ≤ length t → drop i t ≡ x ++ r → sum_of is_outside x ≡ 0
+    → (i + length x ≤ length t) × (r ≡ drop (i + length x) t) × (run_at in_alphabet t i ≡ run_at in_alphabet t (i + length x))
+unfolding run_at
+block_passed t i x r l e z =
+    let n = ap length e ∙ length-append x r in
+    let d : r ≡ drop (i + length x) t = sym (drop_front x r) ∙ ap (drop (length x)) (sym e) ∙ drop-drop (length x) i t in
+    (omega (arith, n, length-drop i t), d, ap (λ (s : List ℕ). run in_alphabet s i) e ∙ passed x r i z ∙ ap (λ (s : List ℕ). run in_alphabet s (i + length x)) d)
+  where
+    drop_front : (x r : List ℕ) → drop (length x) (x ++ r) ≡ r
+    drop_front [] r = refl
+    drop_front (b ∷ x) r = drop_front x r

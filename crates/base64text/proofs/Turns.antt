@@ -67,6 +67,16 @@ module _ (s : List ℕ) (i : ℕ) where
       let t : i + 3 + 1 ≡ i + 4 = omega arith in
       rw (rest_three (omega arith), rest_more s (i + 3) h, t, p, q, r, u)
 
+pub none_left : (s : List ℕ) → length s ≡ 0 → encoded s ≡ []
+unfolding encoded
+none_left [] h = refl
+none_left (a ∷ s) h = absurd (omega arith)
+
+pub none_decoded : (t : List ℕ) → length t ≡ 0 → decoded t ≡ []
+unfolding decoded
+none_decoded [] h = refl
+none_decoded (a ∷ t) h = absurd (omega arith)
+
 -- ---- the first group of a text, which may be shorter
 
 take_one : (s : List ℕ) → length s ≡ 1 → take 3 s ≡ get_or s 0 0 ∷ []

@@ -1,4 +1,5 @@
--- Base64 by RFC 4648, section 4, with no padding: the standard alphabet, a character for each six bits. Assumes nothing.
+-- Base64 by RFC 4648, section 4, with no padding: the standard alphabet, a character for each six bits.
+-- Assumes nothing.
 use Rattle.std.specs.Prelude.{ℕ, ◌+◌, ◌*◌, ◌/◌, ◌%◌, Bool, true, false, List, [], ◌∷◌, ltb, eqb}
 use Rattle.scan.specs.Ascii.{ascii}
 use Rattle.scan.specs.Choice.{pick}

@@ -5,14 +5,13 @@
 use Prim.Native.Nat.{ℕ, ◌≤◌, ◌<◌}
 use mathlib.Core.Path.{◌≡◌, refl, sym, ap, ◌∙◌}
 use mathlib.Core.Bool.{Bool, true, false}
-use mathlib.Core.List.{List, [], ◌∷◌}
+use mathlib.Core.List.{List}
 use native.Mathlib.Omega.{arith}
 use lib.ListN.{length, take, drop}
-use lib.Dec.{leb, eqb}
+use lib.Dec.{leb}
 use lib.Seq.{take_at}
 use borrow.Author.Tests.{le-leb, lt-leb}
 use Rattle.scan.specs.Choice.{pick, Answer, shown, refused, and_then}
-use Rattle.scan.specs.Place.{begins, stands_at}
 use Rattle.buffer.specs.Entry.{leaves, filled}
 use Rattle.buffer.proofs.EntryLaws.{short}
 use Rattle.scan.specs.Compare.{same_bytes}
@@ -50,32 +49,6 @@ needs_shown (refused m q) r h k = clash (sym h ∙ k)
 needs_refused : (a : Answer Event) (r : Answer ℕ) {n p : ℕ} → r ≡ need_of a → r ≡ refused n p → a ≡ refused n p
 needs_refused (shown e) r h k = clash (sym k ∙ h)
 needs_refused (refused m q) r {n} {p} h k = let z : ◌≡◌ {A = Answer ℕ} (refused m q) (refused n p) = sym h ∙ k in cc
-
--- ---- the same bytes
-
--- texts of one length: one begins with the other exactly if they are the same
-pub begins_same : (a b : List ℕ) → length a ≡ length b → begins a b ≡ same_bytes a b
-unfolding begins same_bytes
-begins_same [] [] h = refl
-begins_same [] (y ∷ b) h = absurd (omega arith)
-begins_same (x ∷ a) [] h = absurd (omega arith)
-begins_same (x ∷ a) (y ∷ b) h = rw (begins_same a b (omega arith)) refl
-
--- texts of two lengths are not the same
-pub other_length : (a b : List ℕ) → (length a ≡ length b → ⊥) → same_bytes a b ≡ false
-unfolding same_bytes
-other_length [] [] h = absurd (h refl)
-other_length [] (y ∷ b) h = refl
-other_length (x ∷ a) [] h = refl
-other_length (x ∷ a) (y ∷ b) h = none (eqb x y) (other_length a b (λ e. h (omega arith)))
-  where
-    none : (t : Bool) {u : Bool} → u ≡ false → pick t u false ≡ false
-    none true e = e
-    none false e = refl
-
-pub stands_same : (a b : List ℕ) → length a ≡ length b → stands_at a b 0 ≡ same_bytes a b
-unfolding stands_at
-stands_same a b h = begins_same a b h
 
 -- ---- by the two readings
 

@@ -10,24 +10,10 @@ pub fn put_byte(out: &mut [u8], at: usize, b: u8) -> usize
 {
     if at < out.len() {
         out[at] = b;
-        return at + 1;
+        at + 1
+    } else {
+        at
     }
-    at
-}
-
-// All of s, where there is room for it: one loop with no test for each byte.
-fn copy(out: &mut [u8], at: usize, s: &[u8]) -> usize
-    requires { at + length s.now ≤ length out.old }
-    ensures { Wrote out.old at s.now out.new result }
-{
-    let mut i = 0;
-    let mut o = at;
-    while i < s.len() {
-        out[o] = s[i];
-        o += 1;
-        i += 1;
-    }
-    o
 }
 
 // A byte string.
@@ -38,10 +24,10 @@ pub fn put_bytes(out: &mut [u8], at: usize, s: &[u8]) -> usize
         return at;
     }
     let room = out.len() - at;
-    if s.len() <= room {
-        return copy(out, at, s);
-    }
-    copy(out, at, &s[..room])
+    let part = &s[..room.min(s.len())];
+    let end = at + part.len();
+    out[at..end].copy_from_slice(part);
+    end
 }
 
 // The n bytes of s from a place on, or as many of them as there are.
@@ -55,9 +41,5 @@ pub fn put_part(out: &mut [u8], at: usize, s: &[u8], from: usize, n: usize) -> u
 pub fn fill_bytes(out: &mut [u8], b: u8)
     ensures { out.new ≡ replicate (length out.old) b }
 {
-    let mut i = 0;
-    while i < out.len() {
-        out[i] = b;
-        i += 1;
-    }
+    out.fill(b);
 }

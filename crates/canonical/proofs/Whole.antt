@@ -2,13 +2,13 @@
 -- be;
 -- and what the entry answers and leaves. Rearranging and counting.
 use Prim.Native.Nat.{ℕ, ◌+◌, ◌*◌, ◌≤◌, ◌<◌}
-use mathlib.Core.Path.{◌≡◌, refl, sym, ap, ◌∙◌, subst}
+use mathlib.Core.Path.{◌≡◌, refl, sym, subst}
+use mathlib.Core.Bool.{true}
 use mathlib.Core.List.{List, [], ◌∷◌, ◌++◌, map, append_assoc}
 use native.Mathlib.Omega.{arith}
-use lib.ListN.{length, take, drop, length-append, length-take}
-use Rattle.scan.specs.Choice.{Answer, shown, refused}
+use lib.ListN.{length, length-append}
+use Rattle.scan.specs.Choice.{shown, refused}
 use Rattle.scan.specs.Bytes.{IsBytes}
-use Rattle.scan.proofs.AllLaws.{all_take, all_drop}
 use Rattle.buffer.specs.inner.Store.{Wrote}
 use Rattle.buffer.specs.Entry.{writes, leaves}
 use Rattle.buffer.proofs.EntryLaws.{short, fitted}
@@ -20,44 +20,36 @@ use Rattle.escape.proofs.TextLaws.{growth_most}
 use Rattle.event.specs.Event.{Event, Valid}
 use Rattle.notepack.specs.declared.Head.{Head}
 use Rattle.notepack.specs.Strict.{pack_tags, pack}
-use Rattle.notepack.specs.Unpack.{text_of, unpack}
+use Rattle.notepack.specs.Unpack.{part_of, text_of, unpack}
 use Rattle.notepack.specs.inner.Again.{tags_again, event_again}
 use Rattle.notepack.specs.inner.Answers.{Walked, walk_at}
 use Rattle.notepack.proofs.Sound.{sound}
 use Rattle.notepack.proofs.Walking.{walk_refuses}
-use Rattle.notepack.proofs.Again.{Accepted}
+use Rattle.notepack.proofs.Again.{Accepted, accepted}
 use Rattle.jsontags.specs.TagText.{quoted, commaed, tag_text, tags_text}
-use Rattle.jsontags.proofs.Texts.{quoted_hexes, length_quoted, length_array}
+use Rattle.jsontags.proofs.Texts.{length_array}
 use Rattle.jsontags.proofs.Room.{arrays_room}
 use Rattle.canonical.specs.Canonical.{canonical}
-use Rattle.canonical.specs.inner.Front.{canonical_front}
+use Rattle.canonical.specs.inner.Opening.{opening}
 use Rattle.canonical.proofs.Texts.{length_canonical}
 
 -- the writer's pieces in a row are the text
-row : (e : Event) → IsBytes e.pubkey
-    → canonical_front e ++ commaed (map (tag_text canonical_byte) e.tags) ++ (0x5D ∷ 0x2C ∷ []) ++ quoted canonical_byte e.content ++ (0x5D ∷ []) ≡ canonical e
-unfolding canonical_front canonical tags_text
-row e b = rw (quoted_hexes Canonical b) (simp append_assoc)
+row : (e : Event) → opening e ++ commaed (map (tag_text canonical_byte) e.tags) ++ (0x5D ∷ 0x2C ∷ []) ++ quoted canonical_byte e.content ++ (0x5D ∷ []) ≡ canonical e
+unfolding opening canonical tags_text
+row e = simp append_assoc
 
-module _ (s : List ℕ) (bytes : IsBytes s) (h : Head) where
+module _ (s : List ℕ) (h : Head) where
   pub row_wrote : {d : List ℕ} {at : ℕ} {d' : List ℕ} {r : ℕ}
-      → Wrote d at (canonical_front (event_again s h) ++ commaed (map (tag_text canonical_byte) (tags_again h.tag_count s h.tags_at)) ++ (0x5D ∷ 0x2C ∷ []) ++ quoted canonical_byte (text_of s h.content) ++ (0x5D ∷ [])) d' r
+      → Wrote d at (opening (event_again s h) ++ commaed (map (tag_text canonical_byte) (tags_again h.tag_count s h.tags_at)) ++ (0x5D ∷ 0x2C ∷ []) ++ quoted canonical_byte (text_of s h.content) ++ (0x5D ∷ [])) d' r
       → Wrote d at (canonical (event_again s h)) d' r
   unfolding event_again
-  row_wrote {d} {at} {d'} {r} w = subst (λ (l : List ℕ). Wrote d at l d' r) (row (event_again s h) (all_take 32 (all_drop 32 bytes))) w
+  row_wrote {d} {at} {d'} {r} w = subst (λ (l : List ℕ). Wrote d at l d' r) (row (event_again s h)) w
 
   -- the length of the text, piece by piece
-  pub row_length : (key : List ℕ) → key ≡ take 32 (drop 32 s)
-      → length (canonical (event_again s h))
-      ≡ 12 + 2 * length key + length (decimal h.created_at) + length (decimal h.kind) + length (commaed (map (tag_text canonical_byte) (tags_again h.tag_count s h.tags_at))) + length (quoted canonical_byte (text_of s h.content))
-  unfolding event_again tags_text
-  row_length key e =
-      let tags = tags_again h.tag_count s h.tags_at in
-      omega (arith, length_canonical (event_again s h) (all_take 32 (all_drop 32 bytes)), ap length e, length_array (map (tag_text canonical_byte) tags), length_quoted canonical_byte (text_of s h.content))
-
--- a part has no more bytes than are asked for
-pub part_most : (s part : List ℕ) (from n : ℕ) → part ≡ take n (drop from s) → length part ≤ n
-part_most s part from n e = omega (arith, ap length e, length-take n (drop from s))
+  pub row_length : length (canonical (event_again s h))
+      ≡ 10 + length (quoted canonical_byte (text_of s (part_of 32 32 true))) + length (decimal h.created_at) + length (decimal h.kind) + length (commaed (map (tag_text canonical_byte) (tags_again h.tag_count s h.tags_at))) + length (quoted canonical_byte (text_of s h.content))
+  unfolding canonical event_again text_of tags_text
+  row_length = simp length-append (omega arith)
 
 -- the strict form has at least the keys, the content and the tags
 length_pack : (e : Event) → length e.id + length e.pubkey + length e.sig + length e.content + length (pack_tags e.tags) ≤ length (pack e)
@@ -89,19 +81,22 @@ canonical_most s bytes e u = let g = sound s bytes e u in omega (arith, canonica
 -- ---- the entry: its answer and what it leaves
 
 module _ (s : List ℕ) (d : List ℕ) where
-  pub write_refused : (r : Answer Walked) (n q : ℕ) → r ≡ walk_at s → r ≡ refused n q → (refused n q ≡ writes canonical (unpack s) d) × (d ≡ leaves canonical (unpack s) d)
-  write_refused r n q e k = let u = walk_refuses s n q (sym e ∙ k) in (rw u, rw u)
+  pub write_refused : (n q : ℕ) → refused n q ≡ walk_at s → (refused n q ≡ writes canonical (unpack s) d) × (d ≡ leaves canonical (unpack s) d)
+  write_refused n q e = let u = walk_refuses s n q (sym e) in (rw u, rw u)
 
-  module _ {w : Walked} (g : Accepted s w) where
+  module _ (bytes : IsBytes s) {w : Walked} (walked : shown w ≡ walk_at s) where
+    event : Accepted s w
+    event = accepted s bytes w (shown w) walked refl
+
     pub write_short : {n : ℕ} → n ≡ length (canonical (event_again s w.head)) → length d < n
         → (refused 11 n ≡ writes canonical (unpack s) d) × (d ≡ leaves canonical (unpack s) d)
-    write_short m l = let f = short (canonical (event_again s w.head)) d m l in (rw g.shows f.0, rw g.shows f.1)
+    write_short m l = let f = short (canonical (event_again s w.head)) d m l in (rw event.shows f.0, rw event.shows f.1)
 
     pub write_fitted : {n : ℕ} {d' : List ℕ} {r : ℕ} → n ≡ length (canonical (event_again s w.head)) → n ≤ length d → Wrote d 0 (canonical (event_again s w.head)) d' r
         → (shown r ≡ writes canonical (unpack s) d) × (d' ≡ leaves canonical (unpack s) d)
-    write_fitted m l v = let f = fitted m l v in (rw g.shows f.0, rw g.shows f.1)
+    write_fitted m l v = let f = fitted m l v in (rw event.shows f.0, rw event.shows f.1)
 
     -- room by the bound
     pub write_wide : {d' : List ℕ} {r : ℕ} → 3 * length s ≤ length d → Wrote d 0 (canonical (event_again s w.head)) d' r
         → (shown r ≡ writes canonical (unpack s) d) × (d' ≡ leaves canonical (unpack s) d)
-    write_wide l v = write_fitted refl (omega (arith, canonical_room (event_again s w.head) g.sound.valid, g.sound.least)) v
+    write_wide l v = write_fitted refl (omega (arith, canonical_room (event_again s w.head) event.sound.valid, event.sound.least)) v

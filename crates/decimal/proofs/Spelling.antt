@@ -58,6 +58,13 @@ length_last n h = ap length (decimal_last n h)
 pub length_more : (n : ℕ) → 10 ≤ n → length (decimal n) ≡ length (decimal (n / 10)) + 1
 length_more n h = ap length (decimal_more n h) ∙ length-append (decimal (n / 10)) ((48 + n % 10) ∷ [])
 
+-- from a power of ten on, and below the next, a number has one digit more than the power has zeros
+pub length_power : (k n : ℕ) → 10 ^ k ≤ n → n < 10 * 10 ^ k → length (decimal n) ≡ k + 1
+length_power zero n l h = length_last n (omega (arith, h))
+length_power (suc k) n l h =
+    let p = pow-succ' 10 k in
+    omega (arith, length_more n (omega (arith, l, p, one-le-pow k 10 (omega arith))), length_power k (n / 10) (omega (arith, l, p)) (omega (arith, h, p)))
+
 -- a number below 10 ^ (k + 1) has at most k + 1 digits
 pub length_most : (k n : ℕ) → n < 10 ^ suc k → length (decimal n) ≤ suc k
 length_most zero n h = omega (arith, length_last n h)

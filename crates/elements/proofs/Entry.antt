@@ -7,7 +7,7 @@ use mathlib.Core.Bool.{Bool}
 use mathlib.Core.List.{List, map}
 use native.Mathlib.Omega.{arith}
 use lib.ListN.{length, take, drop, length-take}
-use Rattle.scan.specs.Choice.{Answer, shown, refused}
+use Rattle.scan.specs.Choice.{shown, refused}
 use Rattle.buffer.specs.inner.Store.{Wrote}
 use Rattle.buffer.proofs.EntryLaws.{fitted}
 use Rattle.buffer.proofs.Places.{ends_behind}
@@ -52,15 +52,15 @@ module _ (bare : Bool) (first : ℕ) (s d : List ℕ) where
       (rw (r, n), rw r (fitted refl fit w).1)
 
   -- an accepted record
-  pub told : (h : Head) (r : Answer Head) → r ≡ numbers_given bare s → r ≡ shown h → {d' : List ℕ} {e : ℕ}
+  pub told : (h : Head) → shown h ≡ numbers_given bare s → {d' : List ℕ} {e : ℕ}
       → Wrote d 0 (rows (take (length d / 16) (drop first (all_again h.tag_count 0 s h.tags_at)))) d' e
       → (shown (e / 16) ≡ elements_told bare first s d) × (d' ≡ elements_left bare first s d)
   unfolding listed
-  told h r e k w =
-      let p = numbers_packed bare s h (sym e ∙ k) in
+  told h e w =
+      let p = numbers_packed bare s h (sym e) in
       written p.0 p.1 (rw (← p.2, all_given bare s p.0 p.1) at w)
 
   -- one that is refused
-  pub not_told : (r : Answer Head) (n q : ℕ) → r ≡ numbers_given bare s → r ≡ refused n q
+  pub not_told : (n q : ℕ) → refused n q ≡ numbers_given bare s
       → (refused n q ≡ elements_told bare first s d) × (d ≡ elements_left bare first s d)
-  not_told r n q e k = rw (packed_refused bare s n q (sym e ∙ k)) (refl, refl)
+  not_told n q e = rw (packed_refused bare s n q (sym e)) (refl, refl)

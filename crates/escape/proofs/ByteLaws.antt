@@ -19,7 +19,7 @@ use Rattle.escape.specs.declared.Escaping.TheVariants.{Canonical, Nson}
 use Rattle.escape.specs.Escape.{backslashed, nson_byte, canonical_byte}
 use Rattle.escape.specs.inner.Back.{meaning}
 use Rattle.escape.specs.inner.Which.{byte_of}
-use Rattle.escape.specs.inner.Block.{byte_by, is_escaped, escape_letter}
+use Rattle.escape.specs.inner.Block.{is_escaped, escape_letter}
 
 -- what a byte becomes: itself, or a backslash and a letter that means it
 pub data Form (b : ℕ) : List ℕ → Type 0 where
@@ -59,11 +59,6 @@ pub escaping : (k : Escaping) → ReadBack (byte_of k)
 escaping Canonical = canonical_escaping
 escaping Nson = nson_escaping
 
--- by the code's flag
-pub escaping_by : (all : Bool) → ReadBack (byte_by all)
-escaping_by true = canonical_escaping
-escaping_by false = nson_escaping
-
 -- ---- by the code's tests
 
 not_below : (k b : ℕ) → (b < k → ⊥) → k ≤ b
@@ -82,9 +77,9 @@ outside b n8 n9 nA nB nC nD =
     simp (le-leb 0x08 b h, lt-leb b 0x0D (next 0x0D b (next 0x0C b (next 0x0B b (next 0x0A b (next 0x09 b (next 0x08 b h n8) n9) nA) nB) nC) nD)))
 
 -- what a byte becomes, by the two tests that the code makes
-pub byte_tests : (all : Bool) (b : ℕ) → byte_by all b ≡ pick (is_escaped all b) (backslashed (escape_letter b)) (b ∷ [])
+pub byte_tests : (k : Escaping) (b : ℕ) → byte_of k b ≡ pick (is_escaped k b) (backslashed (escape_letter b)) (b ∷ [])
 unfolding nson_byte canonical_byte is_escaped escape_letter within
-byte_tests true b =
+byte_tests Canonical b =
     dite (ℕ_discrete b 0x0D) (λ e. rw e refl)
     (λ r.
     dite (ℕ_discrete b 0x09) (λ e. rw e refl)
@@ -102,7 +97,7 @@ byte_tests true b =
     dite (ℕ_discrete b 0x0B) (λ e. rw e refl)
     (λ v.
     simp (ne_eqb b 0x0A n, ne_eqb b 0x22 m, ne_eqb b 0x5C k, ne_eqb b 0x0D r, ne_eqb b 0x09 h, ne_eqb b 0x08 g, ne_eqb b 0x0C f, outside b g h n v f r)))))))))
-byte_tests false b =
+byte_tests Nson b =
     dite (ℕ_discrete b 0x0A) (λ e. rw e refl)
     (λ n.
     dite (ℕ_discrete b 0x22) (λ e. rw e refl)
@@ -111,9 +106,9 @@ byte_tests false b =
     (λ k. simp (ne_eqb b 0x0A n, ne_eqb b 0x22 m, ne_eqb b 0x5C k))))
 
 -- a byte that passed the test
-pub byte_two : (all : Bool) (b : ℕ) {t : Bool} → t ≡ is_escaped all b → t ≡ true → byte_by all b ≡ backslashed (escape_letter b)
-byte_two all b p q = byte_tests all b ∙ rw (sym p, q)
+pub byte_two : (k : Escaping) (b : ℕ) {t : Bool} → t ≡ is_escaped k b → t ≡ true → byte_of k b ≡ backslashed (escape_letter b)
+byte_two k b p q = byte_tests k b ∙ rw (sym p, q)
 
 -- a byte that did not
-pub byte_one : (all : Bool) (b : ℕ) {t : Bool} → t ≡ is_escaped all b → t ≡ false → byte_by all b ≡ b ∷ []
-byte_one all b p q = byte_tests all b ∙ rw (sym p, q)
+pub byte_one : (k : Escaping) (b : ℕ) {t : Bool} → t ≡ is_escaped k b → t ≡ false → byte_of k b ≡ b ∷ []
+byte_one k b p q = byte_tests k b ∙ rw (sym p, q)

@@ -2,7 +2,6 @@
 #![tactic(auto)]
 
 use std::io;
-use varint::{Cursor, VarintRead};
 
 fn say_number(rt: &impl Print, n: u64) -> io::Result<()> {
     let mut digits = [0u8; 20];
@@ -12,8 +11,8 @@ fn say_number(rt: &impl Print, n: u64) -> io::Result<()> {
 
 // Each byte as a space and two digits.
 fn say_bytes(rt: &impl Print, bytes: &[u8]) -> io::Result<()> {
-    for b in bytes {
-        say_byte(rt, *b)?;
+    for &b in bytes {
+        say_byte(rt, b)?;
     }
     Ok(())
 }
@@ -38,15 +37,14 @@ fn spelled(rt: &impl Print, label: &[u8], n: u64) -> io::Result<()> {
 fn read(rt: &impl Print, label: &[u8], bytes: &[u8]) -> io::Result<()> {
     rt.write_all(label)?;
     say_bytes(rt, bytes)?;
-    let found = Cursor { at: 0 }.varint(bytes);
-    match found {
-        VarintRead::Value(n, _) => {
+    match varint::varint(bytes, 0) {
+        Ok((n, _)) => {
             rt.write_all(b" reads as ")?;
             say_number(rt, n)?;
         }
-        VarintRead::Refused(r) => {
+        Err(r) => {
             rt.write_all(b" is refusal ")?;
-            say_number(rt, r.number as u64)?;
+            say_number(rt, r.reason.number() as u64)?;
             rt.write_all(b" at ")?;
             say_number(rt, r.place as u64)?;
         }

@@ -1,5 +1,5 @@
 pub mod Digits
 pub mod Texts
 pub mod Turn
-pub mod BlockLaws
 pub mod Pairs
+pub mod BlockLaws

@@ -2,21 +2,24 @@
 #![tactic(auto)]
 
 ghost use Rattle.std.specs.Prelude.{◌+◌, ◌*◌, ◌/◌, ◌%◌, ◌≤◌, ◌≡◌, length};
+ghost use Rattle.scan.specs.inner.Blocks.{sum_of};
 ghost use Rattle.buffer.specs.inner.Store.{Wrote};
 ghost use Rattle.hexdigits.specs.Hex.{value_of, digit_of, hexes, unhex, all_digits, goes_as_bytes};
-ghost use Rattle.hexdigits.specs.inner.Block.{is_other, others_of, values_of, pairs_of};
+ghost use Rattle.hexdigits.specs.inner.Block.{is_other, values_of, pairs_of};
 
 // A digit's value; 16 where the byte is none of 0-9 a-f.
+#[tactic(auto, using(scan::proofs::Step::tests), unfolding(crate::specs::Hex::value_of, scan::specs::Place::within))]
 pub fn value_of(b: u8) -> u8
     ensures { result ≡ value_of b }
 {
-    if scan::is_within(b'0', b'9', b) {
-        return b - b'0';
+    // one test for each range and no `match` of both, whose tests one by one make the loops for vectors slower
+    if matches!(b, b'0'..=b'9') {
+        b - b'0'
+    } else if matches!(b, b'a'..=b'f') {
+        b - b'a' + 10
+    } else {
+        16
     }
-    if scan::is_within(b'a', b'f', b) {
-        return b - 87;
-    }
-    16
 }
 
 // The digit of a value's lower four bits.
@@ -24,7 +27,7 @@ pub fn digit_of(v: u8) -> u8
     ensures { result ≡ digit_of (v % 16) }
 {
     let d = v % 16;
-    if d < 10 { 48 + d } else { 87 + d }
+    if d < 10 { b'0' + d } else { b'a' + d - 10 }
 }
 
 // Each byte as two digits, where there is room for all: one loop with no test for each byte.
@@ -32,15 +35,11 @@ fn hex_all(out: &mut [u8], at: usize, s: &[u8]) -> usize
     requires { at + 2 * length s.now ≤ length out.old }
     ensures { Wrote out.old at (hexes s.now) out.new result }
 {
-    let mut i = 0;
-    let mut o = at;
-    while i < s.len() {
-        out[o] = digit_of(s[i] / 16);
-        out[o + 1] = digit_of(s[i]);
-        o += 2;
-        i += 1;
+    for (i, &b) in s.iter().enumerate() {
+        out[at + 2 * i] = digit_of(b / 16);
+        out[at + 2 * i + 1] = digit_of(b);
     }
-    o
+    at + 2 * s.len()
 }
 
 // Each byte as two digits, written.
@@ -59,75 +58,56 @@ pub fn put_hex(out: &mut [u8], at: usize, s: &[u8]) -> usize
     buffer::put_byte(out, o, digit_of(s[room] / 16))
 }
 
-// The value of each byte as a digit.
-fn put_values(out: &mut [u8], t: &[u8]) -> usize
+// The value of each byte as a digit. By its index: the laws of a `zip` are of two slices that are read, and this one
+// writes.
+#[tactic(auto, unfolding(crate::specs::inner::Block::values_of))]
+fn put_values(out: &mut [u8], t: &[u8])
     requires { length t.now ≤ length out.old }
-    ensures { Wrote out.old 0 (values_of t.now) out.new result }
+    ensures { Wrote out.old 0 (values_of t.now) out.new (length t.now) }
 {
-    let mut i = 0;
-    while i < t.len() {
-        out[i] = value_of(t[i]);
-        i += 1;
+    for (i, &b) in t.iter().enumerate() {
+        out[i] = value_of(b);
     }
-    i
 }
 
-// A byte for each two values.
+// A byte for each two values. By an index: as chunks of two the pairs would need a law more, and the loop is no
+// shorter.
+#[tactic(auto, unfolding(crate::specs::inner::Block::pairs_of))]
 fn put_pairs(out: &mut [u8], at: usize, v: &[u8]) -> usize
     requires { at + length v.now / 2 ≤ length out.old }
     ensures { Wrote out.old at (pairs_of v.now) out.new result }
 {
     let n = v.len() / 2;
-    let mut i = 0;
-    while i < n {
+    for i in 0..n {
         out[at + i] = 16 * (v[2 * i] % 16) + v[2 * i + 1] % 16;
-        i += 1;
     }
     at + n
 }
 
-// The bytes of 64 digits: first all values, then all pairs. Each is a loop for vectors, which one loop over both is
-// not.
+// The bytes of up to 64 digits: first all values, then all pairs. Each is a loop for vectors, which one loop over both
+// is not.
 fn unhex_block(out: &mut [u8], at: usize, t: &[u8]) -> usize
-    requires t_len { length t.now ≡ 64 }
-    requires at_in_bounds { at + 32 ≤ length out.old }
+    requires t_len { length t.now ≤ 64 }
+    requires at_in_bounds { at + length t.now / 2 ≤ length out.old }
     ensures { Wrote out.old at (unhex t.now) out.new result }
 {
     let mut v = [0u8; 64];
     put_values(&mut v, t);
-    put_pairs(out, at, &v)
+    put_pairs(out, at, &v[..t.len()])
 }
 
-// A byte for each two digits, pair by pair, where there is room for all.
-fn unhex_each(out: &mut [u8], at: usize, t: &[u8]) -> usize
-    requires { at + length t.now / 2 ≤ length out.old }
-    ensures { Wrote out.old at (unhex t.now) out.new result }
-{
-    let mut i = 0;
-    let mut o = at;
-    while i + 1 < t.len() {
-        let high = value_of(t[i]) % 16;
-        let low = value_of(t[i + 1]) % 16;
-        out[o] = 16 * high + low;
-        o += 1;
-        i += 2;
-    }
-    o
-}
-
-// The same, in blocks of 64 digits and the rest.
+// A byte for each two digits, block by block, where there is room for all.
 fn unhex_all(out: &mut [u8], at: usize, t: &[u8]) -> usize
     requires { at + length t.now / 2 ≤ length out.old }
     ensures { Wrote out.old at (unhex t.now) out.new result }
 {
-    let mut i = 0;
     let mut o = at;
-    while t.len() - i >= 64 {
-        let e = i + 64;
-        o = unhex_block(out, o, &t[i..e]);
-        i = e;
+    let mut left = t;
+    while let Some((block, rest)) = left.split_first_chunk::<64>() {
+        o = unhex_block(out, o, block);
+        left = rest;
     }
-    unhex_each(out, o, &t[i..])
+    unhex_block(out, o, left)
 }
 
 // A byte for each two digits, written.
@@ -141,62 +121,53 @@ pub fn put_unhex(out: &mut [u8], at: usize, t: &[u8]) -> usize
     if t.len() / 2 <= room {
         return unhex_all(out, at, t);
     }
-    let end = 2 * room;
-    unhex_all(out, at, &t[..end])
+    unhex_all(out, at, &t[..2 * room])
 }
 
 // 1 for a byte that is no digit, and else 0.
+#[tactic(auto, using(scan::proofs::Step::tests), unfolding(crate::specs::inner::Block::is_other))]
 fn is_other(b: u8) -> u8
     ensures value { result ≡ is_other b }
     ensures upper_bound { result ≤ 1 }
 {
-    if value_of(b) < 16 { 0 } else { 1 }
+    u8::from(16 <= value_of(b))
 }
 
 // How many bytes of a block are no digits. No exit on the way, and a sum in a byte: a loop for vectors.
+#[tactic(auto, unfolding(scan::specs::inner::Blocks::sum_of))]
 fn others(block: &[u8]) -> u8
     requires { length block.now ≤ 128 }
-    ensures { result ≡ others_of block.now }
+    ensures { result ≡ sum_of is_other block.now }
 {
-    let mut i = 0;
-    let mut n: u8 = 0;
-    while i < block.len() {
-        n += is_other(block[i]);
-        i += 1;
+    let mut n = 0;
+    for &b in block {
+        n += is_other(b);
     }
     n
 }
 
 // Whether every byte is one of 0-9 a-f: block by block. Most texts that are not show it in their first byte.
+#[tactic(auto, using(crate::proofs::BlockLaws::digits_counted), unfolding(crate::specs::Hex::all_digits))]
 pub fn all_digits(t: &[u8]) -> bool
     ensures { result ≡ all_digits t.now }
 {
-    if t.len() == 0 {
-        return true;
-    }
-    if value_of(t[0]) == 16 {
+    if t.first().is_some_and(|&b| value_of(b) == 16) {
         return false;
     }
-    let mut i = 0;
-    while t.len() - i >= 128 {
-        let e = i + 128;
-        if others(&t[i..e]) != 0 {
+    let mut left = t;
+    while let Some((block, rest)) = left.split_first_chunk::<128>() {
+        if others(block) != 0 {
             return false;
         }
-        i = e;
+        left = rest;
     }
-    others(&t[i..]) == 0
+    others(left) == 0
 }
 
 // Whether a text goes as bytes in the strict form.
+#[tactic(auto, using(scan::proofs::Step::tests), unfolding(crate::specs::Hex::goes_as_bytes))]
 pub fn goes_as_bytes(t: &[u8]) -> bool
     ensures { result ≡ goes_as_bytes t.now }
 {
-    if t.len() == 0 {
-        return false;
-    }
-    if t.len() % 2 == 0 {
-        return all_digits(t);
-    }
-    false
+    !t.is_empty() && t.len() % 2 == 0 && all_digits(t)
 }

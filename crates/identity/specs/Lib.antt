@@ -1,2 +1,1 @@
 pub mod Identity
-pub mod inner

@@ -1,178 +1,121 @@
 // The escapes of JSON's strings.
 #![tactic(auto)]
 
-ghost use Rattle.std.specs.Prelude.{◌+◌, ◌-◌, ◌*◌, ◌^◌, ◌≤◌, ◌<◌, ◌≡◌, length};
-ghost use Rattle.jsontext.specs.inner.Escape.{hex_value, unit_of, unit_at, unescaped_letter, letter_escape, pair_of, unicode_at, escape_at};
+ghost use Rattle.std.specs.Prelude.{◌-◌, ◌^◌, ◌≤◌, ◌<◌, ◌≡◌, length, unwrap_or, IfSome};
+ghost use Rattle.jsontext.specs.inner.Escape.{hex_value, unit_of, unit_at, unescaped_letter, no_escape, pair_of, unicode_at, escape_at};
 
 use jsontext::Escape;
 
-const NO_UNIT: u32 = 0x10000;
-
-// The value of a hex digit in either case; 16 where the byte is none.
-fn hex_value(b: u8) -> u8
-    ensures { result ≡ hex_value b }
+// The value of a hex digit in either case.
+#[tactic(auto, using(scan::proofs::Step::tests), unfolding(jsontext::specs::inner::Escape::hex_value, hexdigits::specs::Hex::value_of, scan::specs::Place::within))]
+fn hex_value(b: u8) -> Option<u8>
+    ensures value { unwrap_or result 16 ≡ hex_value b }
+    ensures upper_bound { IfSome result (λ v. v < 16) }
 {
-    if scan::is_within(0x41, 0x46, b) {
-        return b - 0x37;
+    match b {
+        b'0'..=b'9' => Some(b - b'0'),
+        b'A'..=b'F' => Some(b - b'A' + 10),
+        b'a'..=b'f' => Some(b - b'a' + 10),
+        _ => None,
     }
-    hexdigits::value_of(b)
 }
 
-// The number that four hex digits say; 65,536 where they are not four.
-fn unit_of(a: u8, b: u8, c: u8, d: u8) -> u32
-    ensures { result ≡ unit_of a b c d }
+// The number that four hex digits say.
+#[tactic(auto, using(scan::proofs::Step::tests), unfolding(jsontext::specs::inner::Escape::unit_of))]
+fn unit_of(a: u8, b: u8, c: u8, d: u8) -> Option<u16>
+    ensures { unwrap_or result 0x10000 ≡ unit_of a b c d }
 {
-    let x = hex_value(a);
-    let y = hex_value(b);
-    let z = hex_value(c);
-    let w = hex_value(d);
-    if x < 16 {
-        if y < 16 {
-            if z < 16 {
-                if w < 16 {
-                    return ((x as u32 * 16 + y as u32) * 16 + z as u32) * 16 + w as u32;
-                }
-            }
-        }
-    }
-    NO_UNIT
+    let x = u16::from(hex_value(a)?);
+    let y = u16::from(hex_value(b)?);
+    let z = u16::from(hex_value(c)?);
+    let w = u16::from(hex_value(d)?);
+    Some(((x * 16 + y) * 16 + z) * 16 + w)
 }
 
-// The number that \uXXXX at a place says; 65,536 where none stands there.
-fn unit_at(s: &[u8], at: usize) -> u32
+// The number that \uXXXX at a place says.
+#[tactic(auto, using(scan::proofs::Step::tests), unfolding(jsontext::specs::inner::Escape::unit_at))]
+fn unit_at(s: &[u8], at: usize) -> Option<u16>
     requires { at < 2 ^ 64 - 5 }
-    ensures { result ≡ unit_at s.now at }
+    ensures { unwrap_or result 0x10000 ≡ unit_at s.now at }
 {
-    if scan::byte_at(s, at) == 0x5C {
-        if scan::byte_at(s, at + 1) == 0x75 {
-            let a = scan::byte_at(s, at + 2);
-            let b = scan::byte_at(s, at + 3);
-            let c = scan::byte_at(s, at + 4);
-            let d = scan::byte_at(s, at + 5);
-            return unit_of(a, b, c, d);
-        }
+    if scan::byte_at(s, at) != b'\\' || scan::byte_at(s, at + 1) != b'u' {
+        return None;
     }
-    NO_UNIT
+    unit_of(
+        scan::byte_at(s, at + 2),
+        scan::byte_at(s, at + 3),
+        scan::byte_at(s, at + 4),
+        scan::byte_at(s, at + 5),
+    )
 }
 
-// The character of a letter behind the backslash; 0 where it is none of the eight.
-pub fn unescaped_letter(c: u8) -> u8
-    ensures { result ≡ unescaped_letter c }
+// The character of a letter behind the backslash.
+#[tactic(auto, using(scan::proofs::Step::tests), unfolding(jsontext::specs::inner::Escape::unescaped_letter))]
+pub fn unescaped_letter(c: u8) -> Option<u8>
+    ensures value { unwrap_or result 0 ≡ unescaped_letter c }
+    ensures nonzero { IfSome result (λ b. 0 < b) }
 {
-    if c == 0x22 {
-        return 0x22;
-    }
-    if c == 0x5C {
-        return 0x5C;
-    }
-    if c == 0x2F {
-        return 0x2F;
-    }
-    if c == 0x62 {
-        return 0x08;
-    }
-    if c == 0x66 {
-        return 0x0C;
-    }
-    if c == 0x6E {
-        return 0x0A;
-    }
-    if c == 0x72 {
-        return 0x0D;
-    }
-    if c == 0x74 {
-        return 0x09;
-    }
-    0
-}
-
-fn letter_escape(b: u8) -> Escape
-    ensures { result ≡ letter_escape b }
-{
-    if b == 0 {
-        return Escape {
-            width: 0,
-            scalar: 0,
-        };
-    }
-    Escape {
-        width: 2,
-        scalar: b as u32,
+    match c {
+        b'"' | b'\\' | b'/' => Some(c),
+        b'b' => Some(0x08),
+        b'f' => Some(0x0C),
+        b'n' => Some(b'\n'),
+        b'r' => Some(b'\r'),
+        b't' => Some(b'\t'),
+        _ => None,
     }
 }
 
 // A high surrogate and the unit behind it.
-fn pair_of(u: u32, v: u32) -> Escape
+#[tactic(auto, using(scan::proofs::Step::tests), unfolding(jsontext::specs::inner::Escape::pair_of))]
+fn pair_of(u: u16, v: u16) -> Option<Escape>
     requires u_bound { u < 0xDC00 }
     requires le_u { 0xD800 ≤ u }
-    ensures { result ≡ pair_of u v }
+    ensures value { unwrap_or result no_escape ≡ pair_of u v }
+    ensures lower_bound { IfSome result (λ e. 1 ≤ e.width) }
 {
-    if v < 0xDC00 {
-        return Escape {
-            width: 0,
-            scalar: 0,
-        };
-    }
-    if v < 0xE000 {
-        return Escape {
+    match v {
+        0xDC00..=0xDFFF => Some(Escape {
             width: 12,
-            scalar: 0x10000 + (u - 0xD800) * 0x400 + (v - 0xDC00),
-        };
-    }
-    Escape {
-        width: 0,
-        scalar: 0,
+            scalar: 0x10000 + u32::from(u - 0xD800) * 0x400 + u32::from(v - 0xDC00),
+        }),
+        _ => None,
     }
 }
 
 // The escape at a place whose four digits say u.
-fn unicode_at(s: &[u8], at: usize, u: u32) -> Escape
+#[tactic(auto, using(scan::proofs::Step::tests), unfolding(jsontext::specs::inner::Escape::unicode_at, jsontext::specs::inner::Escape::pair_of))]
+fn unicode_at(s: &[u8], at: usize, u: u16) -> Option<Escape>
     requires { at < length s.now }
-    ensures { result ≡ unicode_at s.now at u }
+    ensures value { unwrap_or result no_escape ≡ unicode_at s.now at u }
+    ensures lower_bound { IfSome result (λ e. 1 ≤ e.width) }
 {
-    if u < 0xD800 {
-        return Escape {
+    match u {
+        0xD800..=0xDBFF => pair_of(u, unit_at(s, at + 6)?),
+        0xDC00..=0xDFFF => None,
+        _ => Some(Escape {
             width: 6,
-            scalar: u,
-        };
-    }
-    if u < 0xDC00 {
-        let v = unit_at(s, at + 6);
-        return pair_of(u, v);
-    }
-    if u < 0xE000 {
-        return Escape {
-            width: 0,
-            scalar: 0,
-        };
-    }
-    if u < 0x10000 {
-        return Escape {
-            width: 6,
-            scalar: u,
-        };
-    }
-    Escape {
-        width: 0,
-        scalar: 0,
+            scalar: u32::from(u),
+        }),
     }
 }
 
 // The escape whose backslash stands at a place; past the end there is none.
-pub fn escape_at(s: &[u8], at: usize) -> Escape
-    ensures { result ≡ escape_at s.now at }
+#[tactic(auto, using(scan::proofs::Step::tests, jsontext::proofs::EscapeLaws::escape_none), unfolding(jsontext::specs::inner::Escape::escape_at, jsontext::specs::inner::Escape::unicode_at, jsontext::specs::inner::Escape::letter_escape))]
+pub fn escape_at(s: &[u8], at: usize) -> Option<Escape>
+    ensures value { unwrap_or result no_escape ≡ escape_at s.now at }
+    ensures lower_bound { IfSome result (λ e. 1 ≤ e.width) }
 {
     if s.len() <= at {
-        return Escape {
-            width: 0,
-            scalar: 0,
-        };
+        return None;
     }
     let c = scan::byte_at(s, at + 1);
-    if c == 0x75 {
-        let u = unit_at(s, at);
-        return unicode_at(s, at, u);
+    if c == b'u' {
+        return unicode_at(s, at, unit_at(s, at)?);
     }
-    let b = unescaped_letter(c);
-    letter_escape(b)
+    let b = unescaped_letter(c)?;
+    Some(Escape {
+        width: 2,
+        scalar: u32::from(b),
+    })
 }

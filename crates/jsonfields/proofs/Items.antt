@@ -1,30 +1,27 @@
 -- Arrays of items, for texts in a tag and for tags alike: what was read taken apart, how much it takes in the strict
--- form, and the turns of the loop that measures.
+-- form, and the turns of the loop that measures, which knows each item by its length.
 -- The invariant puts what is counted so far in front of the items that are still to be read.
 use Prim.Native.Nat.{ℕ, zero, suc, ◌+◌, ◌*◌, ◌-◌, ◌≤◌, ◌<◌}
 use mathlib.Core.Path.{◌≡◌, refl, sym, ap, ◌∙◌, subst}
 use mathlib.Core.Bool.{Bool, true, false}
-use mathlib.Core.List.{List, [], ◌∷◌}
+use mathlib.Core.List.{List, [], ◌∷◌, map}
 use native.Mathlib.Omega.{arith}
 use native.Mathlib.Nat.{zero-add, add-zero}
 use lib.ListN.{length, get_or}
 use lib.Dec.{eqb}
 use borrow.Author.Tests.{eq-eqb, ne_eqb, eqb-true}
+use Rattle.std.specs.Prelude.{Result, Ok, Err}
 use Rattle.scan.specs.Choice.{pick, Answer, shown, refused, Read, read, and_then}
 use Rattle.scan.proofs.Many.{then_shown}
 use Rattle.scan.proofs.Reading.{read_same}
 use Rattle.event.specs.declared.Refusal.{Refusal}
-use Rattle.event.specs.inner.Told.{told}
+use Rattle.event.specs.inner.Told.{read_answer}
 use Rattle.jsontext.specs.Token.{space_at}
 use Rattle.scan.proofs.Fits.{byte_positive}
 use Rattle.jsontext.proofs.TokenLaws.{space_onward}
 use Rattle.jsonevent.specs.Field.{under, after_item, items_at, inside_at}
-use Rattle.jsonfields.specs.declared.Cursor.{Cursor}
 use Rattle.jsonfields.specs.declared.Sized.{Sized}
-use Rattle.jsonfields.specs.declared.LenRead.{LenRead}
-use Rattle.jsonfields.specs.declared.LenRead.TheVariants as len-by
-use Rattle.jsonfields.specs.inner.Size.{total, sized}
-use Rattle.jsonfields.specs.inner.Answers.{len_read}
+use Rattle.jsonfields.specs.inner.Size.{total, sized, lengths, IsSmall}
 
 -- ---- a value under a measure
 
@@ -131,68 +128,123 @@ module _ {A : Type 0} (item : ℕ → Answer (Read A)) (size : A → ℕ) (s : L
       let z : m * suc (length l) ≡ m + m * length l = omega arith in
       (omega (arith, g, p, q, u), u.1, omega (arith, g, p, q, u, z), omega (arith, u))
 
+-- where no item takes more than that, each that is told by its length is small
+pub is_small : {A : Type 0} (item : ℕ → Answer (Read A)) (size : A → ℕ) (s : List ℕ) (m : ℕ) → m ≤ 2_560 → Bound item size s m
+    → (i : ℕ) (r : Result (ℕ × ℕ) Refusal) → read_answer r ≡ under size (item i) → IsSmall (length s) i r
+is_small item size s m few bound i (Ok x) e =
+    let u = under_read size (item i) e in
+    let b = bound i u.0 x.1 u.1 in
+    (b.0, b.1, omega (arith, b, u.2))
+is_small item size s m few bound i (Err r) e = tt
+
+-- ---- items told by their lengths
+
+-- a list of lengths is as many items as it was made of, and as long
+lengths_map : {A : Type 0} (size : A → ℕ) (l : List A) → lengths (map size l) ≡ sized size l
+unfolding total
+lengths_map size [] = refl
+lengths_map size (x ∷ l) =
+    let n : length (map size l) ≡ length l = ap (λ (t : Sized). t.count) (lengths_map size l) in
+    let m : total (λ (k : ℕ). k) (map size l) ≡ total size l = ap (λ (t : Sized). t.len) (lengths_map size l) in
+    rw (n, m)
+
+module _ {A : Type 0} (item : ℕ → Answer (Read A)) (size : A → ℕ) (s : List ℕ) where
+  -- an item's length
+  abbrev told : ℕ → Answer (Read ℕ)
+  told i = under size (item i)
+
+  after_told : (f : ℕ → Answer (Read (List ℕ))) (g : ℕ → Answer (Read (List A))) → ((p : ℕ) → f p ≡ under (map size) (g p)) → (x : A) (p : ℕ)
+      → after_item f (size x) s p ≡ under (map size) (after_item g x s p)
+  unfolding after_item
+  after_told f g h x p = go (eqb (get_or s p 0) 0x5D) (eqb (get_or s p 0) 0x2C) (g p) (h p)
+    where
+      go : (b c : Bool) (r : Answer (Read (List A))) → f p ≡ under (map size) r
+          → pick b (read (size x ∷ []) (p + 1)) (pick c (and_then (f p) (λ xs. read (size x ∷ xs.value) xs.next)) (refused 14 p))
+          ≡ under (map size) (pick b (read (x ∷ []) (p + 1)) (pick c (and_then r (λ xs. read (x ∷ xs.value) xs.next)) (refused 14 p)))
+      go true c r e = refl
+      go false true (shown w) e = rw e
+      go false true (refused n q) e = rw e
+      go false false r e = refl
+
+  -- the items behind a comma, alike
+  abbrev Alike : ℕ → Type 0
+  Alike left = (p : ℕ) → more_at told left s p ≡ under (map size) (more_at item left s p)
+
+  told_by : (left : ℕ) → Alike left → (i : ℕ) → items_at told left s i ≡ under (map size) (items_at item left s i)
+  told_by left others i = rw (items_open told left s i, items_open item left s i) (go (item i))
+    where
+      go : (r : Answer (Read A)) → and_then (under size r) (λ x. after_item (more_at told left s) x.value s (space_at s x.next))
+          ≡ under (map size) (and_then r (λ x. after_item (more_at item left s) x.value s (space_at s x.next)))
+      go (shown x) = after_told (more_at told left s) (more_at item left s) others x.value (space_at s x.next)
+      go (refused n p) = refl
+
+  items_told : (left i : ℕ) → items_at told left s i ≡ under (map size) (items_at item left s i)
+  items_told zero i = told_by zero (λ p. refl) i
+  items_told (suc left) i = told_by (suc left) (λ p. items_told left (space_at s (p + 1))) i
+
+  -- items behind their opening bracket, told by their lengths
+  pub inside_told : (left at : ℕ) → under lengths (inside_at told left s at) ≡ under (sized size) (inside_at item left s at)
+  unfolding inside_at total
+  inside_told left at = by (eqb (get_or s at 0) 0x5D)
+    where
+      go : (r : Answer (Read (List A))) → under lengths (under (map size) r) ≡ under (sized size) r
+      go (shown v) = ap (λ (t : Sized). read t v.next) (lengths_map size v.value)
+      go (refused n p) = refl
+
+      by : (b : Bool) → under lengths (pick b (read [] (at + 1)) (items_at told left s at)) ≡ under (sized size) (pick b (read [] (at + 1)) (items_at item left s at))
+      by true = refl
+      by false = rw (items_told left at) (go (items_at item left s at))
+
 -- ---- the loop that measures
 
 -- n items that take len bytes, and those that are still to be read
-abbrev pub gathered : {A : Type 0} → (A → ℕ) → (n len : ℕ) → List A → Sized
-gathered size n len l = record { count = n + length l; len = len + total size l }
+abbrev pub gathered : (n len : ℕ) → List ℕ → Sized
+gathered n len l = record { count = n + length l; len = len + total (λ (k : ℕ). k) l }
 
--- What the loop knows: the whole is what was counted and the items from here on; and each took at most m bytes more
--- than it does here.
-pub record InItems {A : Type 0} (item : ℕ → Answer (Read A)) (size : A → ℕ) (s : List ℕ) (limit m at i n len : ℕ) : Type 0 where
-  pub same : under (sized size) (inside_at item limit s at) ≡ under (gathered size n len) (items_at item (limit - n) s i)
-  pub few : n ≤ limit
-  pub onward : at ≤ i
-  pub small : len + at ≤ i + m * n
+-- the whole is what was counted and the items from here on
+pub record Going (tell : ℕ → Answer (Read ℕ)) (s : List ℕ) (limit at i n len : ℕ) : Type 0 where
+  pub same : under lengths (inside_at tell limit s at) ≡ under (gathered n len) (items_at tell (limit - n) s i)
 
-module _ {A : Type 0} (item : ℕ → Answer (Read A)) (size : A → ℕ) (s : List ℕ) (limit m at : ℕ) where
+module _ (tell : ℕ → Answer (Read ℕ)) (s : List ℕ) (limit at : ℕ) where
   -- nothing between the brackets
-  pub items_none : (b : ℕ) → b ≡ get_or s at 0 → b ≡ 0x5D → read (record { count = 0; len = 0 }) (at + 1) ≡ under (sized size) (inside_at item limit s at)
+  pub items_none : (b : ℕ) → b ≡ get_or s at 0 → b ≡ 0x5D → read (record { count = 0; len = 0 }) (at + 1) ≡ under lengths (inside_at tell limit s at)
   unfolding inside_at total
   items_none b f q = rw (eq-eqb (get_or s at 0) 0x5D (sym f ∙ q))
 
-  pub items_start : (b : ℕ) → b ≡ get_or s at 0 → (b ≡ 0x5D → ⊥) → InItems item size s limit m at at 0 0
+  pub items_start : (b : ℕ) → b ≡ get_or s at 0 → (b ≡ 0x5D → ⊥) → Going tell s limit at at 0 0
   unfolding inside_at
   items_start b f q = record {
     same =
         let z : limit - 0 ≡ limit = omega arith in
-        rw (ne_eqb (get_or s at 0) 0x5D (λ z. q (f ∙ z)), z) (under_same {f = sized size} {g = gathered size 0 0} (items_at item limit s at) (λ l. rw (zero-add (length l), zero-add (total size l))));
-    few = omega arith;
-    onward = omega arith;
-    small = omega arith;
+        rw (ne_eqb (get_or s at 0) 0x5D (λ z. q (f ∙ z)), z) (under_same {f = lengths} {g = gathered 0 0} (items_at tell limit s at) (λ l. rw (zero-add (length l), zero-add (total (λ (k : ℕ). k) l))));
   }
 
-  module _ {i n len : ℕ} (v : InItems item size s limit m at i n len) (found : LenRead) (e : len_read found ≡ under size (item i)) where
+  module _ {i n len : ℕ} (v : Going tell s limit at i n len) where
     abbrev whole : Answer (Read Sized)
-    whole = under (sized size) (inside_at item limit s at)
+    whole = under lengths (inside_at tell limit s at)
 
-    open_turn : whole ≡ under (gathered size n len) (and_then (item i) (λ x. after_item (more_at item (limit - n) s) x.value s (space_at s x.next)))
-    open_turn = v.same ∙ ap (under (gathered size n len)) (items_open item (limit - n) s i)
+    open_turn : whole ≡ under (gathered n len) (and_then (tell i) (λ x. after_item (more_at tell (limit - n) s) x.value s (space_at s x.next)))
+    open_turn = v.same ∙ ap (under (gathered n len)) (items_open tell (limit - n) s i)
 
     -- an item is refused
-    pub items_refused : {why : Refusal} → found ≡ len-by.Refused why → told why ≡ whole
-    items_refused {why} f = let r = under_refused size (item i) (sym (ap len_read f) ∙ e) in sym (open_turn ∙ rw r)
+    pub items_refused : {m q : ℕ} → refused m q ≡ tell i → refused m q ≡ whole
+    items_refused e = sym (open_turn ∙ rw (← e))
 
-    module _ {k : ℕ} {next : Cursor} (f : found ≡ len-by.Len k next) {p b : ℕ} (g : p ≡ space_at s next.at) (h : b ≡ get_or s p 0) where
-      item_read : (x : A) × (item i ≡ read x next.at) × (size x ≡ k)
-      item_read = under_read size (item i) (sym (ap len_read f) ∙ e)
-
-      behind : whole ≡ under (gathered size n len) (after_item (more_at item (limit - n) s) item_read.0 s p)
-      behind =
-          open_turn
-          ∙ rw item_read.1 (ap (λ (q : ℕ). under (gathered size n len) (after_item (more_at item (limit - n) s) item_read.0 s q)) (sym g))
+    module _ {k next : ℕ} (e : read k next ≡ tell i) {p b : ℕ} (g : p ≡ space_at s next) (h : b ≡ get_or s p 0) where
+      behind : whole ≡ under (gathered n len) (after_item (more_at tell (limit - n) s) k s p)
+      behind = open_turn ∙ rw (← e, ← g)
 
       -- its closing bracket
       pub items_closed : b ≡ 0x5D → read (record { count = n + 1; len = len + k }) (p + 1) ≡ whole
       unfolding after_item total
-      items_closed q = sym (behind ∙ rw (eq-eqb (get_or s p 0) 0x5D (sym h ∙ q), item_read.2) (ap (λ (j : ℕ). read (record { count = n + 1; len = len + j }) (p + 1)) (add-zero k)))
+      items_closed q = sym (behind ∙ rw (eq-eqb (get_or s p 0) 0x5D (sym h ∙ q)) (ap (λ (j : ℕ). read (record { count = n + 1; len = len + j }) (p + 1)) (add-zero k)))
 
       -- neither a bracket nor a comma
       pub items_other : (b ≡ 0x5D → ⊥) → (b ≡ 0x2C → ⊥) → refused 14 p ≡ whole
       unfolding after_item
       items_other q r = sym (behind ∙ rw (ne_eqb (get_or s p 0) 0x5D (λ z. q (h ∙ z)), ne_eqb (get_or s p 0) 0x2C (λ z. r (h ∙ z))))
 
-      comma : (b ≡ 0x5D → ⊥) → b ≡ 0x2C → whole ≡ under (gathered size n len) (and_then (more_at item (limit - n) s p) (λ xs. read (item_read.0 ∷ xs.value) xs.next))
+      comma : (b ≡ 0x5D → ⊥) → b ≡ 0x2C → whole ≡ under (gathered n len) (and_then (more_at tell (limit - n) s p) (λ xs. read (k ∷ xs.value) xs.next))
       unfolding after_item
       comma q r = behind ∙ rw (ne_eqb (get_or s p 0) 0x5D (λ z. q (h ∙ z)), eq-eqb (get_or s p 0) 0x2C (sym h ∙ r))
 
@@ -201,34 +253,17 @@ module _ {A : Type 0} (item : ℕ → Answer (Read A)) (size : A → ℕ) (s : L
       items_full q r z = let y : limit - n ≡ 0 = omega arith in sym (comma q r ∙ rw y)
 
       -- what an item adds to what was counted
-      gathered_more : (x : A) (l : Answer (Read (List A)))
-          → under (gathered size n len) (and_then l (λ xs. read (x ∷ xs.value) xs.next)) ≡ under (gathered size (n + 1) (len + size x)) l
+      gathered_more : (l : Answer (Read (List ℕ)))
+          → under (gathered n len) (and_then l (λ xs. read (k ∷ xs.value) xs.next)) ≡ under (gathered (n + 1) (len + k)) l
       unfolding total
-      gathered_more x (shown w) =
+      gathered_more (shown w) =
           let a : n + suc (length w.value) ≡ n + 1 + length w.value = omega arith in
-          let c : len + (size x + total size w.value) ≡ len + size x + total size w.value = omega arith in
+          let c : len + (k + total (λ (j : ℕ). j) w.value) ≡ len + k + total (λ (j : ℕ). j) w.value = omega arith in
           rw (a, c)
-      gathered_more x (refused j q) = refl
+      gathered_more (refused j q) = refl
 
-      more_comma : (l : ℕ) → limit - n ≡ suc l → (b ≡ 0x5D → ⊥) → b ≡ 0x2C → whole ≡ under (gathered size (n + 1) (len + k)) (items_at item l s (space_at s (p + 1)))
-      more_comma l y q r = comma q r ∙ rw y (gathered_more item_read.0 (items_at item l s (space_at s (p + 1))) ∙ rw item_read.2)
-
-      -- what the item took, and where the next one stands
-      pub items_room : Bound item size s m → len + k + at ≤ length s + m * (n + 1)
-      items_room bound =
-          let u = bound i item_read.0 next.at item_read.1 in
-          let z : m * (n + 1) ≡ m * n + m = omega arith in
-          omega (arith, u, item_read.2, v.small, z)
-
-      pub items_again : Bound item size s m → {j : ℕ} → (b ≡ 0x5D → ⊥) → b ≡ 0x2C → (n ≡ limit → ⊥) → j ≡ space_at s (p + 1)
-          → InItems item size s limit m at j (n + 1) (len + k)
-      items_again bound {j} q r z y =
-          let u = bound i item_read.0 next.at item_read.1 in
-          let w : m * (n + 1) ≡ m * n + m = omega arith in
-          let d : limit - n ≡ suc (limit - (n + 1)) = omega (arith, z, v.few) in
-          record {
-            same = rw y (more_comma (limit - (n + 1)) d q r);
-            few = omega (arith, z, v.few);
-            onward = omega (arith, u, v.onward, g, y, space_onward s next.at, space_onward s (p + 1));
-            small = omega (arith, u, item_read.2, v.small, w, g, y, space_onward s next.at, space_onward s (p + 1));
-          }
+      -- a comma: the next item stands behind it
+      pub items_again : {j : ℕ} → (b ≡ 0x5D → ⊥) → b ≡ 0x2C → n < limit → j ≡ space_at s (p + 1) → Going tell s limit at j (n + 1) (len + k)
+      items_again {j} q r z y =
+          let d : limit - n ≡ suc (limit - (n + 1)) = omega arith in
+          record { same = comma q r ∙ rw (d, ← y) (gathered_more (items_at tell (limit - (n + 1)) s j)) }

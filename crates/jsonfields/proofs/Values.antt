@@ -27,19 +27,13 @@ use Rattle.decimal.proofs.Reading.{consumes_number, consumes_over, consumes_none
 use Rattle.event.specs.Event.{Text, Tag}
 use Rattle.notepack.specs.Strict.{pack_element, pack_elements, pack_tag, pack_tags}
 use Rattle.notepack.proofs.Lengths.{tag_form}
-use Rattle.event.specs.declared.Refusal.{Refusal}
-use Rattle.event.specs.inner.Told.{told}
 use Rattle.jsontext.specs.Token.{space_at, skip_number, past, Done}
 use Rattle.jsontext.specs.Grammar as json
 use Rattle.jsontext.proofs.TokenLaws.{number_consumes, space_onward}
 use Rattle.jsontext.proofs.FirstByte.{begins_value, some_bytes}
 use Rattle.jsonevent.specs.Field.{text_at, is_hex_of, digits_only, whole_of, whole_at, items_at, inside_at, array_at, one_or_more, tag_at, under}
 use Rattle.jsonfields.specs.declared.Sized.{Sized}
-use Rattle.jsonfields.specs.declared.Cursor as own
-use Rattle.jsonfields.specs.declared.SizedRead.{SizedRead}
-use Rattle.jsonfields.specs.declared.SizedRead.TheVariants as sized-by
 use Rattle.jsonfields.specs.inner.Size.{element_size, tag_size, total, sized}
-use Rattle.jsonfields.specs.inner.Answers.{sized_read}
 use Rattle.jsonfields.proofs.Strings.{text_bound}
 use Rattle.jsonfields.proofs.Items.{Took, items_took, Bound, took_bound, never_shown, under_read, under_refused, inside_by}
 
@@ -191,18 +185,17 @@ pub tag_not : (s : List ℕ) (at : ℕ) {b : ℕ} → b ≡ get_or s at 0 → (b
 unfolding tag_at array_at
 tag_not s at e f = rw (ne_eqb (get_or s at 0) 0x5B (λ z. f (e ∙ z)))
 
-module _ (s : List ℕ) (at : ℕ) {b first : ℕ} (e : b ≡ get_or s at 0) (f : b ≡ 0x5B) (g : first ≡ space_at s (at + 1))
-    (found : SizedRead) (h : sized_read found ≡ under (sized element_size) (inside_at (text_at s) 254 s first)) where
+module _ (s : List ℕ) (at : ℕ) {b first : ℕ} (e : b ≡ get_or s at 0) (f : b ≡ 0x5B) (g : first ≡ space_at s (at + 1)) where
   tag_open : tag_at s at ≡ and_then (inside_at (text_at s) 254 s first) (one_or_more at)
   unfolding tag_at array_at
   tag_open = rw (eq-eqb (get_or s at 0) 0x5B (sym e ∙ f)) (ap (λ (i : ℕ). and_then (inside_at (text_at s) 254 s i) (one_or_more at)) (sym g))
 
-  pub tag_refused : {why : Refusal} → found ≡ sized-by.Refused why → told why ≡ under tag_size (tag_at s at)
-  tag_refused k = let r = under_refused (sized element_size) (inside_at (text_at s) 254 s first) (sym (ap sized_read k) ∙ h) in rw (tag_open, r)
+  pub tag_refused : {n q : ℕ} → refused n q ≡ under (sized element_size) (inside_at (text_at s) 254 s first) → refused n q ≡ under tag_size (tag_at s at)
+  tag_refused h = let r = under_refused (sized element_size) (inside_at (text_at s) 254 s first) h in rw (tag_open, r)
 
-  module _ {t : Sized} {next : own.Cursor} (k : found ≡ sized-by.Done t next) where
-    texts_read : (l : Tag) × (inside_at (text_at s) 254 s first ≡ read l next.at) × (sized element_size l ≡ t)
-    texts_read = under_read (sized element_size) (inside_at (text_at s) 254 s first) (sym (ap sized_read k) ∙ h)
+  module _ {t : Sized} {next : ℕ} (h : read t next ≡ under (sized element_size) (inside_at (text_at s) 254 s first)) where
+    texts_read : (l : Tag) × (inside_at (text_at s) 254 s first ≡ read l next) × (sized element_size l ≡ t)
+    texts_read = under_read (sized element_size) (inside_at (text_at s) 254 s first) h
 
     pub tag_room : length s < 2 ^ 63 → t.len ≤ length s + 2_550
     tag_room small =
@@ -216,14 +209,14 @@ module _ (s : List ℕ) (at : ℕ) {b first : ℕ} (e : b ≡ get_or s at 0) (f 
         let l = texts_read.0 in
         rw (tag_open, texts_read.1, eq-eqb (length l) 0 (ap (λ (x : Sized). x.count) texts_read.2 ∙ z))
 
-    pub tag_taken : (t.count ≡ 0 → ⊥) → {m : ℕ} → m ≡ length (uleb t.count) → read (m + t.len) next.at ≡ under tag_size (tag_at s at)
+    pub tag_taken : (t.count ≡ 0 → ⊥) → {m : ℕ} → m ≡ length (uleb t.count) → read (m + t.len) next ≡ under tag_size (tag_at s at)
     unfolding one_or_more
     tag_taken z {m} i =
         let l = texts_read.0 in
         let n : length l ≡ t.count = ap (λ (x : Sized). x.count) texts_read.2 in
         let j : total element_size l ≡ t.len = ap (λ (x : Sized). x.len) texts_read.2 in
         let q : m + t.len ≡ tag_size l = rw (tag_size_lem l, n, j) (ap (λ (x : ℕ). x + t.len) i) in
-        rw (tag_open, texts_read.1, ne_eqb (length l) 0 (λ y. z (sym n ∙ y))) (ap (λ (x : ℕ). read x next.at) q)
+        rw (tag_open, texts_read.1, ne_eqb (length l) 0 (λ y. z (sym n ∙ y))) (ap (λ (x : ℕ). read x next) q)
 
 -- ---- tags, behind their opening bracket
 

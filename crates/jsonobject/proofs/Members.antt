@@ -8,14 +8,14 @@ use mathlib.Core.List.{List}
 use native.Mathlib.Omega.{arith}
 use lib.ListN.{length, get_or}
 use lib.Dec.{eqb}
-use borrow.Author.Tests.{eq-eqb, ne_eqb, eqb-true}
+use borrow.Author.Tests.{eq-eqb, ne_eqb}
+use Rattle.std.specs.Prelude.{Option, Some, None}
+use Rattle.std.specs.Option.{is_some}
 use Rattle.scan.specs.Choice.{pick, Answer, refused, Read, read, and_then}
 use Rattle.scan.proofs.SpanLaws.{span_length}
-use Rattle.scan.proofs.Reading.{Reads, reads, read_same}
+use Rattle.scan.proofs.Reading.{Reads, reads}
 use Rattle.scan.proofs.Many.{then_shown}
 use Rattle.scan.proofs.Fits.{byte_positive}
-use Rattle.event.specs.declared.Refusal.{Refusal}
-use Rattle.event.specs.inner.Told.{told}
 use Rattle.jsontext.specs.Token.{space_at}
 use Rattle.jsontext.proofs.TokenLaws.{space_onward, space_inside}
 use Rattle.jsonevent.specs.Field.{under, text_at, field_of}
@@ -26,12 +26,10 @@ use Rattle.jsonfields.proofs.Strings.{string_ends, text_string}
 use Rattle.jsonfields.proofs.Items.{never_shown, under_read}
 use Rattle.jsonfields.proofs.Names.{number_most}
 use Rattle.jsonfields.proofs.Says.{says_as, field_said, takes}
-use Rattle.jsonobject.specs.declared.Cursor.{Cursor}
 use Rattle.jsonobject.specs.declared.Fields.{Fields}
-use Rattle.jsonobject.specs.declared.FieldsRead.{FieldsRead}
-use Rattle.jsonobject.specs.declared.FieldsRead.TheVariants as fields-by
-use Rattle.jsonobject.specs.inner.Spotted.{spots_of, none_found, spot_of, with_spot, all_found, measured, Object, colon_spots_at, member_spots_at, close_spots_at, after_spots, members_spots_at}
-use Rattle.jsonobject.specs.inner.Answers.{fields_read}
+use Rattle.jsonobject.specs.declared.Found.{Found}
+use Rattle.jsonobject.specs.declared.Object.{Object}
+use Rattle.jsonobject.specs.inner.Spotted.{known_of, none_found, spot_of, with_spot, all_found, measured, colon_spots_at, member_spots_at, close_spots_at, after_spots, members_spots_at}
 use Rattle.jsonobject.proofs.Known.{weight, none_weight, weight_with, measured_most}
 
 -- ---- a member goes on, and takes little more than it does here
@@ -42,96 +40,100 @@ read_onward s a (reads g r) = omega (arith, span_length r)
 spot_onward : (k : ℕ) → k ≤ 7 → (s : List ℕ) (a : ℕ) {p : Spot} {e : ℕ} → spot_at k s a ≡ read p e → a ≤ e
 spot_onward k m s a h = let f = field_said s a k m ∙ ap (under (says_as k s)) h in read_onward s a (rw f at (field_says k s a))
 
-abbrev Grown : Fields → Fields → ℕ → ℕ → Type 0
-Grown f g a e = (a ≤ e) × (weight (spots_of g) ≤ weight (spots_of f) + (e - a))
-
-colon_grown : (k : ℕ) → k ≤ 7 → (f : Fields) (s : List ℕ) → length s < 2 ^ 63 → (p : ℕ) {g : Fields} {e : ℕ} → (spot_of f k).from ≡ 0 → colon_spots_at k f s p ≡ read g e → Grown f g p e
+colon_grown : (k : ℕ) → k ≤ 7 → (s : List ℕ) → length s < 2 ^ 63 → (p : ℕ) {x : Spot} {e : ℕ} → colon_spots_at k s p ≡ read x e
+    → (p ≤ e) × (x.len ≤ e - p + 2_560_010)
 unfolding colon_spots_at
-colon_grown k m f s small p {g} {e} z h = go (eqb (get_or s p 0) 0x3A) h
+colon_grown k m s small p {x} {e} h = go (eqb (get_or s p 0) 0x3A) h
   where
-    go : (b : Bool) → pick b (and_then (spot_at k s (space_at s (p + 1))) (λ v. read (with_spot f k v.value) v.next)) (refused 14 p) ≡ read g e → Grown f g p e
+    go : (b : Bool) → pick b (spot_at k s (space_at s (p + 1))) (refused 14 p) ≡ read x e → (p ≤ e) × (x.len ≤ e - p + 2_560_010)
     go true i =
         let a = space_at s (p + 1) in
-        let u = then_shown (spot_at k s a) _ _ i in
-        let y = read_same u.2 in
-        let t = takes s a small k m u.1 in
-        let o = spot_onward k m s a u.1 in
+        let t = takes s a small k m i in
+        let o = spot_onward k m s a i in
         let w = space_onward s (p + 1) in
-        let n = weight_with f k m u.0.value (u.0.next - a) z t.there t.most in
-        (omega (arith, o, w, y.1), rw (← y.0) (omega (arith, n, o, w, y.1)))
+        (omega (arith, o, w), omega (arith, t.most, o, w))
     go false i = never_shown i
 
-member_grown : (f : Fields) (s : List ℕ) → length s < 2 ^ 63 → (a : ℕ) {g : Fields} {e : ℕ} → member_spots_at f s a ≡ read g e → Grown f g a e
+none_by : {A : Type 0} (o : Option A) → is_some o ≡ false → o ≡ None
+none_by None e = refl
+none_by (Some x) e = cc
+
+abbrev Grown : Found → Found → ℕ → ℕ → Type 0
+Grown f g a e = (a ≤ e) × (weight (known_of g) ≤ weight (known_of f) + (e - a))
+
+member_grown : (f : Found) (s : List ℕ) → length s < 2 ^ 63 → (a : ℕ) {g : Found} {e : ℕ} → member_spots_at f s a ≡ read g e → Grown f g a e
 unfolding member_spots_at
 member_grown f s small a {g} {e} h =
     let u = then_shown (under field_of (text_at s a)) _ _ h in
     let n = under_read field_of (text_at s a) (sym u.1) in
     let t = text_string s a n.1 in
     let w : u.0.value ≤ 7 = omega (arith, n.2, number_most n.0) in
-    go u.0.value w u.0.next (omega (arith, string_ends s a t.1)) (eqb (spot_of f u.0.value).from 0) refl u.2
+    go u.0.value w u.0.next (omega (arith, string_ends s a t.1)) (is_some (spot_of f u.0.value)) refl u.2
   where
-    go : (k : ℕ) → k ≤ 7 → (i : ℕ) → a ≤ i → (b : Bool) → eqb (spot_of f k).from 0 ≡ b → pick b (colon_spots_at k f s (space_at s i)) (refused 16 a) ≡ read g e → Grown f g a e
-    go k w i m true z j =
-        let c = colon_grown k w f s small (space_at s i) (eqb-true (spot_of f k).from 0 z) j in
-        (omega (arith, m, c, space_onward s i), omega (arith, m, c, space_onward s i))
-    go k w i m false z j = never_shown j
+    go : (k : ℕ) → k ≤ 7 → (i : ℕ) → a ≤ i → (b : Bool) → is_some (spot_of f k) ≡ b
+        → pick b (refused 16 a) (under (with_spot f k) (colon_spots_at k s (space_at s i))) ≡ read g e → Grown f g a e
+    go k w i m true z j = never_shown j
+    go k w i m false z j =
+        let p = space_at s i in
+        let y = under_read (with_spot f k) (colon_spots_at k s p) (sym j) in
+        let c = colon_grown k w s small p y.1 in
+        let n = weight_with f k w y.0 (e - p) (none_by (spot_of f k) z) c.1 in
+        let o = space_onward s i in
+        (omega (arith, m, c, o), rw (← y.2) (omega (arith, n, m, c, o)))
 
 -- ---- the loop over the members
 
-pub record InMembers (s : List ℕ) (at : ℕ) (f : Fields) (i : ℕ) : Type 0 where
+pub record InMembers (s : List ℕ) (at : ℕ) (f : Found) (i : ℕ) : Type 0 where
   pub fuel : ℕ
   pub enough : length s < fuel + i
   pub inside : i ≤ length s
   pub same : members_spots_at (length s) none_found s at ≡ members_spots_at fuel f s i
-  pub small : weight (spots_of f) ≤ i + 7 * 2_560_010
+  pub small : weight (known_of f) ≤ i + 7 * 2_560_010
 
-pub members_start : (s : List ℕ) (at : ℕ) {f : Fields} → 0 < at → at ≤ length s → f ≡ none_found → InMembers s at f at
-members_start s at h l e = record {
+pub members_start : (s : List ℕ) (at : ℕ) → 0 < at → at ≤ length s → InMembers s at none_found at
+members_start s at h l = record {
   fuel = length s;
   enough = omega arith;
   inside = l;
-  same = ap (λ (g : Fields). members_spots_at (length s) g s at) (sym e);
-  small = rw (e, none_weight) (omega arith);
+  same = refl;
+  small = rw none_weight (omega arith);
 }
 
-module _ (s : List ℕ) (at : ℕ) {f : Fields} {i : ℕ} (v : InMembers s at f i) (r : FieldsRead) (e : fields_read r ≡ member_spots_at f s i) where
+module _ (s : List ℕ) (at : ℕ) {f : Found} {i : ℕ} (v : InMembers s at f i) where
   abbrev whole : Answer (Read Object)
   whole = members_spots_at (length s) none_found s at
 
-  turn : whole ≡ and_then (fields_read r) (λ m. after_spots (members_spots_at (v.fuel - 1) m.value s) m.value s (space_at s m.next))
+  turn : {r : Answer (Read Found)} → r ≡ member_spots_at f s i → whole ≡ and_then r (λ m. after_spots (members_spots_at (v.fuel - 1) m.value s) m.value s (space_at s m.next))
   unfolding members_spots_at
-  turn = v.same ∙ go v.fuel v.enough v.inside
+  turn {r} e = v.same ∙ go v.fuel v.enough v.inside
     where
       go : (k : ℕ) → length s < k + i → i ≤ length s
-          → members_spots_at k f s i ≡ and_then (fields_read r) (λ m. after_spots (members_spots_at (k - 1) m.value s) m.value s (space_at s m.next))
+          → members_spots_at k f s i ≡ and_then r (λ m. after_spots (members_spots_at (k - 1) m.value s) m.value s (space_at s m.next))
       go zero h n = absurd (omega arith)
       go (suc k) h n = let one : suc k - 1 ≡ k = omega arith in rw (e, one)
 
   -- a member is refused
-  pub members_refused : {why : Refusal} → r ≡ fields-by.Refused why → told why ≡ whole
-  members_refused z = sym (turn ∙ rw z)
+  pub members_refused : {n q : ℕ} → refused n q ≡ member_spots_at f s i → refused n q ≡ whole
+  members_refused e = sym (turn e)
 
-  module _ {g : Fields} {next : Cursor} (z : r ≡ fields-by.Found g next) {p b : ℕ} (q : p ≡ space_at s next.at) (h : b ≡ get_or s p 0) where
+  module _ {g : Found} {next : ℕ} (e : read g next ≡ member_spots_at f s i) {p b : ℕ} (q : p ≡ space_at s next) (h : b ≡ get_or s p 0) where
     passed : whole ≡ after_spots (members_spots_at (v.fuel - 1) g s) g s p
-    passed = turn ∙ rw z (ap (after_spots (members_spots_at (v.fuel - 1) g s) g s) (sym q))
+    passed = turn e ∙ ap (after_spots (members_spots_at (v.fuel - 1) g s) g s) (sym q)
 
-    member_read : member_spots_at f s i ≡ read g next.at
-    member_read = sym e ∙ ap fields_read z
-
-    grown : length s < 2 ^ 63 → Grown f g i next.at
-    grown m = member_grown f s m i member_read
+    grown : length s < 2 ^ 63 → Grown f g i next
+    grown m = member_grown f s m i (sym e)
 
     -- the closing brace
-    pub members_closed : b ≡ 0x7D → all_found g ≡ true → {n : ℕ} → n ≡ measured g → read (record { fields = g; len = n }) (p + 1) ≡ whole
+    pub members_closed : b ≡ 0x7D → {x : Fields} → all_found g ≡ Some x → {n : ℕ} → n ≡ measured x → read (record { fields = x; len = n }) (p + 1) ≡ whole
     unfolding after_spots close_spots_at
     members_closed y t u = sym (passed ∙ rw (eq-eqb (get_or s p 0) 0x7D (sym h ∙ y), t, u))
 
-    pub members_sum : length s < 2 ^ 63 → b ≡ 0x7D → measured g ≤ length s + 7 * 2_560_010
-    members_sum m y =
+    pub members_sum : length s < 2 ^ 63 → b ≡ 0x7D → {x : Fields} → all_found g ≡ Some x → measured x ≤ length s + 7 * 2_560_010
+    members_sum m y t =
         let c = byte_positive s p b 0x7D h y (omega arith) in
-        omega (arith, measured_most g, grown m, v.small, space_onward s next.at, q, c)
+        omega (arith, measured_most g t, grown m, v.small, space_onward s next, q, c)
 
-    pub members_missing : b ≡ 0x7D → all_found g ≡ false → refused 15 p ≡ whole
+    pub members_missing : b ≡ 0x7D → all_found g ≡ None → refused 15 p ≡ whole
     unfolding after_spots close_spots_at
     members_missing y t = sym (passed ∙ rw (eq-eqb (get_or s p 0) 0x7D (sym h ∙ y), t))
 
@@ -141,10 +143,10 @@ module _ (s : List ℕ) (at : ℕ) {f : Fields} {i : ℕ} (v : InMembers s at f 
     members_other y t = sym (passed ∙ rw (ne_eqb (get_or s p 0) 0x7D (λ u. y (h ∙ u)), ne_eqb (get_or s p 0) 0x2C (λ u. t (h ∙ u))))
 
     -- a comma: the next member stands further on
-    further : length s < 2 ^ 63 → {j : ℕ} → b ≡ 0x2C → j ≡ space_at s (p + 1) → (i < j) × (next.at ≤ j) × (j ≤ length s)
+    further : length s < 2 ^ 63 → {j : ℕ} → b ≡ 0x2C → j ≡ space_at s (p + 1) → (i < j) × (next ≤ j) × (j ≤ length s)
     further m {j} y t =
         let c = byte_positive s p b 0x2C h y (omega arith) in
-        let o = space_onward s next.at in
+        let o = space_onward s next in
         let w = space_onward s (p + 1) in
         (omega (arith, t, grown m, q, o, w), omega (arith, t, q, o, w), omega (arith, t, space_inside s (p + 1) (omega arith)))
 
@@ -162,6 +164,9 @@ module _ (s : List ℕ) (at : ℕ) {f : Fields} {i : ℕ} (v : InMembers s at f 
 
     pub members_less : length s < 2 ^ 63 → {j : ℕ} → b ≡ 0x2C → j ≡ space_at s (p + 1) → length s - j < length s - i
     members_less m t u = omega (arith, v.inside, further m t u)
+
+-- what the loop needs
+pub ruleset member_steps = (members_start, members_refused, members_closed, members_sum, members_missing, members_other, members_again, members_less)
 
 -- ---- the object
 

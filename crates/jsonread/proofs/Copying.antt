@@ -3,7 +3,7 @@
 -- Along the items as they were taken apart; the byte behind each is there, so that the second pass comes to the same
 -- places.
 use Prim.Native.Nat.{ℕ, zero, suc, ◌+◌, ◌-◌, ◌≤◌, ◌<◌}
-use mathlib.Core.Path.{◌≡◌, refl, sym, ap, ◌∙◌, subst}
+use mathlib.Core.Path.{◌≡◌, refl, sym, ap, ◌∙◌}
 use mathlib.Core.List.{List, [], ◌∷◌, ◌++◌, append_assoc}
 use native.Mathlib.Omega.{arith}
 use native.Mathlib.Numerals.{sub-one}
@@ -11,7 +11,6 @@ use lib.ListN.{length, get_or}
 use lib.Dec.{eqb}
 use borrow.Author.Tests.{eq-eqb, ne_eqb, lt-ltb}
 use Rattle.scan.specs.Choice.{pick, Answer, shown, refused, Read, read}
-use Rattle.buffer.specs.inner.Store.{Wrote}
 use Rattle.varint.specs.Uleb.{uleb}
 use Rattle.event.specs.Event.{Tag}
 use Rattle.notepack.specs.Strict.{pack_element, pack_elements, pack_tags}
@@ -21,7 +20,11 @@ use Rattle.jsontext.specs.Token.{space_at}
 use Rattle.jsontext.specs.Text.{string_at}
 use Rattle.scan.proofs.Fits.{byte_positive}
 use Rattle.jsonevent.specs.Field.{text_of, text_at, tag_at}
-use Rattle.jsonread.specs.inner.Copy.{behind_at, next_at, text_end, count_texts, texts_text, json_texts_end, json_tag_text, json_tags_text}
+use Rattle.jsonstring.specs.declared.Text.{Text}
+use Rattle.jsonstring.specs.declared.Text.TheVariants as text
+use Rattle.jsonstring.specs.inner.Plain.{PlainText}
+use Rattle.jsonstring.specs.inner.Answers.{spelled_of as text_spelled}
+use Rattle.jsonread.specs.inner.Copy.{said, behind_at, next_at, text_end, count_texts, texts_text, json_texts_end, json_tag_text, json_tags_text}
 use Rattle.jsonfields.proofs.Strings.{string_ends, text_string}
 use Rattle.jsonfields.proofs.Values.{tag_took}
 use Rattle.jsonfields.proofs.Items.{Took, last, more}
@@ -173,6 +176,7 @@ module _ (s : List ℕ) where
   tags_written (more {i = i} {e = e} {l = l} f b r) =
       one_tag i (length l) l f (rw (behind_there (space_at s e) 0x2C b (omega arith)) (tags_written r))
 
--- a plain string, which is its own text, as a strict element
-pub same_wrote : {d d' : List ℕ} {o r : ℕ} {l t u : List ℕ} → Wrote d o (pack_element l) d' r → l ≡ t → u ≡ t → Wrote d o (pack_element u) d' r
-same_wrote {d} {d'} {o} {r} w f g = subst (λ (x : List ℕ). Wrote d o (pack_element x) d' r) (f ∙ sym g) w
+-- a string that was read says its text: a plain one is its own
+pub said_text : (s : List ℕ) (at : ℕ) (x : Text) → PlainText s at x → said s x ≡ text_of s (text_spelled x)
+said_text s at (text.Plain p) w = sym w.1
+said_text s at (text.Other p) w = refl

@@ -23,8 +23,9 @@ use Rattle.jsonfields.proofs.Strings.{string_same}
 use Rattle.jsonfields.proofs.Items.{under_read, inside_by}
 use Rattle.jsonfields.proofs.Says.{tags_read_at, tags_read, tags_kept}
 use Rattle.jsonobject.specs.declared.Fields.{Fields}
-use Rattle.jsonobject.specs.inner.Spotted.{spots_of, Object, object_spots_at}
-use Rattle.jsonobject.proofs.Known.{event_by, Each, none, also}
+use Rattle.jsonobject.specs.declared.Object.{Object}
+use Rattle.jsonobject.specs.inner.Spotted.{object_spots_at}
+use Rattle.jsonobject.proofs.Known.{spots_of, event_by, Each, none, also}
 use Rattle.jsonobject.proofs.Tells.{event_in, object_each}
 use Rattle.jsonread.specs.inner.Copy.{spot_content, json_tags_text, fields_text}
 use Rattle.jsonread.proofs.Copying.{tags_left_lem, tags_written}

@@ -1,18 +1,17 @@
 -- Blocks in which no byte clashes with the one before it are bare bytes and escapes: `quoting_block`.
 -- `Quoting s a i`: up to i they are whole, or up to the backslash before i. One byte more keeps it.
 use Prim.Native.Nat.{ℕ, zero, suc, ◌+◌, ◌-◌, ◌<◌, ◌≤◌}
-use mathlib.Core.Path.{◌≡◌, refl}
+use mathlib.Core.Path.{◌≡◌, refl, ap, ◌∙◌}
 use mathlib.Core.List.{List}
 use mathlib.Core.Logic.{dite, ◌⊎◌, inl, inr}
 use native.Mathlib.Nat.{add-zero}
 use native.Mathlib.Omega.{arith}
-use native.Mathlib.Decide.{dec_lt, ℕ_discrete}
-use lib.ListN.{length, get_or, take, drop}
-use lib.Dec.{eqb}
+use native.Mathlib.Decide.{ℕ_discrete}
+use lib.ListN.{length, get_or, take, drop, length-drop}
 use borrow.Author.Tests.{eq-eqb, ne_eqb}
-use Rattle.scan.specs.Choice.{pick}
 use Rattle.scan.specs.inner.Blocks.{is_one, control_count}
-use Rattle.scan.proofs.BlockLaws.{one_not, one_of_two, not_one, control_is, control_not, not_control, lent_sum, pairs_none}
+use Rattle.scan.proofs.Step.{rest_whole}
+use Rattle.scan.proofs.BlockLaws.{one_not, not_one, not_control, lent_sum, pairs_none}
 use Rattle.jsontext.specs.inner.Escape.{unescaped_letter, letter_escape, escape_at}
 use Rattle.jsonstring.specs.inner.Loose.{LooseTo, nothing, clash_of}
 use Rattle.jsonstring.proofs.LooseLaws.{then_bare, then_escape}
@@ -27,21 +26,6 @@ clash_plain p b n = rw (ne_eqb p 0x5C n)
 clash_slash : (p b : ℕ) → p ≡ 0x5C → clash_of p b ≡ 1 - is_one b 0x6E - is_one b 0x22
 unfolding clash_of
 clash_slash p b e = rw (eq-eqb p 0x5C e)
-
--- a quote is no control byte
-quote_or_control : (b : ℕ) → is_one b 0x22 + control_count b ≤ 1
-quote_or_control b =
-    dite (dec_lt b 0x20) (λ h. omega (arith, control_is b h, one_not b 0x22 (λ e. omega arith)))
-    (λ n. omega (arith, control_not b (omega (arith, n)), one_of_two b 0x22 0x6E (λ e. omega arith)))
-
-clash_most : (p b : ℕ) → clash_of p b ≤ 1
-clash_most p b = dite (ℕ_discrete p 0x5C) (λ e. omega (arith, clash_slash p b e)) (λ n. omega (arith, clash_plain p b n, quote_or_control b))
-
--- both ways reckoned, and one chosen
-pub clash_chosen : (p b : ℕ) {n y q w r : ℕ} → n ≡ is_one b 0x6E → y ≡ is_one b 0x22 → q ≡ is_one b 0x22 → w ≡ control_count b → r ≡ pick (eqb p 0x5C) (1 - n - y) (q + w)
-    → (r ≡ clash_of p b) × (r ≤ 1)
-unfolding clash_of
-clash_chosen p b n y q w r = let e = rw (n, y, q, w) at r in (e, omega (arith, e, clash_most p b))
 
 -- behind any byte but a backslash
 pub clash_bare : (p b : ℕ) → (p ≡ 0x5C → ⊥) → clash_of p b ≡ 0 → (b ≡ 0x22 → ⊥) × (0x20 ≤ b)
@@ -90,7 +74,7 @@ quoting_more s a j p h z =
     record { whole = λ m. then_bare q h w.0 w.1 (rw l at m); cut = λ y. rw l q })
 
 -- a block more
-pub quoting_block : {s : List ℕ} {a i : ℕ} (e n : ℕ) → Quoting s a i → 1 ≤ i → i ≤ e → e ≤ length s
+quoting_block : {s : List ℕ} {a i : ℕ} (e n : ℕ) → Quoting s a i → 1 ≤ i → i ≤ e → e ≤ length s
     → n ≡ lent_sum clash_of (take (e - (i - 1)) (drop (i - 1) s)) → n ≡ 0 → Quoting s a e
 quoting_block {s} {a} {i} e n p o l h q z = let k : i + (e - i) ≡ e = omega arith in rw k at (go (e - i) (omega arith))
   where
@@ -100,3 +84,14 @@ quoting_block {s} {a} {i} e n p o l h q z = let k : i + (e - i) ≡ e = omega ar
         let f : i + m ≡ i + m - 1 + 1 = omega arith in
         let g : i + m - 1 + 1 + 1 ≡ i + suc m = omega arith in
         rw g at (quoting_more s a (i + m - 1) (rw f at (go m (omega arith))) (omega arith) (pairs_none clash_of s i e o h q z (i + m - 1) (omega arith) (omega arith)))
+
+-- the block at hand: the 32 bytes from i on, lent with the byte before them
+pub quoting_next : {s : List ℕ} {a i : ℕ} (x : List ℕ) (n : ℕ) → Quoting s a i → 1 ≤ i → i ≤ length s → 33 ≤ length (take (length s - (i - 1)) (drop (i - 1) s))
+    → x ≡ take 33 (take (length s - (i - 1)) (drop (i - 1) s)) → n ≡ lent_sum clash_of x → n ≡ 0 → (i + 32 ≤ length s) × Quoting s a (i + 32)
+quoting_next {s} {a} {i} x n p o l h e q z =
+    let w = rest_whole s (i - 1) in
+    let m : 33 ≤ length (drop (i - 1) s) = rw w at h in
+    let k : i + 32 ≤ length s = omega (arith, m, length-drop (i - 1) s) in
+    let f : i + 32 - (i - 1) ≡ 33 = omega arith in
+    let y : x ≡ take (i + 32 - (i - 1)) (drop (i - 1) s) = rw f (rw w at e) in
+    (k, quoting_block (i + 32) n p o (omega arith) k (q ∙ ap (lent_sum clash_of) y) z)

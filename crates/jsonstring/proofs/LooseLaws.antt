@@ -1,13 +1,18 @@
 -- Bare bytes and escapes that are UTF-8 are passed in a string: `loose_text`, THE law of the fast way.
 -- Character after character: an escape is whole characters of ASCII, and a character of several bytes is bare bytes
 -- above ASCII.
-use Prim.Native.Nat.{ℕ, zero, suc, ◌+◌, ◌-◌, ◌<◌, ◌≤◌}
+use Prim.Native.Nat.{ℕ, zero, suc, ◌+◌, ◌-◌, ◌<◌, ◌≤◌, ◌^◌}
 use mathlib.Core.Path.{◌≡◌, refl, sym, ap, ◌∙◌}
 use mathlib.Core.Bool.{Bool, true}
 use mathlib.Core.List.{List, [], ◌∷◌, ◌++◌}
+use mathlib.Core.Logic.{dite}
 use native.Mathlib.Omega.{arith}
+use native.Mathlib.Decide.{ℕ_discrete}
 use lib.ListN.{length, get_or, take, drop, length-append}
 use lib.Seq.{take_at}
+use borrow.Author.Tests.{ne_eqb}
+use mir.Syntax.{w64}
+use mir.Val.{Fits}
 use Rattle.scan.specs.Choice.{read}
 use Rattle.scan.specs.Bytes.{All, none, also}
 use Rattle.scan.specs.inner.Span.{here, step, Span}
@@ -18,12 +23,12 @@ use Rattle.utf8.proofs.WidthLaws.{width_accepts}
 use Rattle.utf8.proofs.Laws.{is_utf8_lem, utf8_rest, utf8_char, utf8_append, utf8_ascii}
 use Rattle.jsontext.specs.declared.Escape.{Escape}
 use Rattle.jsontext.specs.Grammar as json
-use Rattle.jsontext.specs.inner.Escape.{escape_at}
+use Rattle.jsontext.specs.inner.Escape.{unescaped_letter, letter_escape, escape_at}
 use Rattle.jsontext.specs.Text.{string_at}
 use Rattle.jsonstring.specs.inner.Loose.{LooseTo, nothing, bare, escape}
 use Rattle.scan.proofs.Fits.{byte_place}
 use Rattle.jsonstring.proofs.Turn.{InText, text_start, text_quote, text_ascii, text_char, text_escape}
-use Rattle.jsontext.proofs.EscapeLaws.{EscapeAt, escape_is, no_escape_lem, escape_at_lem, letter_small}
+use Rattle.jsontext.proofs.EscapeLaws.{EscapeAt, escape_is, no_escape_lem, escape_at_lem, letter_small, width_fits}
 use Rattle.jsontext.proofs.TextLaws.{high_bytes, first_of, Kind, narrow, wide, kind}
 use Rattle.jsontext.proofs.Meaning.{unescaped_char}
 
@@ -43,6 +48,20 @@ pub then_escape : {s : List ℕ} {a i : ℕ} {x : Escape} → LooseTo s a i → 
 then_escape {s} {a} {i} {x} p h f e z =
     let w : x.width ≡ (escape_at s i).width = ap (λ (y : Escape). y.width) e in
     rw w (then p (escape h f (λ k. z (w ∙ k)) nothing))
+
+-- the escape of a letter more
+module _ (s : List ℕ) (i b c : ℕ) (f : c ≡ get_or s (i + 1) 0) (g : b ≡ unescaped_letter c) (n : 0 < b) where
+  letter_width : (escape_at s i).width ≡ 2
+  unfolding escape_at letter_escape unescaped_letter
+  letter_width =
+      dite (ℕ_discrete c 0x75) (λ e. absurd (omega (arith, n, rw e at g)))
+      (λ m. rw (← f, ne_eqb c 0x75 m, ← g, ne_eqb b 0 (λ z. omega (arith, n, z))) refl)
+
+  pub letter_fits : i < length s → length s < 2 ^ 64 → get_or s i 0 ≡ 0x5C → Fits w64 (i + 2)
+  letter_fits h l q = rw letter_width at (width_fits s i l h q refl)
+
+  pub then_letter : {a : ℕ} → LooseTo s a i → i < length s → get_or s i 0 ≡ 0x5C → LooseTo s a (i + 2)
+  then_letter p h q = rw letter_width at (then_escape p h q refl (λ z. omega (arith, letter_width, z)))
 
 -- ---- the bytes of a stretch
 

@@ -2,8 +2,8 @@
 -- What holds of each byte goes on byte by byte; the plain bytes end at the first special one.
 use Prim.Native.Nat.{ℕ, zero, suc, ◌+◌, ◌-◌, ◌<◌, ◌≤◌, min}
 use mathlib.Core.Path.{◌≡◌, refl, sym, ap, ◌∙◌}
-use mathlib.Core.Bool.{Bool, true, false}
-use mathlib.Core.List.{List}
+use mathlib.Core.Bool.{Bool, true, false, not, cond}
+use mathlib.Core.List.{List, [], ◌∷◌, ◌++◌}
 use mathlib.Core.Logic.{dite}
 use native.Mathlib.Nat.{add-zero}
 use native.Mathlib.Omega.{arith}
@@ -11,14 +11,18 @@ use native.Mathlib.Decide.{dec_lt}
 use lib.ListN.{length, get_or, take, drop, length-take, length-drop}
 use lib.Seq.{get_or-drop, get_or-take}
 use lib.Dec.{eqb}
-use borrow.Author.Tests.{lt-ltb, le-ltb, le-leb, lt-leb, eq-eqb, ne_eqb, eqb-true}
+use borrow.Author.Tests.{lt-ltb, le-ltb, le-leb, lt-leb, ne_eqb, eqb-true}
+use Rattle.std.specs.Prelude.{Some, None}
+use Rattle.std.specs.List.{list_any, prefix_len}
+use Rattle.std.proofs.lemmas.List.Folds.{list_any_at}
 use Rattle.scan.specs.Choice.{pick, read}
 use Rattle.scan.specs.Bytes.{All, none, also}
-use Rattle.scan.specs.inner.Blocks.{sum_of, before_stop}
-use Rattle.scan.proofs.Step.{rest_none, rest_more, pick_true, false_true}
+use Rattle.scan.specs.inner.Blocks.{before_stop}
+use Rattle.scan.proofs.Step.{rest_more, rest_whole, pick_true, false_true, not_so}
+use Rattle.scan.proofs.Chunks.{chunk_inside, chunk_byte}
 use Rattle.scan.proofs.AllLaws.{all_at}
 use Rattle.scan.proofs.Fits.{byte_positive}
-use Rattle.scan.proofs.BlockLaws.{not_one, not_control, block_none, stop_within, stop_byte, stop_at_lem, stop_block}
+use Rattle.scan.proofs.BlockLaws.{stop_within, stop_byte, stop_at_lem, stop_block}
 use Rattle.hexdigits.specs.Hex.{all_digits}
 use Rattle.hexdigits.specs.inner.LowerHex.{number, letter, LowerHex}
 use Rattle.hexdigits.proofs.Texts.{pass_digits}
@@ -26,10 +30,9 @@ use Rattle.jsontext.specs.declared.Spelled.{Spelled}
 use Rattle.jsontext.specs.inner.Escape.{unescape}
 use Rattle.jsontext.specs.Text.{string_at}
 use Rattle.jsontext.proofs.Meaning.{unescape_itself}
-use Rattle.jsonstring.specs.declared.Cursor.{Cursor}
-use Rattle.jsonstring.specs.declared.TextRead.{TextRead}
-use Rattle.jsonstring.specs.declared.TextRead.TheVariants as text-by
-use Rattle.jsonstring.specs.inner.Plain.{is_special, special_of, PlainTo, plain_end, is_short_plain, PlainText, plain}
+use Rattle.jsonstring.specs.declared.Text.{Text}
+use Rattle.jsonstring.specs.declared.Text.TheVariants as text
+use Rattle.jsonstring.specs.inner.Plain.{is_special, PlainTo, plain_end, is_short_plain, PlainText}
 use Rattle.jsonstring.proofs.Turn.{InText, text_start, text_quote, text_ascii}
 
 -- ---- a byte
@@ -56,10 +59,6 @@ bare_byte b e = record {
     high : 0x80 ≤ b → is_special b ≡ true
     high h = rw (le-ltb b 0x20 (omega arith), ne_eqb b 0x22 (λ q. omega arith), ne_eqb b 0x5C (λ q. omega arith), le-leb 0x80 b h)
 
-uncounted : (b : ℕ) → special_of b ≡ 0 → is_special b ≡ false
-unfolding special_of
-uncounted b e = not_special b (not_control b (omega arith)) (not_one b 0x22 (omega arith)) (not_one b 0x5C (omega arith)) (omega arith)
-
 pub quote_special : is_special 0x22 ≡ true
 unfolding is_special
 quote_special = refl
@@ -70,16 +69,34 @@ digit_plain b (letter h l) = not_special b (omega arith) (λ z. omega arith) (λ
 
 -- ---- blocks
 
-pub plain_none : (s : List ℕ) (a : ℕ) → a ≤ length s → PlainTo s a a
-plain_none s a h = record { onward = omega arith; inside = h; plain = λ k l m. absurd (omega arith) }
+-- plain bytes of the text from i on
+pub plain_behind : (s : List ℕ) (i n : ℕ) → i ≤ length s → PlainTo (take (length s - i) (drop i s)) 0 n → PlainTo s i (i + n)
+plain_behind s i n h p = go (rw (rest_whole s i) at p)
+  where
+    go : PlainTo (drop i s) 0 n → PlainTo s i (i + n)
+    go p = record {
+      onward = omega arith;
+      inside = omega (arith, h, p.inside, length-drop i s);
+      plain =
+          λ k l m.
+          let j : i + (k - i) ≡ k = omega arith in
+          sym (ap (λ (x : ℕ). is_special (get_or s x 0)) j) ∙ sym (ap is_special (get_or-drop i s (k - i) 0)) ∙ p.plain (k - i) (omega arith) (omega arith);
+    }
 
--- a block more
-pub plain_block : {s : List ℕ} {a i : ℕ} (e n : ℕ) → PlainTo s a i → i ≤ e → e ≤ length s → n ≡ sum_of special_of (take (e - i) (drop i s)) → n ≡ 0 → PlainTo s a e
-plain_block {s} {a} {i} e n p o h q z = record {
-  onward = omega arith;
-  inside = h;
-  plain = λ k l m. dite (dec_lt k i) (λ j. p.plain k l j) (λ j. uncounted (get_or s k 0) (block_none special_of s i e h q z k (omega (arith, j)) m));
+-- a block of n bytes more, which stands in front of the rest
+pub plain_block : (s : List ℕ) (i n : ℕ) (x y : List ℕ) → drop i s ≡ x ++ y → length x ≡ n → {a : ℕ} {t : Bool} → PlainTo s a i → t ≡ list_any is_special x → t ≡ false
+    → PlainTo s a (i + n)
+plain_block s i n x y cut h {a} {t} p q z = record {
+  onward = omega (arith, p.onward);
+  inside = chunk_inside s i n x y cut h p.inside;
+  plain = λ k l m. dite (dec_lt k i) (λ j. p.plain k l j) (λ n. here k (omega (arith, n)) m);
 }
+  where
+    here : (k : ℕ) → i ≤ k → k < i + n → is_special (get_or s k 0) ≡ false
+    here k l m =
+        let j : i + (k - i) ≡ k = omega arith in
+        let e : get_or s k 0 ≡ get_or x (k - i) 0 = sym (ap (λ (n : ℕ). get_or s n 0) j) ∙ chunk_byte s i n x y cut h (k - i) (omega arith) in
+        not_so _ (λ f. false_true (sym z ∙ q ∙ list_any_at is_special x (k - i) 0 (omega arith) (sym (ap is_special e) ∙ f)))
 
 -- plain bytes are passed in a string
 pub text_plain : {s : List ℕ} {start a : ℕ} (r : ℕ) → PlainTo s a r → InText s start a → InText s start r
@@ -108,54 +125,41 @@ plain_end_to s a h =
     }
 
 -- 64 digits and a quote
-pub end_digits : (s : List ℕ) (a : ℕ) {b : ℕ} {l : List ℕ} {t : Bool} → b ≡ get_or s (a + 64) 0 → b ≡ 0x22 → l ≡ take 64 (drop a s) → t ≡ all_digits l → t ≡ true → a + 64 ≡ plain_end s a
-unfolding plain_end
-end_digits s a {b} e f g h k =
-    let n = byte_positive s (a + 64) b 0x22 e f (omega arith) in
-    let d = pass_digits (take 64 (drop a s)) (sym (ap all_digits g) ∙ sym h ∙ k) in
-    let q : is_special (get_or (drop a s) 64 0) ≡ true = ap is_special (get_or-drop a s 64 0 ∙ sym e ∙ f) ∙ quote_special in
-    let m : 64 < length (drop a s) = omega (arith, length-drop a s, n) in
-    let c : length (take 64 (drop a s)) ≡ 64 = simp (length-take, length-drop) (omega arith) in
-    let r = stop_at_lem is_special (drop a s) 64 m (λ j i. sym (ap is_special (get_or-take 64 (drop a s) j 0 i)) ∙ digit_plain _ (all_at j d (omega (arith, c)))) q in
+pub len_digits : (t : List ℕ) {b : ℕ} {l : List ℕ} {r : Bool} → b ≡ get_or t 64 0 → b ≡ 0x22 → l ≡ take 64 (drop 0 t) → r ≡ all_digits l → r ≡ true → 64 ≡ min 80 (before_stop is_special t)
+len_digits t {b} e f g h k =
+    let n = byte_positive t 64 b 0x22 e f (omega arith) in
+    let d = pass_digits (take 64 t) (sym (ap all_digits g) ∙ sym h ∙ k) in
+    let q : is_special (get_or t 64 0) ≡ true = ap is_special (sym e ∙ f) ∙ quote_special in
+    let c : length (take 64 t) ≡ 64 = simp length-take (omega arith) in
+    let r = stop_at_lem is_special t 64 n (λ j i. sym (ap is_special (get_or-take 64 t j 0 i)) ∙ digit_plain _ (all_at j d (omega (arith, c)))) q in
     omega (arith, r)
 
 -- a special byte within a block
-pub end_block : (s : List ℕ) (a e m : ℕ) → e ≡ a + 32 → e ≤ length s → m ≡ before_stop is_special (take (e - a) (drop a s)) → m < 32 → a + m ≡ plain_end s a
-unfolding plain_end
-end_block s a e m f h q l =
-    let k : e - a ≡ 32 = omega arith in
-    let g : m ≡ before_stop is_special (take 32 (drop a s)) = rw k at q in
-    let r = stop_block is_special 32 (drop a s) (omega (arith, length-drop a s)) (omega (arith, g)) in
+pub len_block : (t x : List ℕ) (m : ℕ) → x ≡ take 32 t → 32 ≤ length t → m ≡ before_stop is_special x → m < 32 → m ≡ min 80 (before_stop is_special t)
+len_block t x m e h q l =
+    let g : m ≡ before_stop is_special (take 32 t) = rw e at q in
+    let r = stop_block is_special 32 t h (omega (arith, g)) in
     omega (arith, r, g)
 
--- byte by byte: from a to i no byte is special
-pub record Passing (s : List ℕ) (a i : ℕ) : Type 0 where
-  pub onward : a ≤ i
-  pub few : i ≤ a + 80
-  pub inside : i ≤ length s
-  pub same : before_stop is_special (drop a s) ≡ i - a + before_stop is_special (drop i s)
+-- byte by byte
+pub before_counted : (l : List ℕ) → prefix_len (λ b. not (is_special b)) l ≡ before_stop is_special l
+unfolding before_stop
+before_counted [] = refl
+before_counted (b ∷ l) = by_cases (is_special b) (before_counted l)
+  where
+    by_cases : (t : Bool) {m n : ℕ} → m ≡ n → cond (not t) (1 + m) 0 ≡ pick t 0 (suc n)
+    by_cases true e = refl
+    by_cases false e = omega (arith, e)
 
-pub pass_start : (s : List ℕ) (a : ℕ) → a ≤ length s → Passing s a a
-pass_start s a h = record { onward = omega arith; few = omega arith; inside = h; same = omega arith }
-
-module _ {s : List ℕ} {a i : ℕ} (v : Passing s a i) where
-  pub pass_byte : {t : Bool} → i < a + 80 → i < length s → t ≡ is_special (get_or s i 0) → t ≡ false → Passing s a (i + 1)
-  unfolding before_stop
-  pass_byte {t} h l e f =
-      let q : before_stop is_special (drop i s) ≡ suc (before_stop is_special (drop (i + 1) s)) = rw (rest_more s i l, ← e, f) refl in
-      record { onward = omega (arith, v.onward); few = omega arith; inside = omega arith; same = omega (arith, v.onward, v.same, q) }
-
-  pub pass_special : {t : Bool} → i < a + 80 → i < length s → t ≡ is_special (get_or s i 0) → t ≡ true → i ≡ plain_end s a
-  unfolding plain_end before_stop
-  pass_special {t} h l e f =
-      let q : before_stop is_special (drop i s) ≡ 0 = rw (rest_more s i l, ← e, f) refl in
-      omega (arith, v.onward, v.same, q)
-
-  pub pass_end : (e : ℕ) → e ≡ min (a + 80) (length s) → e ≤ i → i ≡ plain_end s a
-  unfolding plain_end before_stop
-  pass_end e f h =
-      dite (dec_lt i (length s)) (λ l. omega (arith, v.onward, v.few, v.same))
-      (λ n. let q : before_stop is_special (drop i s) ≡ 0 = rw (rest_none s i (omega (arith, n))) refl in omega (arith, n, v.onward, v.few, v.inside, v.same, q))
+pub before_take : (n : ℕ) (l : List ℕ) → before_stop is_special (take n l) ≡ min n (before_stop is_special l)
+unfolding before_stop
+before_take zero l = omega arith
+before_take (suc n) [] = omega arith
+before_take (suc n) (b ∷ l) = by_cases (is_special b) _ _ (before_take n l)
+  where
+    by_cases : (t : Bool) (m k : ℕ) → m ≡ min n k → pick t 0 (suc m) ≡ min (suc n) (pick t 0 (suc k))
+    by_cases true m k e = omega arith
+    by_cases false m k e = omega arith
 
 -- ---- a short plain string
 
@@ -178,46 +182,25 @@ all_slash (also {b = b} h r) = also (bare_byte b (digit_plain b h)).no_slash (al
 pub digits_own : {t : List ℕ} → All LowerHex t → unescape t ≡ t
 digits_own d = unescape_itself (all_slash d)
 
--- what `short_quote` tells
-module _ (s : List ℕ) (at : ℕ) {b : ℕ} (e : b ≡ get_or s at 0) where
-  pub short_found : {n c : ℕ} → b ≡ 0x22 → n ≡ plain_end s (at + 1) → c ≡ get_or s n 0 → c ≡ 0x22 → n ≡ pick (is_short_plain s at) (plain_end s (at + 1)) 0
-  unfolding is_short_plain
-  short_found {n} {c} f g h k = g ∙ sym (rw (← e, eq-eqb b 0x22 f, ← g, ← h, eq-eqb c 0x22 k))
-
-  pub short_open : {n c : ℕ} → b ≡ 0x22 → n ≡ plain_end s (at + 1) → c ≡ get_or s n 0 → (c ≡ 0x22 → ⊥) → 0 ≡ pick (is_short_plain s at) (plain_end s (at + 1)) 0
-  unfolding is_short_plain
-  short_open {n} {c} f g h k = sym (rw (← e, eq-eqb b 0x22 f, ← g, ← h, ne_eqb c 0x22 k))
-
-  pub short_none : (b ≡ 0x22 → ⊥) → 0 ≡ pick (is_short_plain s at) (plain_end s (at + 1)) 0
-  unfolding is_short_plain
-  short_none f = sym (rw (← e, ne_eqb b 0x22 f))
-
--- the quote is found: the string, whole
+-- what `short_quote` tells: the string, whole
 pub record Short (s : List ℕ) (at e : ℕ) : Type 0 where
   pub is : is_short_plain s at ≡ true
   pub opened : get_or s at 0 ≡ 0x22
   pub closed : get_or s e 0 ≡ 0x22
   pub plain : PlainTo s (at + 1) e
 
-pub short_is : (s : List ℕ) (at : ℕ) {e : ℕ} → e ≡ pick (is_short_plain s at) (plain_end s (at + 1)) 0 → (e ≡ 0 → ⊥) → Short s at e
+pub short_is : (s : List ℕ) (at : ℕ) {e : ℕ} → Some e ≡ pick (is_short_plain s at) (Some (plain_end s (at + 1))) None → Short s at e
 unfolding is_short_plain
-short_is s at {e} q n = go (is_short_plain s at) refl q
+short_is s at {e} q = go (is_short_plain s at) refl q
   where
-    go : (t : Bool) → is_short_plain s at ≡ t → e ≡ pick t (plain_end s (at + 1)) 0 → Short s at e
-    go false i q = absurd (n q)
+    go : (t : Bool) → is_short_plain s at ≡ t → Some e ≡ pick t (Some (plain_end s (at + 1))) None → Short s at e
+    go false i q = absurd (cc)
     go true i q =
+        let n : e ≡ plain_end s (at + 1) = cc in
         let x = pick_true (eqb (get_or s at 0) 0x22) (eqb (get_or s (plain_end s (at + 1)) 0) 0x22) i in
         let o = eqb-true (get_or s at 0) 0x22 x.0 in
         let h = byte_positive s at (get_or s at 0) 0x22 refl o (omega arith) in
-        record { is = i; opened = o; closed = rw q (eqb-true _ 0x22 x.1); plain = rw q (plain_end_to s (at + 1) (omega arith)) }
-
-pub short_not : (s : List ℕ) (at : ℕ) {e : ℕ} → e ≡ pick (is_short_plain s at) (plain_end s (at + 1)) 0 → e ≡ 0 → is_short_plain s at ≡ false
-unfolding plain_end
-short_not s at q z = go (is_short_plain s at) refl (sym z ∙ q)
-  where
-    go : (t : Bool) → is_short_plain s at ≡ t → 0 ≡ pick t (plain_end s (at + 1)) 0 → is_short_plain s at ≡ false
-    go true i q = absurd (omega arith)
-    go false i q = i
+        record { is = i; opened = o; closed = rw n (eqb-true _ 0x22 x.1); plain = rw n (plain_end_to s (at + 1) (omega arith)) }
 
 module _ {s : List ℕ} {at e : ℕ} (v : Short s at e) where
   pub short_inside : (at < length s) × (at + 1 ≤ e) × (e < length s)
@@ -226,11 +209,3 @@ module _ {s : List ℕ} {at e : ℕ} (v : Short s at e) where
 
   pub short_string : read (record { from = at + 1; count = e - (at + 1) }) (e + 1) ≡ string_at s at
   short_string = text_quote s at e (text_plain e v.plain (text_start s at _ refl v.opened)) short_inside.2 v.closed
-
--- a string that is told to be plain is its own text
-pub told_own : {s : List ℕ} {at : ℕ} {r : TextRead} {p : Spelled} {c : Cursor} → PlainText s at r → r ≡ text-by.Plain p c
-    → unescape (take p.count (drop p.from s)) ≡ take p.count (drop p.from s)
-told_own {s} {at} {p = p} {c = c} w z = go (rw z at w)
-  where
-    go : PlainText s at (text-by.Plain p c) → unescape (take p.count (drop p.from s)) ≡ take p.count (drop p.from s)
-    go (plain i y) = y

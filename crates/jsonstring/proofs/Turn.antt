@@ -12,7 +12,7 @@ use Rattle.scan.proofs.Step.{byte_none}
 use Rattle.utf8.specs.inner.Width.{width_at}
 use Rattle.jsontext.specs.declared.Spelled.{Spelled}
 use Rattle.jsontext.specs.declared.Escape.{Escape}
-use Rattle.jsontext.specs.inner.Escape.{escape_at}
+use Rattle.jsontext.specs.inner.Escape.{no_escape, escape_at}
 use Rattle.jsontext.specs.Text.{chars_at, string_at}
 
 -- the string at `start`, read from its start, is the string read from i on with fuel enough
@@ -53,13 +53,11 @@ module _ (s : List ℕ) (start i : ℕ) where
     text_control l r = let f = fueled v h in r ∙ sym (f.2 ∙ rw (ne_eqb (get_or s i 0) 0x22 n, lt-ltb (get_or s i 0) 0x20 l))
 
     -- a backslash that begins no escape
-    pub text_bad_escape : {x : Answer (Read Spelled)} {e : Escape} → 0x20 ≤ get_or s i 0 → get_or s i 0 ≡ 0x5C → e ≡ escape_at s i → e.width ≡ 0 → x ≡ refused 14 start
-        → x ≡ string_at s start
+    pub text_bad_escape : 0x20 ≤ get_or s i 0 → get_or s i 0 ≡ 0x5C → no_escape ≡ escape_at s i → refused 14 start ≡ string_at s start
     unfolding chars_at
-    text_bad_escape l q e z r =
+    text_bad_escape l q e =
         let f = fueled v h in
-        let w = ap (λ (x : Escape). x.width) (sym e) ∙ z in
-        r ∙ sym (f.2 ∙ rw (ne_eqb (get_or s i 0) 0x22 n, le-ltb (get_or s i 0) 0x20 l, eq-eqb (get_or s i 0) 0x5C q, w))
+        sym (f.2 ∙ rw (ne_eqb (get_or s i 0) 0x22 n, le-ltb (get_or s i 0) 0x20 l, eq-eqb (get_or s i 0) 0x5C q, ← e))
 
     -- an escape
     pub text_escape : {e : Escape} → 0x20 ≤ get_or s i 0 → get_or s i 0 ≡ 0x5C → e ≡ escape_at s i → (e.width ≡ 0 → ⊥) → InText s start (i + e.width)

@@ -13,20 +13,14 @@ ghost use Rattle.jsontags.specs.inner.Comma.{comma};
 use escape::Escaping;
 use notepack::Part;
 
-// The place behind what was written, and the place behind what was read for it.
-#[derive(Drop)]
-struct Copied {
-    out: usize,
-    next: usize,
-}
-
 // ---- lengths. The sums over elements and tags are the formats' own, since they end where the input's limit is known.
 
+// The length of the comma that stands behind an item where more are left.
 pub fn comma_len(left: u64) -> usize
     ensures value { result ≡ length (comma left) }
     ensures upper_bound { result ≤ 1 }
 {
-    if 0 < left { 1 } else { 0 }
+    usize::from(0 < left)
 }
 
 // The length of a part's text between its quotes. Hex digits need no escape.
@@ -72,22 +66,28 @@ pub fn put_quoted(k: Escaping, out: &mut [u8], at: usize, s: &[u8], p: Part) -> 
     buffer::put_byte(out, b, b'"')
 }
 
-// count elements from a place on, as strings with a comma between each two.
-fn put_strings(k: Escaping, out: &mut [u8], at: usize, s: &[u8], from: usize, count: u64) -> Copied
-    ensures wrote { Wrote out.old at (commaed (map (quoted (byte_of k)) (texts_again count s.now from))) out.new result.out }
-    ensures next_value { result.next ≡ texts_end count s.now from }
+// count elements from a place on, as strings with a comma between each two: the place behind what was written, and the
+// place behind what was read for it.
+fn put_strings(
+    k: Escaping,
+    out: &mut [u8],
+    at: usize,
+    s: &[u8],
+    from: usize,
+    count: u64,
+) -> (usize, usize)
+    ensures wrote { Wrote out.old at (commaed (map (quoted (byte_of k)) (texts_again count s.now from))) out.new result.0 }
+    ensures next_value { result.1 ≡ texts_end count s.now from }
 {
     let mut o = at;
     let mut i = from;
-    let mut left = count;
-    while 0 < left {
-        left -= 1;
-        let again = notepack::part_again(s, i);
-        o = put_quoted(k, out, o, s, again.part);
-        o = put_comma(out, o, left);
-        i = again.next;
+    for n in 0..count {
+        let (part, next) = notepack::part_again(s, i);
+        o = put_quoted(k, out, o, s, part);
+        o = put_comma(out, o, count - n - 1);
+        i = next;
     }
-    Copied { out: o, next: i }
+    (o, i)
 }
 
 // count tags from a place on, as arrays with a comma between each two.
@@ -103,15 +103,12 @@ pub fn put_arrays(
 {
     let mut o = at;
     let mut i = from;
-    let mut left = count;
-    while 0 < left {
-        left -= 1;
-        let again = notepack::count_again(s, i);
+    for n in 0..count {
+        let (texts, first) = notepack::count_again(s, i);
         o = buffer::put_byte(out, o, b'[');
-        let copied = put_strings(k, out, o, s, again.next, again.count);
-        o = buffer::put_byte(out, copied.out, b']');
-        o = put_comma(out, o, left);
-        i = copied.next;
+        (o, i) = put_strings(k, out, o, s, first, texts);
+        o = buffer::put_byte(out, o, b']');
+        o = put_comma(out, o, count - n - 1);
     }
     o
 }

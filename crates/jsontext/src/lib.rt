@@ -10,7 +10,7 @@ pub struct Spelled {
 }
 
 // An escape: how many bytes it takes, and the character that it stands for. No escape takes 0 bytes.
-#[derive(Drop)]
+#[derive(Clone, Copy)]
 pub struct Escape {
     pub width: usize,
     pub scalar: u32,

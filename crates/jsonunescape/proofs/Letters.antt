@@ -45,3 +45,5 @@ module _ (t : List ℕ) (i e c b : ℕ) (q : e ≡ backslash_at t i) (h : e < le
 
   pub letter_text : unescape (drop e t) ≡ b ∷ unescape (drop (e + 2) t)
   letter_text = turn_text t i e (escape 2 b) q h (letter_at t e c b f g n) ∙ rw (letter_one t e c b f g n) refl
+
+pub ruleset letter_steps = (letter_fits, letter_less)

@@ -67,7 +67,7 @@ digits_none = digits_pass All.none
 -- ---- two digits for a byte, in parts
 
 -- the half that is read and the next digit are a byte
-pub held_byte : (h b : ℕ) (l : List ℕ) → h < 16 → unhex (held h (b ∷ l)) ≡ (16 * h + value_of b % 16) ∷ unhex (held 16 l)
+held_byte : (h b : ℕ) (l : List ℕ) → h < 16 → unhex (held h (b ∷ l)) ≡ (16 * h + value_of b % 16) ∷ unhex (held 16 l)
 unfolding held
 held_byte h b l k =
     let v = value_of_digit h k in
@@ -75,7 +75,7 @@ held_byte h b l k =
     rw (lt-ltb h 16 k) (unhex_two (digit_of h ∷ b ∷ l) 0 (omega arith) ∙ ap (λ (m : ℕ). m ∷ unhex l) n)
 
 -- a digit where no half is read is the half
-pub held_half : (h b : ℕ) (l : List ℕ) → 16 ≤ h → unhex (held h (b ∷ l)) ≡ unhex (held (value_of b % 16) l)
+held_half : (h b : ℕ) (l : List ℕ) → 16 ≤ h → unhex (held h (b ∷ l)) ≡ unhex (held (value_of b % 16) l)
 unfolding held
 held_half h b [] k = rw (le-ltb h 16 k, lt-ltb (value_of b % 16) 16 (omega arith)) (unhex_ended (b ∷ []) 0 (omega arith) ∙ sym (unhex_ended (digit_of (value_of b % 16) ∷ []) 0 (omega arith)))
 held_half h b (c ∷ l) k =
@@ -94,17 +94,29 @@ pub held_none : (l : List ℕ) → held 16 l ≡ l
 unfolding held
 held_none l = refl
 
-pub behind_byte : (h b : ℕ) (l : List ℕ) → h < 16 → half_behind h (b ∷ l) ≡ half_behind 16 l
+behind_byte : (h b : ℕ) (l : List ℕ) → h < 16 → half_behind h (b ∷ l) ≡ half_behind 16 l
 unfolding half_behind
 behind_byte h b l k = rw (lt-ltb h 16 k)
 
-pub behind_half : (h b : ℕ) (l : List ℕ) → 16 ≤ h → half_behind h (b ∷ l) ≡ half_behind (value_of b % 16) l
+behind_half : (h b : ℕ) (l : List ℕ) → 16 ≤ h → half_behind h (b ∷ l) ≡ half_behind (value_of b % 16) l
 unfolding half_behind
 behind_half h b l k = rw (le-ltb h 16 k)
 
 pub behind_end : (h : ℕ) → half_behind h [] ≡ h
 unfolding half_behind
 behind_end h = refl
+
+-- a digit more, where a half is read and where none is
+pub digit_byte : (h b : ℕ) → h < 16 → (unhex (held h (b ∷ [])) ≡ (16 * h + value_of b % 16) ∷ []) × (16 ≡ half_behind h (b ∷ []))
+digit_byte h b k = (held_byte h b [] k ∙ ap (λ (l : List ℕ). (16 * h + value_of b % 16) ∷ l) (held_end 16), sym (behind_byte h b [] k ∙ behind_end 16))
+
+pub digit_half : (b : ℕ) → (unhex (held 16 (b ∷ [])) ≡ []) × (value_of b % 16 ≡ half_behind 16 (b ∷ []))
+digit_half b =
+    (held_half 16 b [] (omega arith) ∙ held_end (value_of b % 16), sym (behind_half 16 b [] (omega arith) ∙ behind_end (value_of b % 16)))
+
+pub behind_more : (h b : ℕ) (l : List ℕ) → half_behind h (b ∷ l) ≡ half_behind (half_behind h (b ∷ [])) l
+unfolding half_behind
+behind_more h b l = refl
 
 -- digits in parts: the half that is left over goes on
 pub held_append : (h : ℕ) (a b : List ℕ) → unhex (held h (a ++ b)) ≡ unhex (held h a) ++ unhex (held (half_behind h a) b)
@@ -129,21 +141,15 @@ held_append h (x ∷ a) b =
 pub record InDigits (t : List ℕ) (i : ℕ) : Type 0 where
   pub same : all_digits (unescape t) ≡ all_digits (unescape (drop i t))
 
-pub digits_start : (t : List ℕ) → InDigits t 0
-digits_start t = record { same = refl }
-
 module _ {t : List ℕ} {i : ℕ} (v : InDigits t i) where
-  module _ {e : ℕ} {p : List ℕ} {r : Bool} (q : e ≡ backslash_at t i) (k : p ≡ take (e - i) (drop i t)) (a : r ≡ all_digits p) where
-    digits_part : r ≡ all_digits (take (e - i) (drop i t))
-    digits_part = a ∙ ap all_digits k
-
+  module _ {e : ℕ} {r : Bool} (q : e ≡ backslash_at t i) (a : r ≡ all_digits (take (e - i) (drop i t))) where
     pub digits_run : r ≡ true → InDigits t e
     digits_run y = record {
-      same = digits_on (take (e - i) (drop i t)) (unescape (drop e t)) (v.same ∙ ap all_digits (unescape_run t i q)) (sym digits_part ∙ y);
+      same = digits_on (take (e - i) (drop i t)) (unescape (drop e t)) (v.same ∙ ap all_digits (unescape_run t i q)) (sym a ∙ y);
     }
 
     pub digits_run_off : r ≡ false → false ≡ all_digits (unescape t)
-    digits_run_off y = digits_off (take (e - i) (drop i t)) (unescape (drop e t)) (v.same ∙ ap all_digits (unescape_run t i q)) (sym digits_part ∙ y)
+    digits_run_off y = digits_off (take (e - i) (drop i t)) (unescape (drop e t)) (v.same ∙ ap all_digits (unescape_run t i q)) (sym a ∙ y)
 
   module _ {x : Escape} {r : Bool} (h : i < length t) (s : get_or t i 0 ≡ 0x5C) (f : x ≡ or_itself (escape_at t i)) (a : r ≡ all_digits (encode x.scalar)) where
     pub digits_escape : r ≡ true → InDigits t (i + x.width)

@@ -8,49 +8,54 @@ use mathlib.Core.List.{List, [], ◌∷◌}
 use mathlib.Core.Logic.{dite}
 use native.Mathlib.Omega.{arith}
 use native.Mathlib.Decide.{ℕ_discrete}
-use lib.ListN.{length, get_or, take, drop}
+use lib.ListN.{length, get_or, take, drop, length-drop}
+use lib.Seq.{get_or-drop, drop-drop}
 use lib.Dec.{eqb}
 use borrow.Author.Tests.{eq-eqb, ne_eqb, eqb-true}
-use Rattle.scan.specs.Choice.{pick}
-use Rattle.scan.proofs.Step.{pick_by}
-use Rattle.scan.specs.inner.Blocks.{is_one, sum_of, neighbours}
+use Rattle.scan.specs.inner.Blocks.{sum_of, neighbours}
 use Rattle.jsonunescape.specs.inner.Run.{is_slash}
 use Rattle.jsontext.specs.inner.Escape.{unescaped_letter, escape, unescape}
 use Rattle.jsonunescape.specs.inner.Short.{odd_of, even_pairs}
-use Rattle.scan.proofs.BlockLaws.{one_is, one_not, neighbours_none, lent_sum, neighbours_block}
+use Rattle.scan.proofs.Step.{rest_whole}
+use Rattle.scan.proofs.BlockLaws.{one_is, one_not, lent_sum, neighbours_block}
 use Rattle.jsontext.proofs.Meaning.{unescape_none, unescape_byte, unescape_escape}
 use Rattle.jsonunescape.proofs.Unescape.{unescape_end}
 use Rattle.jsonunescape.proofs.Letters.{letter_at, letter_one}
 
 -- ---- odd bytes, block by block
 
--- the turns of the loop over the blocks; n is what a block has
-module _ (t : List ℕ) (i : ℕ) (v : neighbours odd_of (get_or t 0 0) (drop 1 t) ≡ neighbours odd_of (get_or t (i - 1) 0) (drop i t)) where
-  module _ (e : ℕ) {n : ℕ} (o : 1 ≤ i) (l : i ≤ e) (h : e ≤ length t)
-      (q : n ≡ lent_sum odd_of (take (e - (i - 1)) (drop (i - 1) t))) where
-    pub pairs_again : n ≡ 0 → neighbours odd_of (get_or t 0 0) (drop 1 t) ≡ neighbours odd_of (get_or t (e - 1) 0) (drop e t)
-    pairs_again z = omega (arith, v, z, neighbours_block odd_of t i e o l h q)
+-- the turns of the loop over the blocks; i is the place of the byte before, and n what a block has
+module _ (t : List ℕ) (i : ℕ) (v : neighbours odd_of (get_or t 0 0) (drop 1 t) ≡ neighbours odd_of (get_or t i 0) (drop (i + 1) t)) where
+  module _ (x : List ℕ) {n : ℕ} (h : 129 ≤ length (take (length t - i) (drop i t))) (q : x ≡ take 129 (take (length t - i) (drop i t))) (r : n ≡ lent_sum odd_of x) where
+    pub pairs_inside : i + 129 ≤ length t
+    pairs_inside = let m : 129 ≤ length (drop i t) = rw (rest_whole t i) at h in omega (arith, m, length-drop i t)
+
+    pairs_block : neighbours odd_of (get_or t i 0) (drop (i + 1) t) ≡ n + neighbours odd_of (get_or t (i + 128) 0) (drop (i + 128 + 1) t)
+    pairs_block =
+        let a : i + 1 - 1 ≡ i = omega arith in
+        let b : i + 129 - 1 ≡ i + 128 = omega arith in
+        let c : i + 129 ≡ i + 128 + 1 = omega arith in
+        let d : i + 129 - i ≡ 129 = omega arith in
+        let e : x ≡ take 129 (drop i t) = rw (rest_whole t i) at q in
+        let f : n ≡ lent_sum odd_of (take (i + 129 - (i + 1 - 1)) (drop (i + 1 - 1) t)) = rw (a, d) (r ∙ ap (lent_sum odd_of) e) in
+        rw (a, b, c) at (neighbours_block odd_of t (i + 1) (i + 129) (omega arith) (omega arith) pairs_inside f)
+
+    pub pairs_again : n ≡ 0 → neighbours odd_of (get_or t 0 0) (drop 1 t) ≡ neighbours odd_of (get_or t (i + 128) 0) (drop (i + 128 + 1) t)
+    pairs_again z = omega (arith, v, z, pairs_block)
 
     pub pairs_odd : (n ≡ 0 → ⊥) → false ≡ even_pairs t
     unfolding even_pairs
-    pairs_odd z = sym (ne_eqb (neighbours odd_of (get_or t 0 0) (drop 1 t)) 0 (λ y. z (omega (arith, v, y, neighbours_block odd_of t i e o l h q))))
+    pairs_odd z = sym (ne_eqb (neighbours odd_of (get_or t 0 0) (drop 1 t)) 0 (λ y. z (omega (arith, v, y, pairs_block))))
 
   -- the last block decides
-  pub pairs_rest : {n : ℕ} → 1 ≤ i → i ≤ length t
-      → n ≡ lent_sum odd_of (take (length t - (i - 1)) (drop (i - 1) t)) → eqb n 0 ≡ even_pairs t
+  pub pairs_rest : {n : ℕ} → n ≡ lent_sum odd_of (take (length t - i) (drop i t)) → eqb n 0 ≡ even_pairs t
   unfolding even_pairs
-  pairs_rest {n} o h q =
-      let z = neighbours_none odd_of (get_or t (length t - 1) 0) t (length t) (omega arith) in
-      let e : n ≡ neighbours odd_of (get_or t 0 0) (drop 1 t) = omega (arith, v, z, neighbours_block odd_of t i (length t) o h (omega arith) q) in
-      rw e refl
+  pairs_rest {n} q =
+      let k : i + 0 ≡ i = omega arith in
+      let e : n ≡ neighbours odd_of (get_or t i 0) (drop (i + 1) t) = rw (rest_whole t i, get_or-drop i t 0 0, k, drop-drop 1 i t) at q in
+      rw (e ∙ sym v) refl
 
 -- ---- one pair
-
-pub odd_is : (p b : ℕ) {x y r : ℕ} → x ≡ is_one b 0x6E → y ≡ is_one b 0x22 → r ≡ pick (eqb p 0x5C) (1 - x - y) 0 → (r ≡ odd_of p b) × (r ≤ 1)
-unfolding odd_of
-odd_is p b {x} {y} {r} f g h =
-    let q : r ≡ pick (eqb p 0x5C) (1 - is_one b 0x6E - is_one b 0x22) 0 = h ∙ rw (f, g) refl in
-    (q, rw h (pick_by (λ (n : ℕ). n ≤ 1) (eqb p 0x5C) (λ t. omega arith) (λ t. omega arith)))
 
 -- a byte behind a backslash that is not odd
 even_letter : (p b : ℕ) → p ≡ 0x5C → odd_of p b ≡ 0 → (is_slash b ≡ 0) × (unescaped_letter b ≡ 0 → ⊥)
@@ -102,9 +107,9 @@ even_length p (b ∷ x ∷ l) z c =
 
 -- the length of the text of a string whose last byte is no backslash, where no byte is odd
 pub short_length : (t : List ℕ) {n : ℕ} → 1 ≤ length t → (get_or t (length t - 1) 0 ≡ 0x5C → ⊥) → even_pairs t ≡ true → n ≡ sum_of is_slash t
-    → (length t - n ≡ length (unescape t)) × (length t - n ≤ length t)
+    → length t - n ≡ length (unescape t)
 unfolding even_pairs neighbours
-short_length t {n} h c e q = (omega (arith, q, go t h c (eqb-true _ 0 e)), omega arith)
+short_length t {n} h c e q = omega (arith, q, go t h c (eqb-true _ 0 e))
   where
     closed : (t : List ℕ) → (get_or t (length t - 1) 0 ≡ 0x5C → ⊥) → Closed t
     closed t c k q e = let j : k ≡ length t - 1 = omega arith in c (rw j at e)
@@ -114,5 +119,5 @@ short_length t {n} h c e q = (omega (arith, q, go t h c (eqb-true _ 0 e)), omega
     go (b ∷ l) h c z = even_length 0 (b ∷ l) (omega (arith, z, first_even b)) (closed (b ∷ l) c)
 
 -- nothing stands for nothing
-pub short_none : (t : List ℕ) → length t ≡ 0 → (0 ≡ length (unescape t)) × (0 ≤ length t)
-short_none t h = (sym (ap length (unescape_end t 0 (omega arith))), omega arith)
+pub short_none : (t : List ℕ) → length t ≡ 0 → 0 ≡ length (unescape t)
+short_none t h = sym (ap length (unescape_end t 0 (omega arith)))

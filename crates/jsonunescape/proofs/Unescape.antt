@@ -132,9 +132,6 @@ pub record Measured (t : List ℕ) (i n : ℕ) : Type 0 where
   pub small : n ≤ i
   pub inside : i ≤ length t
 
-pub measured_none : (t : List ℕ) → Measured t 0 0
-measured_none t = record { total = omega arith; small = omega arith; inside = omega arith }
-
 pub measured_run : {t : List ℕ} {i n : ℕ} (e : ℕ) → e ≡ backslash_at t i → Measured t i n → Measured t e (n + (e - i))
 measured_run {t} {i} e q m =
     let k = run_onward t i q in
@@ -150,5 +147,5 @@ measured_escape {t} {e} x k h q f r m =
     let u = taken t e h q f in
     record { total = omega (arith, m.total, length_escape t e h q f, r); small = omega (arith, m.small, u.shorter, r); inside = u.inside }
 
-pub measured_all : {t : List ℕ} {i n : ℕ} → length t ≤ i → Measured t i n → (n ≡ length (unescape t)) × (n ≤ length t)
-measured_all {t} {i} h m = (omega (arith, m.total, ap length (unescape_end t i h)), omega (arith, m.small, m.inside))
+pub measured_all : {t : List ℕ} {i n : ℕ} → length t ≤ i → Measured t i n → n ≡ length (unescape t)
+measured_all {t} {i} h m = omega (arith, m.total, ap length (unescape_end t i h))

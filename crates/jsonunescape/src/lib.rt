@@ -2,13 +2,14 @@
 // A private function takes the spelled bytes as t.
 #![tactic(auto)]
 
-ghost use Rattle.std.specs.Prelude.{◌+◌, ◌-◌, ◌≤◌, ◌<◌, ◌≡◌, true, length, get_or, take, drop};
+ghost use Rattle.std.specs.Prelude.{◌-◌, ◌≤◌, ◌<◌, ◌≡◌, None, [], ◌∷◌, length, get_or, take, drop, unwrap_or};
+ghost use Rattle.std.specs.Option.{ForSome};
 ghost use Rattle.scan.specs.inner.Blocks.{sum_of, neighbours};
 ghost use Rattle.buffer.specs.inner.Store.{Wrote};
 ghost use Rattle.utf8.specs.Encode.{encode};
 ghost use Rattle.hexdigits.specs.Hex.{unhex, all_digits, goes_as_bytes};
 ghost use Rattle.jsontext.specs.inner.Escape.{escape_at, or_itself, unescape};
-ghost use Rattle.jsonunescape.specs.inner.Run.{backslash_at, is_slash, stop_of, Ran};
+ghost use Rattle.jsonunescape.specs.inner.Run.{backslash_at, is_slash, stop_of};
 ghost use Rattle.jsonunescape.specs.inner.Short.{odd_of, even_pairs};
 ghost use Rattle.jsonunescape.specs.inner.Half.{held, half_behind};
 
@@ -16,63 +17,43 @@ use jsontext::Escape;
 
 // 0 for a byte that is neither a control byte nor a quote nor a backslash. The backslash alone would do, but a loop
 // over 32 bytes with one comparison is unrolled, and not made of vectors.
+#[tactic(auto, unfolding(crate::specs::inner::Run::stop_of, crate::specs::inner::Run::is_slash))]
 fn stop_of(b: u8) -> u8
     ensures value { result ≡ stop_of b }
     ensures upper_bound { result ≤ 3 }
 {
-    scan::control_count(b) + scan::is_one(b, 0x22) + scan::is_one(b, 0x5C)
+    scan::control_count(b) + scan::is_one(b, b'"') + scan::is_one(b, b'\\')
 }
 
-// 0 for a block of such bytes.
+// 0 for a block of such bytes. No exit on the way, and a sum in a byte, so that a block has few bytes: a loop for
+// vectors, and for fewer of them than whether there is one, as a bool, takes.
+#[tactic(auto, unfolding(scan::specs::inner::Blocks::sum_of))]
 fn stops(block: &[u8]) -> u8
     requires { length block.now ≤ 32 }
     ensures { result ≡ sum_of stop_of block.now }
 {
-    let mut i = 0;
-    let mut n: u8 = 0;
-    while i < block.len() {
-        n += stop_of(block[i]);
-        i += 1;
+    let mut n = 0;
+    for &b in block {
+        n += stop_of(b);
     }
     n
 }
 
 // Passes blocks of 32 such bytes from a place on: none of them is a backslash.
-fn pass_stops(t: &[u8], at: usize) -> usize
+fn pass_blocks(t: &[u8], at: usize) -> usize
     requires { at ≤ length t.now }
     ensures at_value { backslash_at t.now at ≡ backslash_at t.now result }
     ensures lower_bound { at ≤ result }
     ensures upper_bound { result ≤ length t.now }
 {
     let mut i = at;
-    while t.len() - i >= 32 {
-        let e = i + 32;
-        if stops(&t[i..e]) != 0 {
-            return i;
+    for block in t[at..].chunks_exact(32) {
+        if stops(block) != 0 {
+            break;
         }
-        i = e;
+        i += 32;
     }
     i
-}
-
-// Whether none of the four bytes from a place on is a backslash.
-fn four_plain(t: &[u8], at: usize) -> bool
-    requires { at + 4 ≤ length t.now }
-    ensures { result ≡ true → backslash_at t.now at ≡ backslash_at t.now (at + 4) }
-{
-    if t[at] == 0x5C {
-        return false;
-    }
-    if t[at + 1] == 0x5C {
-        return false;
-    }
-    if t[at + 2] == 0x5C {
-        return false;
-    }
-    if t[at + 3] == 0x5C {
-        return false;
-    }
-    true
 }
 
 // Passes four bytes a turn while none of them is a backslash.
@@ -83,9 +64,9 @@ fn pass_fours(t: &[u8], at: usize) -> usize
     ensures upper_bound { result ≤ length t.now }
 {
     let mut i = at;
-    while t.len() - i >= 4 {
-        if !four_plain(t, i) {
-            return i;
+    for four in t[at..].chunks_exact(4) {
+        if four.contains(&b'\\') {
+            break;
         }
         i += 4;
     }
@@ -99,45 +80,36 @@ pub fn next_backslash(t: &[u8], at: usize) -> usize
     if t.len() <= at {
         return at;
     }
-    let blocks = pass_stops(t, at);
-    let mut i = pass_fours(t, blocks);
-    while i < t.len() {
-        let b = t[i];
-        if b == 0x5C {
-            break;
-        }
-        i += 1;
+    // One escape right behind another: no block is looked at.
+    if t[at] == b'\\' {
+        return at;
     }
-    i
+    let i = pass_fours(t, pass_blocks(t, at));
+    i + t[i..].iter().take_while(|b| **b != b'\\').count()
 }
 
 // The escape at a place, or the backslash itself where it begins none.
+#[tactic(auto, using(scan::proofs::Step::tests), unfolding(jsontext::specs::inner::Escape::or_itself))]
 fn escape_or_itself(t: &[u8], at: usize) -> Escape
-    requires { at < length t.now }
     ensures { result ≡ or_itself (escape_at t.now at) }
 {
-    let e = jsonescape::escape_at(&t[..], at);
-    let w = e.width;
-    if w == 0 {
-        return Escape {
-            width: 1,
-            scalar: 0x5C,
-        };
-    }
-    e
+    jsonescape::escape_at(t, at).unwrap_or(Escape {
+        width: 1,
+        scalar: 0x5C,
+    })
 }
 
-// How many bytes of a block are backslashes.
+// How many bytes of a block are backslashes. No exit on the way, and a sum in a byte, so that a block has few bytes: a
+// loop for vectors.
+#[tactic(auto, unfolding(crate::specs::inner::Run::is_slash, scan::specs::inner::Blocks::sum_of))]
 fn backslashes(block: &[u8]) -> u8
     requires { length block.now ≤ 128 }
     ensures value { result ≡ sum_of is_slash block.now }
     ensures upper_bound { result ≤ length block.now }
 {
-    let mut i = 0;
-    let mut n: u8 = 0;
-    while i < block.len() {
-        n += scan::is_one(block[i], 0x5C);
-        i += 1;
+    let mut n = 0;
+    for &b in block {
+        n += scan::is_one(b, b'\\');
     }
     n
 }
@@ -147,66 +119,67 @@ fn slashes(t: &[u8]) -> usize
     ensures value { result ≡ sum_of is_slash t.now }
     ensures upper_bound { result ≤ length t.now }
 {
-    let mut i = 0;
     let mut n = 0;
-    while t.len() - i >= 128 {
-        let e = i + 128;
-        n += backslashes(&t[i..e]) as usize;
-        i = e;
+    let mut left = t;
+    while let Some((block, rest)) = left.split_first_chunk::<128>() {
+        n += usize::from(backslashes(block));
+        left = rest;
     }
-    n + backslashes(&t[i..]) as usize
+    n + usize::from(backslashes(left))
 }
 
-// 1 for a byte behind a backslash that is neither n nor a quote, and else 0.
+// 1 for a byte behind a backslash that is neither n nor a quote, and else 0. By reckoning: with tests and && (tried)
+// the loop over a short block is slower.
+#[tactic(auto, using(scan::proofs::BlockLaws::one_of_two), unfolding(crate::specs::inner::Short::odd_of, scan::specs::inner::Blocks::is_one))]
 fn odd_of(before: u8, b: u8) -> u8
     ensures value { result ≡ odd_of before b }
     ensures upper_bound { result ≤ 1 }
 {
     scan::pick_byte(
-        before == 0x5C,
-        1 - scan::is_one(b, 0x6E) - scan::is_one(b, 0x22),
+        before == b'\\',
+        1 - scan::is_one(b, b'n') - scan::is_one(b, b'"'),
         0,
     )
 }
 
-// How many such bytes a block has behind its first.
+// How many such bytes a block has behind its first. No exit on the way, and a sum in a byte, so that a block has few
+// bytes: a loop for vectors.
+#[tactic(auto, unfolding(scan::specs::inner::Blocks::neighbours))]
 fn odd_pairs(block: &[u8]) -> u8
-    requires in_bounds { 1 ≤ length block.now }
-    requires block_len_bound { length block.now ≤ 129 }
+    requires { length block.now ≤ 129 }
     ensures { result ≡ neighbours odd_of (get_or block.now 0 0) (drop 1 block.now) }
 {
-    let mut i = 1;
-    let mut n: u8 = 0;
-    while i < block.len() {
+    let mut n = 0;
+    for i in 1..block.len() {
         n += odd_of(block[i - 1], block[i]);
-        i += 1;
     }
     n
 }
 
-// Whether every backslash of t but a last one is followed by n or a quote. A block is lent with the byte before it.
+// Whether every backslash of t but a last one is followed by n or a quote.
 fn even_pairs(t: &[u8]) -> bool
-    requires { 1 ≤ length t.now }
     ensures { result ≡ even_pairs t.now }
 {
-    let mut i = 1;
-    while t.len() - i >= 128 {
-        let e = i + 128;
-        if odd_pairs(&t[i - 1..e]) != 0 {
+    let mut i = 0;
+    // A place, since blocks are lent with the byte before them, which no iterator of the library does.
+    while let Some(block) = t[i..].first_chunk::<129>() {
+        if odd_pairs(block) != 0 {
             return false;
         }
-        i = e;
+        i += 128;
     }
-    odd_pairs(&t[i - 1..]) == 0
+    odd_pairs(&t[i..]) == 0
 }
 
 // The length of the text, run by run.
+#[tactic(auto, using(crate::proofs::Unescape::steps))]
 fn spelled_len_by_runs(t: &[u8]) -> usize
     ensures value { result ≡ length (unescape t.now) }
     ensures upper_bound { result ≤ length t.now }
 {
     let mut i = 0;
     let mut n = 0;
+    // A place, since an escape takes as many bytes as it is wide.
     while i < t.len() {
         let e = next_backslash(t, i);
         n += e - i;
@@ -214,10 +187,8 @@ fn spelled_len_by_runs(t: &[u8]) -> usize
             return n;
         }
         let x = escape_or_itself(t, e);
-        let w = x.width;
-        let c = x.scalar;
-        n += utf8::scalar_len(c);
-        i = e + w;
+        n += utf8::scalar_len(x.scalar);
+        i = e + x.width;
     }
     n
 }
@@ -232,113 +203,34 @@ fn spelled_len(t: &[u8]) -> usize
     if n == 0 {
         return 0;
     }
-    if t[n - 1] != 0x5C {
-        if even_pairs(t) {
-            return n - slashes(t);
-        }
+    if t[n - 1] != b'\\' && even_pairs(t) {
+        return n - slashes(t);
     }
-    spelled_len_by_runs(&t[..])
-}
-
-// The places behind a run that was written: of the output and of the input.
-#[derive(Drop)]
-struct Copied {
-    out: usize,
-    next: usize,
-}
-
-// Four bytes from a place on, where there is room for them.
-fn put_four(out: &mut [u8], at: usize, t: &[u8], from: usize) -> usize
-    requires at_in_bounds { at + 4 ≤ length out.old }
-    requires from_in_bounds { from + 4 ≤ length t.now }
-    ensures wrote { Wrote out.old at (take 4 (drop from t.now)) out.new result }
-    ensures value { result ≡ at + 4 }
-{
-    out[at] = t[from];
-    out[at + 1] = t[from + 1];
-    out[at + 2] = t[from + 2];
-    out[at + 3] = t[from + 3];
-    at + 4
-}
-
-// The bytes up to the next backslash, four a turn while there are four and room for them.
-fn put_fours(out: &mut [u8], at: usize, t: &[u8], from: usize) -> Copied
-    requires { from ≤ length t.now }
-    ensures { Ran t.now from result.next out.old at out.new result.out }
-{
-    let mut i = from;
-    let mut o = at;
-    if out.len() <= at {
-        return Copied { out: o, next: i };
-    }
-    while t.len() - i >= 4 {
-        if out.len() - o < 4 {
-            break;
-        }
-        if !four_plain(t, i) {
-            break;
-        }
-        o = put_four(out, o, t, i);
-        i += 4;
-    }
-    Copied { out: o, next: i }
-}
-
-// The same byte by byte, to the backslash or the end.
-fn put_plain(out: &mut [u8], at: usize, t: &[u8], from: usize) -> Copied
-    requires { from ≤ length t.now }
-    ensures ran { Ran t.now from result.next out.old at out.new result.out }
-    ensures next_value { result.next ≡ backslash_at t.now from }
-{
-    let mut i = from;
-    let mut o = at;
-    while i < t.len() {
-        let b = t[i];
-        if b == 0x5C {
-            break;
-        }
-        o = buffer::put_byte(out, o, b);
-        i += 1;
-    }
-    Copied { out: o, next: i }
-}
-
-// The bytes up to the next backslash or the end, written: blocks, then four by four, then one by one.
-fn put_run(out: &mut [u8], at: usize, t: &[u8], from: usize) -> Copied
-    requires { from ≤ length t.now }
-    ensures wrote { Wrote out.old at (take (result.next - from) (drop from t.now)) out.new result.out }
-    ensures next_value { result.next ≡ backslash_at t.now from }
-{
-    let i = pass_stops(t, from);
-    let o = buffer::put_bytes(out, at, &t[from..i]);
-    let c = put_fours(out, o, t, i);
-    put_plain(out, c.out, t, c.next)
+    spelled_len_by_runs(t)
 }
 
 // The text, written run by run. A letter's escape, which is most of them, is one byte with no look at the other kinds.
+#[tactic(auto, using(crate::proofs::Unescape::steps, crate::proofs::Letters::letter_steps))]
 fn put_spelled(out: &mut [u8], at: usize, t: &[u8]) -> usize
     ensures { Wrote out.old at (unescape t.now) out.new result }
 {
     let mut i = 0;
     let mut o = at;
+    // A place, since an escape takes as many bytes as it is wide.
     while i < t.len() {
-        let run = put_run(out, o, t, i);
-        o = run.out;
-        let e = run.next;
+        let e = next_backslash(t, i);
+        o = buffer::put_bytes(out, o, &t[i..e]);
         if t.len() <= e {
             return o;
         }
-        let b = jsonescape::unescaped_letter(scan::byte_at(t, e + 1));
-        if b != 0 {
+        if let Some(b) = jsonescape::unescaped_letter(scan::byte_at(t, e + 1)) {
             o = buffer::put_byte(out, o, b);
             i = e + 2;
             continue;
         }
         let x = escape_or_itself(t, e);
-        let w = x.width;
-        let c = x.scalar;
-        o = utf8::put_scalar(out, o, c);
-        i = e + w;
+        o = utf8::put_scalar(out, o, x.scalar);
+        i = e + x.width;
     }
     o
 }
@@ -353,91 +245,112 @@ fn scalar_digits(n: u32) -> bool
 }
 
 // Whether every byte of the text is one of 0-9 a-f.
+#[tactic(auto, using(crate::proofs::Unescape::steps))]
 fn spelled_digits(t: &[u8]) -> bool
     ensures { result ≡ all_digits (unescape t.now) }
 {
     let mut i = 0;
+    // A place, since an escape takes as many bytes as it is wide.
     while i < t.len() {
         let e = next_backslash(t, i);
-        if !hexdigits::all_digits(scan::part(t, i, e - i)) {
+        if !hexdigits::all_digits(&t[i..e]) {
             return false;
         }
         if t.len() <= e {
             return true;
         }
         let x = escape_or_itself(t, e);
-        let w = x.width;
-        let c = x.scalar;
-        if !scalar_digits(c) {
+        if !scalar_digits(x.scalar) {
             return false;
         }
-        i = e + w;
+        i = e + x.width;
     }
     true
 }
 
-// A place of the output, and the upper half of the byte that goes there; 16 where none is read yet.
-#[derive(Drop)]
+// A place of the output, and the upper half of the byte that goes there, where it is read already.
+#[derive(Clone, Copy)]
 struct Half {
     at: usize,
-    value: u8,
+    value: Option<u8>,
+    ghost value_bound: { ForSome value (λ h. h < 16) },
 }
 
-// A byte for each two digits of t, the first behind the half that is read already.
-fn put_halves(out: &mut [u8], at: usize, half: u8, t: &[u8]) -> Half
-    ensures wrote { Wrote out.old at (unhex (held half t.now)) out.new result.at }
-    ensures value_value { result.value ≡ half_behind half t.now }
-{
-    let mut i = 0;
-    let mut o = at;
-    let mut h = half;
-    while i < t.len() {
-        let v = hexdigits::value_of(t[i]) % 16;
-        i += 1;
-        if h < 16 {
-            o = buffer::put_byte(out, o, 16 * h + v);
-            h = 16;
-            continue;
-        }
-        h = v;
+impl Half {
+    // No digit is read yet.
+    fn starting(at: usize) -> Half
+        ensures { (result.at ≡ at) × (result.value ≡ None) }
+    {
+        Half { at, value: None }
     }
-    Half { at: o, value: h }
-}
 
-// The same of a scalar value's bytes.
-fn put_scalar_halves(out: &mut [u8], at: usize, half: u8, n: u32) -> Half
-    ensures wrote { Wrote out.old at (unhex (held half (encode n))) out.new result.at }
-    ensures value_value { result.value ≡ half_behind half (encode n) }
-{
-    let mut bytes = [0u8; 4];
-    let k = utf8::put_scalar(&mut bytes, 0, n);
-    put_halves(out, at, half, scan::part(&bytes, 0, k))
+    // The place behind what is written. By a method: a loop that reads a field of a half has to keep the bound itself.
+    fn end(self) -> usize
+        ensures { result ≡ self.at }
+    {
+        self.at
+    }
+
+    // A digit more: with the half that is read it is a byte, which is written; by itself it is the half.
+    fn put_digit(self, out: &mut [u8], b: u8) -> Half
+        ensures wrote { Wrote out.old self.at (unhex (held (unwrap_or self.value 16) (b ∷ []))) out.new result.at }
+        ensures value_value { unwrap_or result.value 16 ≡ half_behind (unwrap_or self.value 16) (b ∷ []) }
+    {
+        let v = hexdigits::value_of(b) % 16;
+        match self.value {
+            Some(h) => Half {
+                at: buffer::put_byte(out, self.at, 16 * h + v),
+                value: None,
+            },
+            None => Half {
+                at: self.at,
+                value: Some(v),
+            },
+        }
+    }
+
+    // A byte for each two digits of t, the first behind the half that is read already.
+    fn put_digits(self, out: &mut [u8], t: &[u8]) -> Half
+        ensures wrote { Wrote out.old self.at (unhex (held (unwrap_or self.value 16) t.now)) out.new result.at }
+        ensures value_value { unwrap_or result.value 16 ≡ half_behind (unwrap_or self.value 16) t.now }
+    {
+        let mut half = self;
+        for &b in t {
+            half = half.put_digit(out, b);
+        }
+        half
+    }
+
+    // The same of a scalar value's bytes.
+    fn put_scalar(self, out: &mut [u8], n: u32) -> Half
+        ensures wrote { Wrote out.old self.at (unhex (held (unwrap_or self.value 16) (encode n))) out.new result.at }
+        ensures value_value { unwrap_or result.value 16 ≡ half_behind (unwrap_or self.value 16) (encode n) }
+    {
+        let mut bytes = [0u8; 4];
+        let k = utf8::put_scalar(&mut bytes, 0, n);
+        self.put_digits(out, scan::part(&bytes, 0, k))
+    }
 }
 
 // A byte for each two digits of the text, written.
+#[tactic(auto, using(crate::proofs::Unescape::steps))]
 fn put_spelled_unhex(out: &mut [u8], at: usize, t: &[u8]) -> usize
     ensures { Wrote out.old at (unhex (unescape t.now)) out.new result }
 {
     let mut i = 0;
-    let mut o = at;
-    let mut h: u8 = 16;
+    let mut half = Half::starting(at);
+    // A place, since an escape takes as many bytes as it is wide.
     while i < t.len() {
         let e = next_backslash(t, i);
-        let a = put_halves(out, o, h, scan::part(t, i, e - i));
-        o = a.at;
+        half = half.put_digits(out, &t[i..e]);
         if t.len() <= e {
-            return o;
+            return half.end();
         }
-        h = a.value;
         let x = escape_or_itself(t, e);
-        let w = x.width;
-        let c = x.scalar;
-        let b = put_scalar_halves(out, o, h, c);
-        o = b.at;
-        h = b.value;
-        i = e + w;
+        half = half.put_scalar(out, x.scalar);
+        i = e + x.width;
     }
-    o
+    half.end()
 }
 
 // The length of the text that the n bytes of s from a place on spell.
@@ -456,20 +369,16 @@ pub fn put_unescaped(out: &mut [u8], at: usize, s: &[u8], from: usize, n: usize)
 }
 
 // Whether it goes as bytes in the strict form.
+#[tactic(auto, using(scan::proofs::Step::tests), unfolding(hexdigits::specs::Hex::goes_as_bytes))]
 pub fn unescaped_goes_as_bytes(s: &[u8], from: usize, n: usize) -> bool
     ensures { result ≡ goes_as_bytes (unescape (take n (drop from s.now))) }
 {
     let k = unescaped_len(s, from, n);
-    if k == 0 {
-        return false;
-    }
-    if k % 2 == 0 {
-        return spelled_digits(scan::part(s, from, n));
-    }
-    false
+    k != 0 && k % 2 == 0 && spelled_digits(scan::part(s, from, n))
 }
 
 // A byte for each two digits of it, written.
+#[tactic(auto, using(crate::proofs::Unescape::unescape_whole))]
 pub fn put_unescaped_unhex(out: &mut [u8], at: usize, s: &[u8], from: usize, n: usize) -> usize
     ensures { Wrote out.old at (unhex (unescape (take n (drop from s.now)))) out.new result }
 {

@@ -1,280 +1,215 @@
-// The rest of JSON at a cursor: white space, literals, numbers, and values, which are read over.
+// The rest of JSON at a place: white space, literals, numbers, and values, which are read over. What is told is the
+// place behind them.
 #![tactic(auto)]
 
 ghost use Rattle.std.specs.Prelude.{◌<◌, ◌≡◌, length};
-ghost use Rattle.scan.specs.Choice.{refused};
+ghost use Rattle.event.specs.declared.Reason.TheVariants.{TextNotAllowed};
 ghost use Rattle.jsontext.specs.Token.{is_space, space_at, word_at, digits_or, minus_at, sign_at, int_at, frac_at, is_e, exp_at, skip_number};
 ghost use Rattle.jsontext.specs.Value.{skip_item, skip_member, value_at};
 ghost use Rattle.jsontext.specs.inner.Walk.{skip_walk};
-ghost use Rattle.jsonvalue.specs.inner.Answers.{skip_read};
+ghost use Rattle.jsonvalue.specs.inner.Answers.{skipped};
 
-use event::Refusal;
-use jsonstring::StringRead;
+use event::{Reason, Refusal};
 
-// A place in the input. A cursor past the end reads as the end.
-#[derive(Drop)]
-pub struct Cursor {
-    pub at: usize,
-}
-
-// The cursor behind what was read over, or the refusal.
-#[derive(Drop)]
-pub enum Skip {
-    Past(Cursor),
-    Refused(Refusal),
+// Text not allowed at a place.
+fn not_allowed(place: usize) -> Refusal
+    ensures { result ≡ record { reason = TextNotAllowed; place = place } }
+{
+    Refusal {
+        reason: Reason::TextNotAllowed,
+        place,
+    }
 }
 
 // ---- white space and literals
 
+#[tactic(auto, using(scan::proofs::Step::tests), unfolding(jsontext::specs::Token::is_space))]
 fn is_space(b: u8) -> bool
     ensures { result ≡ is_space b }
 {
-    if b == 0x20 {
-        return true;
-    }
-    if b == 0x0A {
-        return true;
-    }
-    if b == 0x0D {
-        return true;
-    }
-    b == 0x09
+    b == b' ' || b == b'\n' || b == b'\r' || b == b'\t'
 }
 
-// Text not allowed at a place.
-fn not_allowed(place: usize) -> Skip
-    ensures { skip_read result ≡ refused 14 place }
+// Behind the white space.
+pub fn skip_space(s: &[u8], at: usize) -> usize
+    ensures { result ≡ space_at s.now at }
 {
-    Skip::Refused(Refusal {
-        number: event::TEXT_NOT_ALLOWED,
-        place,
-    })
+    let behind = &s[at.min(s.len())..];
+    at + behind.iter().take_while(|b| is_space(**b)).count()
 }
 
-impl Cursor {
-    // Behind the white space.
-    pub fn skip_space(self, s: &[u8]) -> Cursor
-        ensures { result.at ≡ space_at s.now self.at }
-    {
-        let mut i = self.at;
-        while i < s.len() {
-            let b = s[i];
-            if is_space(b) {
-                i += 1;
-            } else {
-                break;
-            }
-        }
-        Cursor { at: i }
+// Behind the literal w.
+#[tactic(auto, unfolding(jsontext::specs::Token::word_at))]
+fn skip_word(w: &[u8], s: &[u8], at: usize) -> Result<usize, Refusal>
+    ensures { skipped result ≡ word_at w.now s.now at }
+{
+    if scan::stands_at(w, s, at) {
+        return Ok(at + w.len());
     }
-
-    // Behind the literal w.
-    fn word(self, w: &[u8], s: &[u8]) -> Skip
-        ensures { skip_read result ≡ word_at w.now s.now self.at }
-    {
-        let at = self.at;
-        if scan::stands_at(w, s, at) {
-            return Skip::Past(Cursor { at: at + w.len() });
-        }
-        not_allowed(at)
-    }
+    Err(not_allowed(at))
 }
 
 // ---- numbers
 
 // Behind the digits at a place, or another place where there is none.
+#[tactic(auto, unfolding(jsontext::specs::Token::digits_or))]
 fn digits_or(s: &[u8], at: usize, other: usize) -> usize
     ensures { result ≡ digits_or s.now at other }
 {
-    let b = scan::byte_at(s, at);
-    if scan::is_within(0x30, 0x39, b) {
-        return scan::run_end(s, at, 0x30, 0x39);
+    if scan::is_within(b'0', b'9', scan::byte_at(s, at)) {
+        return scan::run_end(s, at, b'0', b'9');
     }
     other
 }
 
+#[tactic(auto, using(scan::proofs::Step::tests, scan::proofs::Fits::next_fits), unfolding(jsontext::specs::Token::minus_at))]
 fn after_minus(s: &[u8], at: usize) -> usize
     ensures { result ≡ minus_at s.now at }
 {
-    let b = scan::byte_at(s, at);
-    if b == 0x2D {
+    if scan::byte_at(s, at) == b'-' {
         return at + 1;
     }
     at
 }
 
+#[tactic(auto, using(scan::proofs::Step::tests, scan::proofs::Fits::next_fits), unfolding(jsontext::specs::Token::sign_at))]
 fn after_sign(s: &[u8], at: usize) -> usize
     ensures { result ≡ sign_at s.now at }
 {
-    let b = scan::byte_at(s, at);
-    if b == 0x2B {
+    if scan::byte_at(s, at) == b'+' {
         return at + 1;
     }
     after_minus(s, at)
 }
 
 // Behind the digits before the point; the same place where there is none.
+#[tactic(auto, using(scan::proofs::Step::tests, scan::proofs::Fits::next_fits), unfolding(jsontext::specs::Token::int_at))]
 fn after_int(s: &[u8], at: usize) -> usize
     ensures { result ≡ int_at s.now at }
 {
-    let b = scan::byte_at(s, at);
-    if b == 0x30 {
+    if scan::byte_at(s, at) == b'0' {
         return at + 1;
     }
     digits_or(s, at, at)
 }
 
+#[tactic(auto, using(scan::proofs::Step::tests, scan::proofs::Fits::next_fits), unfolding(jsontext::specs::Token::frac_at))]
 fn after_frac(s: &[u8], at: usize) -> usize
     ensures { result ≡ frac_at s.now at }
 {
-    let b = scan::byte_at(s, at);
-    if b == 0x2E {
+    if scan::byte_at(s, at) == b'.' {
         return digits_or(s, at + 1, at);
     }
     at
 }
 
+#[tactic(auto, using(scan::proofs::Step::tests), unfolding(jsontext::specs::Token::is_e))]
 fn is_e(b: u8) -> bool
     ensures { result ≡ is_e b }
 {
-    if b == 0x65 {
-        return true;
-    }
-    b == 0x45
+    b == b'e' || b == b'E'
 }
 
+#[tactic(auto, unfolding(jsontext::specs::Token::exp_at))]
 fn after_exp(s: &[u8], at: usize) -> usize
     ensures { result ≡ exp_at s.now at }
 {
-    let b = scan::byte_at(s, at);
-    if is_e(b) {
-        let i = after_sign(s, at + 1);
-        return digits_or(s, i, at);
+    if is_e(scan::byte_at(s, at)) {
+        return digits_or(s, after_sign(s, at + 1), at);
     }
     at
 }
 
-impl Cursor {
-    // Behind the number: the longest prefix that is one.
-    pub fn number(self, s: &[u8]) -> Skip
-        ensures { skip_read result ≡ skip_number s.now self.at }
-    {
-        let at = self.at;
-        let i = after_minus(s, at);
-        let j = after_int(s, i);
-        if j == i {
-            return not_allowed(at);
-        }
-        let k = after_frac(s, j);
-        Skip::Past(Cursor {
-            at: after_exp(s, k),
-        })
+// Behind the number: the longest prefix that is one.
+#[tactic(auto, using(scan::proofs::Step::tests), unfolding(jsontext::specs::Token::skip_number, jsontext::specs::Token::unsigned_from, jsontext::specs::Token::number_from))]
+pub fn skip_number(s: &[u8], at: usize) -> Result<usize, Refusal>
+    ensures { skipped result ≡ skip_number s.now at }
+{
+    let i = after_minus(s, at);
+    let j = after_int(s, i);
+    if j == i {
+        return Err(not_allowed(at));
     }
+    Ok(after_exp(s, after_frac(s, j)))
 }
 
 // ---- values: a value calls the walk of an array or an object, which calls it again, with less depth and further on
 
-impl Cursor {
-    // Behind the value, in which at most `depth` arrays and objects stand inside one another.
-    #[cycle(skip_item_skip_member_skip_value_skip_walk)]
-    pub fn skip_value(self, s: &[u8], depth: usize) -> Skip
-        ensures { skip_read result ≡ value_at depth s.now self.at }
-    {
-        let at = self.at;
-        let b = scan::byte_at(s, at);
-        if b == 0x22 {
-            let t = jsonstring::Cursor { at }.string(s);
-            return match t {
-                StringRead::Text(_, next) => Skip::Past(Cursor { at: next.at }),
-                StringRead::Refused(why) => Skip::Refused(why),
-            };
+// Behind the value, in which at most `depth` arrays and objects stand inside one another.
+#[tactic(auto, using(scan::proofs::Step::tests, jsontext::proofs::ValueComplete::value_open), unfolding(jsontext::specs::Value::skip_value_by))]
+#[cycle(skip_item_skip_member_skip_value_skip_walk)]
+pub fn skip_value(s: &[u8], at: usize, depth: usize) -> Result<usize, Refusal>
+    ensures { skipped result ≡ value_at depth s.now at }
+{
+    match scan::byte_at(s, at) {
+        b'"' => {
+            let (_, next) = jsonstring::read_string(s, at)?;
+            Ok(next)
         }
-        if b == 0x7B {
-            return self.skip_walk(s, depth, 0x7D);
-        }
-        if b == 0x5B {
-            return self.skip_walk(s, depth, 0x5D);
-        }
-        if b == 0x74 {
-            return self.word(b"true", s);
-        }
-        if b == 0x66 {
-            return self.word(b"false", s);
-        }
-        if b == 0x6E {
-            return self.word(b"null", s);
-        }
-        self.number(s)
+        b'{' => skip_walk(s, at, depth, b'}'),
+        b'[' => skip_walk(s, at, depth, b']'),
+        b't' => skip_word(b"true", s, at),
+        b'f' => skip_word(b"false", s, at),
+        b'n' => skip_word(b"null", s, at),
+        _ => skip_number(s, at),
     }
+}
 
-    // Behind the array or the object whose opening bracket stands at the cursor, and which `close` closes.
-    #[cycle(skip_item_skip_member_skip_value_skip_walk)]
-    fn skip_walk(self, s: &[u8], depth: usize, close: u8) -> Skip
-        requires at_in_bounds { self.at < length s.now }
-        requires close_nonzero { 0 < close }
-        ensures { skip_read result ≡ skip_walk depth close s.now self.at }
-    {
-        let at = self.at;
-        if depth == 0 {
-            return Skip::Refused(Refusal {
-                number: event::TOO_DEEP,
-                place: at,
-            });
-        }
-        let first = Cursor { at: at + 1 }.skip_space(s);
-        let mut i = first.at;
-        if scan::byte_at(s, i) == close {
-            return Skip::Past(Cursor { at: i + 1 });
-        }
-        loop {
-            let read = Cursor { at: i }.skip_item(s, depth - 1, close);
-            let Skip::Past(next) = read else {
-                return read;
-            };
-            let behind = next.skip_space(s);
-            let p = behind.at;
-            let b = scan::byte_at(s, p);
-            if b == close {
-                return Skip::Past(Cursor { at: p + 1 });
-            }
-            if b != 0x2C {
-                return not_allowed(p);
-            }
-            let again = Cursor { at: p + 1 }.skip_space(s);
-            i = again.at;
-        }
+// Behind the array or the object whose opening bracket stands at a place, and which `close` closes.
+#[tactic(auto, using(crate::proofs::Walk::walks))]
+#[cycle(skip_item_skip_member_skip_value_skip_walk)]
+fn skip_walk(s: &[u8], at: usize, depth: usize, close: u8) -> Result<usize, Refusal>
+    requires at_in_bounds { at < length s.now }
+    requires close_nonzero { 0 < close }
+    ensures { skipped result ≡ skip_walk depth close s.now at }
+{
+    if depth == 0 {
+        return Err(Refusal {
+            reason: Reason::TooDeep,
+            place: at,
+        });
     }
+    let mut i = skip_space(s, at + 1);
+    if scan::byte_at(s, i) == close {
+        return Ok(i + 1);
+    }
+    // a place: the bracket behind an item says that it is the last
+    loop {
+        let next = skip_item(s, i, depth - 1, close)?;
+        let p = skip_space(s, next);
+        let b = scan::byte_at(s, p);
+        if b == close {
+            return Ok(p + 1);
+        }
+        if b != b',' {
+            return Err(not_allowed(p));
+        }
+        i = skip_space(s, p + 1);
+    }
+}
 
-    // Behind a member of an object or a value of an array.
-    #[cycle(skip_item_skip_member_skip_value_skip_walk)]
-    fn skip_item(self, s: &[u8], depth: usize, close: u8) -> Skip
-        ensures { skip_read result ≡ skip_item close (value_at depth s.now) s.now self.at }
-    {
-        if close == 0x7D {
-            return self.skip_member(s, depth);
-        }
-        self.skip_value(s, depth)
+// Behind a member of an object or a value of an array.
+#[tactic(auto, using(scan::proofs::Step::tests), unfolding(jsontext::specs::Value::skip_item))]
+#[cycle(skip_item_skip_member_skip_value_skip_walk)]
+fn skip_item(s: &[u8], at: usize, depth: usize, close: u8) -> Result<usize, Refusal>
+    ensures { skipped result ≡ skip_item close (value_at depth s.now) s.now at }
+{
+    if close == b'}' {
+        return skip_member(s, at, depth);
     }
+    skip_value(s, at, depth)
+}
 
-    // Behind a name, a colon and a value.
-    #[cycle(skip_item_skip_member_skip_value_skip_walk)]
-    fn skip_member(self, s: &[u8], depth: usize) -> Skip
-        ensures { skip_read result ≡ skip_member (value_at depth s.now) s.now self.at }
-    {
-        let at = self.at;
-        let name = jsonstring::Cursor { at }.string(s);
-        match name {
-            StringRead::Text(_, next) => {
-                let behind = Cursor { at: next.at }.skip_space(s);
-                let p = behind.at;
-                let b = scan::byte_at(s, p);
-                if b == 0x3A {
-                    let first = Cursor { at: p + 1 }.skip_space(s);
-                    return first.skip_value(s, depth);
-                }
-                not_allowed(p)
-            }
-            StringRead::Refused(why) => Skip::Refused(why),
-        }
+// Behind a name, a colon and a value.
+#[tactic(auto, using(scan::proofs::Step::tests), unfolding(jsontext::specs::Value::skip_member, jsontext::specs::Value::skip_colon))]
+#[cycle(skip_item_skip_member_skip_value_skip_walk)]
+fn skip_member(s: &[u8], at: usize, depth: usize) -> Result<usize, Refusal>
+    ensures { skipped result ≡ skip_member (value_at depth s.now) s.now at }
+{
+    let (_, next) = jsonstring::read_string(s, at)?;
+    let p = skip_space(s, next);
+    if scan::byte_at(s, p) != b':' {
+        return Err(not_allowed(p));
     }
+    skip_value(s, skip_space(s, p + 1), depth)
 }

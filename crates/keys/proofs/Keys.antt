@@ -2,6 +2,7 @@
 -- Tag by tag; `d` is never the text of raw bytes, whose hex has an even length.
 use Prim.Native.Nat.{ℕ, zero, suc}
 use mathlib.Core.Path.{◌≡◌, refl, sym, ap, ◌∙◌}
+use Rattle.std.specs.Prelude.{Option, Some, None}
 use mathlib.Core.Bool.{Bool, true, false}
 use mathlib.Core.List.{List, []}
 use native.Mathlib.Omega.{arith}
@@ -21,8 +22,7 @@ use Rattle.notepack.specs.inner.Again.{part_again, count_again, texts_again, tex
 use Rattle.notepack.proofs.Walking.{text_raw, text_plain}
 use Rattle.notepack.proofs.Viewing.{Numbered}
 use Rattle.notepack.proofs.Again.{tags_again_lem}
-use Rattle.keys.specs.declared.KeyRead.{KeyRead}
-use Rattle.keys.specs.declared.KeyRead.TheVariants.{Keyed, Keyless}
+use Rattle.keys.specs.declared.KeyPlace.{KeyPlace}
 use Rattle.keys.specs.Key as key
 use Rattle.keys.specs.Key.{is_replaceable, is_labelled, isDTag, second_text, label_of, key_for, key_of}
 use Rattle.keys.specs.inner.Place.{empty_part, is_d, second_at, label_at, key_at, key_there}
@@ -41,7 +41,7 @@ module _ (s : List ℕ) where
       by_raw false e =
           ap (λ (r : Bool). pick r false (same_bytes (bytes_of s p) (ascii "d"))) e ∙ sym (ap (λ (l : List ℕ). same_bytes l (ascii "d")) (text_plain s p e))
 
-  pick_there : (t : Bool) (x y : KeyRead) → key_there s (pick t x y) ≡ pick t (key_there s x) (key_there s y)
+  pick_there : (t : Bool) (x y : Option KeyPlace) → key_there s (pick t x y) ≡ pick t (key_there s x) (key_there s y)
   pick_there true x y = refl
   pick_there false x y = refl
 
@@ -79,7 +79,7 @@ module _ (s : List ℕ) where
   unfolding key_at key_for
   key_there_lem h =
       pick_there (is_replaceable h.kind) _ _
-      ∙ rw (pick_there (is_labelled h.kind) (Keyed (record { kind = h.kind; label = label_at h.tag_count s h.tags_at })) Keyless, label_there h.tag_count h.tags_at, empty_part_lem)
+      ∙ rw (pick_there (is_labelled h.kind) (Some (record { kind = h.kind; label = label_at h.tag_count s h.tags_at })) None, label_there h.tag_count h.tags_at, empty_part_lem)
 
   -- a replaceable kind's: no look at the tags
   pub replaceable-key

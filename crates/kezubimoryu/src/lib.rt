@@ -1,17 +1,15 @@
 // The C entries: thin and total over the crates below. Each takes numbers and byte buffers and answers two numbers.
-#![tactic(auto)]
+#![tactic(auto, using(crate::proofs::Itself::by_itself))]
 
-ghost use Rattle.std.specs.Prelude.{◌≡◌, true, false, length};
+ghost use Rattle.std.specs.Prelude.{ℕ, ◌≡◌, true, false, length};
 ghost use Rattle.scan.specs.Choice.{pick, and_then, shown};
 ghost use Rattle.event.specs.Answers.{two_numbers};
-ghost use Rattle.event.specs.inner.Told.{writing};
+ghost use Rattle.event.specs.inner.Told.{answer, number_of};
 ghost use Rattle.buffer.specs.Entry.{written, filled, writes, leaves};
 ghost use Rattle.notepack.specs.Strict.{pack};
 ghost use Rattle.notepack.specs.Unpack.{unpack};
-ghost use Rattle.notepack.specs.inner.Answers.{count_read};
 ghost use Rattle.elements.specs.Elements.{elements_told, elements_left};
 ghost use Rattle.strict.specs.Strict.{strict};
-ghost use Rattle.strict.specs.inner.Answers.{strict_read};
 ghost use Rattle.versioned.specs.Versioned.{given};
 ghost use Rattle.versioned.specs.Views.{numbers_given, texts_given, element_given};
 ghost use Rattle.versioned.specs.Moves.{versions, version_leaves, bares, bare_leaves};
@@ -27,38 +25,92 @@ ghost use Rattle.jsonevent.specs.Entries.{json_reads, json_leaves};
 ghost use Rattle.bothreaders.specs.Both.{both, both_first, both_second};
 ghost use Rattle.versionedrivals.specs.Rivals.{rivals_given};
 ghost use Rattle.table.specs.Offer.{outcome_of, cells_after};
-ghost use Rattle.tableoffer.specs.inner.Decision.{offering};
 ghost use Rattle.tablebytes.specs.Entries.{table_offer_of, bytes_after, table_slot, sized, zeroed};
 ghost use Rattle.sha256.specs.Pieces.{started};
 ghost use Rattle.sha256bytes.specs.StateBytes.{bytes_of_state, add_in, finish_in};
 ghost use Rattle.identity.specs.Identity.{belongs};
-ghost use Rattle.identity.specs.inner.Answers.{id_read};
 ghost use Rattle.kezubimoryu.specs.Entries.{is_bare, ok, yes_no, lent, kept_number, kept_answer, outcome_number, outcome_told};
+ghost use Rattle.kezubimoryu.specs.inner.Shown.{told_by};
 
 use archive::Outcome;
-use bothreaders::BothRead;
-use event::{Refusal, Writing};
-use identity::IdRead;
-use notepack::{CountRead, ElementRead, HeadRead};
-use pointread::OutlineRead;
-use rivals::{Kept, RivalsRead};
-use strict::StrictRead;
-use tableoffer::Offering;
-use tableslot::SlotRead;
+use event::Refusal;
+use rivals::{Kept, RefusedInput};
 
 // `kez_answer` of the header: refusal 0 and a value, or the number of refusal and its place.
 #[repr(C)]
-#[derive(Drop)]
+#[derive(Clone, Copy)]
 pub struct KezAnswer {
     pub refusal: u64,
     pub value: u64,
 }
 
+// What an entry shows, as the number that C gets.
+trait AsNumber {
+    ghost number: { Self → ℕ };
+
+    fn number(self) -> u64
+        ensures { result ≡ number self };
+}
+
+impl AsNumber for u64 {
+    ghost number = { λ n. n };
+
+    fn number(self) -> u64 {
+        self
+    }
+}
+
+// a length
+impl AsNumber for usize {
+    ghost number = { λ n. n };
+
+    fn number(self) -> u64 {
+        self as u64
+    }
+}
+
+// yes is 1, no is 0
+impl AsNumber for bool {
+    ghost number = { λ b. pick b 1 0 };
+
+    fn number(self) -> u64 {
+        u64::from(self)
+    }
+}
+
+// which record is kept: not rivals is 0, the first is 1, the second is 2
+impl AsNumber for Kept {
+    ghost number = { kept_number };
+
+    fn number(self) -> u64 {
+        match self {
+            Kept::NotRivals => 0,
+            Kept::First => 1,
+            Kept::Second => 2,
+        }
+    }
+}
+
+// what an offer comes to
+impl AsNumber for Outcome {
+    ghost number = { outcome_number };
+
+    fn number(self) -> u64 {
+        match self {
+            Outcome::New => 0,
+            Outcome::Replaced => 1,
+            Outcome::Loses => 2,
+            Outcome::Held => 3,
+            Outcome::NotKept => 4,
+        }
+    }
+}
+
 fn refused(r: Refusal) -> KezAnswer
-    ensures { result ≡ record { refusal = r.number; value = r.place } }
+    ensures { result ≡ record { refusal = number_of r.reason; value = r.place } }
 {
     KezAnswer {
-        refusal: r.number as u64,
+        refusal: u64::from(r.reason.number()),
         value: r.place as u64,
     }
 }
@@ -69,13 +121,13 @@ fn shown(value: u64) -> KezAnswer
     KezAnswer { refusal: 0, value }
 }
 
-// The length written, or the refusal.
-fn written(w: Writing) -> KezAnswer
-    ensures { (result.refusal, result.value) ≡ two_numbers (writing w) }
+// What was shown, or the refusal.
+fn told<T: AsNumber>(found: Result<T, Refusal>) -> KezAnswer
+    ensures { (result.refusal, result.value) ≡ two_numbers (told_by T.number (answer found)) }
 {
-    match w {
-        Writing::Written(n) => shown(n as u64),
-        Writing::Refused(r) => refused(r),
+    match found {
+        Ok(a) => shown(a.number()),
+        Err(r) => refused(r),
     }
 }
 
@@ -84,13 +136,6 @@ fn is_bare(bare: u64) -> bool
     ensures { result ≡ is_bare bare }
 {
     bare != 0
-}
-
-// A yes or no as 1 or 0.
-fn bit(b: bool) -> u64
-    ensures { result ≡ pick b 1 0 }
-{
-    if b { 1 } else { 0 }
 }
 
 #[unsafe(no_mangle)]
@@ -110,28 +155,16 @@ pub extern "C" fn kez_notepack_read(
     ensures content_len_after { content_len.new ≡ lent (numbers_given (is_bare bare) packed.now) (λ h. h.content.len) content_len.old }
     ensures tag_count_after { tag_count.new ≡ lent (numbers_given (is_bare bare) packed.now) (λ h. h.tag_count) tag_count.old }
 {
-    let found = versioned::read_packed(packed, is_bare(bare));
-    match found {
-        HeadRead::Found(h) => {
-            let content = h.content;
+    match versioned::read_packed(packed, is_bare(bare)) {
+        Ok(h) => {
             *created_at = h.created_at;
             *kind = h.kind;
-            *content_at = content.at as u64;
-            *content_len = content.len as u64;
+            *content_at = h.content.at as u64;
+            *content_len = h.content.len as u64;
             *tag_count = h.tag_count;
             shown(0)
         }
-        HeadRead::Refused(r) => refused(r),
-    }
-}
-
-// The strict question's answer: yes is 1, no is 0.
-fn strict_told(found: StrictRead) -> KezAnswer
-    ensures { (result.refusal, result.value) ≡ two_numbers (yes_no (strict_read found)) }
-{
-    match found {
-        StrictRead::Strict(b) => { shown(bit(b)) }
-        StrictRead::Refused(r) => refused(r),
+        Err(r) => refused(r),
     }
 }
 
@@ -139,7 +172,7 @@ fn strict_told(found: StrictRead) -> KezAnswer
 pub extern "C" fn kez_notepack_is_strict(packed: &[u8], bare: u64) -> KezAnswer
     ensures { (result.refusal, result.value) ≡ two_numbers (yes_no (given (is_bare bare) strict packed.now)) }
 {
-    strict_told(eitherform::is_strict(packed, is_bare(bare)))
+    told(eitherform::is_strict(packed, is_bare(bare)))
 }
 
 #[unsafe(no_mangle)]
@@ -147,24 +180,14 @@ pub extern "C" fn kez_notepack_write(packed: &[u8], bare: u64, out: &mut [u8]) -
     ensures value_value { (result.refusal, result.value) ≡ two_numbers (writes pack (given (is_bare bare) unpack packed.now) out.old) }
     ensures out_after { out.new ≡ leaves pack (given (is_bare bare) unpack packed.now) out.old }
 {
-    written(eitherform::write_strict(packed, is_bare(bare), out))
-}
-
-// How many, or the refusal.
-fn counted(found: CountRead) -> KezAnswer
-    ensures { (result.refusal, result.value) ≡ two_numbers (count_read found) }
-{
-    match found {
-        CountRead::Count(n) => shown(n),
-        CountRead::Refused(r) => refused(r),
-    }
+    told(eitherform::write_strict(packed, is_bare(bare), out))
 }
 
 #[unsafe(no_mangle)]
 pub extern "C" fn kez_notepack_tag_len(packed: &[u8], bare: u64, tag: u64) -> KezAnswer
     ensures { (result.refusal, result.value) ≡ two_numbers (texts_given (is_bare bare) tag packed.now) }
 {
-    counted(versioned::texts_in(packed, is_bare(bare), tag))
+    told(versioned::texts_in(packed, is_bare(bare), tag))
 }
 
 #[unsafe(no_mangle)]
@@ -182,15 +205,14 @@ pub extern "C" fn kez_notepack_element(
     ensures len_after { len.new ≡ lent (element_given (is_bare bare) tag element packed.now) (λ p. p.len) len.old }
     ensures is_bytes_after { is_bytes.new ≡ lent (element_given (is_bare bare) tag element packed.now) (λ p. pick p.raw 1 0) is_bytes.old }
 {
-    let found = versioned::find_element(packed, is_bare(bare), tag, element);
-    match found {
-        ElementRead::Found(p) => {
+    match versioned::find_element(packed, is_bare(bare), tag, element) {
+        Ok(p) => {
             *at = p.at as u64;
             *len = p.len as u64;
-            *is_bytes = bit(p.raw);
+            *is_bytes = u64::from(p.raw);
             shown(0)
         }
-        ElementRead::Refused(r) => refused(r),
+        Err(r) => refused(r),
     }
 }
 
@@ -199,7 +221,7 @@ pub extern "C" fn kez_notepack_string_write(packed: &[u8], bare: u64, out: &mut 
     ensures value_value { (result.refusal, result.value) ≡ two_numbers (writes (event_string (is_bare bare)) (given (is_bare bare) unpack packed.now) out.old) }
     ensures out_after { out.new ≡ leaves (event_string (is_bare bare)) (given (is_bare bare) unpack packed.now) out.old }
 {
-    written(stringform::write_string(packed, is_bare(bare), out))
+    told(stringform::write_string(packed, is_bare(bare), out))
 }
 
 #[unsafe(no_mangle)]
@@ -207,7 +229,7 @@ pub extern "C" fn kez_notepack_string_read(text: &[u8], out: &mut [u8]) -> KezAn
     ensures value_value { (result.refusal, result.value) ≡ two_numbers (writes itself (read_string true text.now) out.old) }
     ensures out_after { out.new ≡ leaves itself (read_string true text.now) out.old }
 {
-    written(stringform::read_string(text, true, out))
+    told(stringform::read_string(text, true, out))
 }
 
 // The string form of the versioned form.
@@ -216,7 +238,7 @@ pub extern "C" fn kez_notepack_string_read_versioned(text: &[u8], out: &mut [u8]
     ensures value_value { (result.refusal, result.value) ≡ two_numbers (writes itself (read_string false text.now) out.old) }
     ensures out_after { out.new ≡ leaves itself (read_string false text.now) out.old }
 {
-    written(stringform::read_string(text, false, out))
+    told(stringform::read_string(text, false, out))
 }
 
 #[unsafe(no_mangle)]
@@ -224,7 +246,7 @@ pub extern "C" fn kez_versioned_from_bare(packed: &[u8], out: &mut [u8]) -> KezA
     ensures value_value { (result.refusal, result.value) ≡ two_numbers (versions packed.now out.old) }
     ensures out_after { out.new ≡ version_leaves packed.now out.old }
 {
-    written(versioned::to_versioned(packed, out))
+    told(versioned::to_versioned(packed, out))
 }
 
 #[unsafe(no_mangle)]
@@ -232,7 +254,7 @@ pub extern "C" fn kez_bare_from_versioned(packed: &[u8], out: &mut [u8]) -> KezA
     ensures value_value { (result.refusal, result.value) ≡ two_numbers (bares packed.now out.old) }
     ensures out_after { out.new ≡ bare_leaves packed.now out.old }
 {
-    written(versioned::to_bare(packed, out))
+    told(versioned::to_bare(packed, out))
 }
 
 #[unsafe(no_mangle)]
@@ -240,7 +262,7 @@ pub extern "C" fn kez_canonical_write(packed: &[u8], bare: u64, out: &mut [u8]) 
     ensures value_value { (result.refusal, result.value) ≡ two_numbers (writes canonical (given (is_bare bare) unpack packed.now) out.old) }
     ensures out_after { out.new ≡ leaves canonical (given (is_bare bare) unpack packed.now) out.old }
 {
-    written(eitherform::write_canonical(packed, is_bare(bare), out))
+    told(eitherform::write_canonical(packed, is_bare(bare), out))
 }
 
 #[unsafe(no_mangle)]
@@ -248,7 +270,7 @@ pub extern "C" fn kez_nson_write(packed: &[u8], bare: u64, out: &mut [u8]) -> Ke
     ensures value_value { (result.refusal, result.value) ≡ two_numbers (writes nson (carried (given (is_bare bare) unpack packed.now)) out.old) }
     ensures out_after { out.new ≡ leaves nson (carried (given (is_bare bare) unpack packed.now)) out.old }
 {
-    written(eitherform::write_nson(packed, is_bare(bare), out))
+    told(eitherform::write_nson(packed, is_bare(bare), out))
 }
 
 #[unsafe(no_mangle)]
@@ -256,7 +278,7 @@ pub extern "C" fn kez_nson_read(text: &[u8], out: &mut [u8]) -> KezAnswer
     ensures value_value { (result.refusal, result.value) ≡ two_numbers (nson_reads text.now out.old) }
     ensures out_after { out.new ≡ nson_leaves text.now out.old }
 {
-    written(nsonread::read_nson(text, out))
+    told(nsonread::read_nson(text, out))
 }
 
 #[unsafe(no_mangle)]
@@ -264,7 +286,7 @@ pub extern "C" fn kez_json_read(text: &[u8], out: &mut [u8]) -> KezAnswer
     ensures value_value { (result.refusal, result.value) ≡ two_numbers (json_reads text.now out.old) }
     ensures out_after { out.new ≡ json_leaves text.now out.old }
 {
-    written(jsonread::read_json(text, out))
+    told(jsonread::read_json(text, out))
 }
 
 // The plain JSON reader's refusal; else 1 where it alone shows the event, 2 where the NSON reader shows it too.
@@ -280,28 +302,12 @@ pub extern "C" fn kez_read_both(
     ensures first_after { first.new ≡ both_first text.now first.old second.old }
     ensures second_after { second.new ≡ both_second text.now first.old second.old }
 {
-    let done = bothreaders::read_both(text, first, second);
-    match done {
-        BothRead::JsonAlone(n) => {
+    match bothreaders::read_both(text, first, second) {
+        Ok((which, n)) => {
             *written = n as u64;
-            shown(1)
+            shown(which as u64)
         }
-        BothRead::Same(n) => {
-            *written = n as u64;
-            shown(2)
-        }
-        BothRead::Refused(r) => refused(r),
-    }
-}
-
-// Not rivals is 0, the first is 1, the second is 2.
-fn kept_number(k: Kept) -> u64
-    ensures { result ≡ kept_number k }
-{
-    match k {
-        Kept::First => 1,
-        Kept::Second => 2,
-        Kept::NotRivals => 0,
+        Err(r) => refused(r),
     }
 }
 
@@ -315,7 +321,7 @@ pub extern "C" fn kez_notepack_elements(
     ensures value_value { (result.refusal, result.value) ≡ two_numbers (elements_told (is_bare bare) first packed.now out.old) }
     ensures out_after { out.new ≡ elements_left (is_bare bare) first packed.now out.old }
 {
-    written(elements::list_elements(packed, is_bare(bare), first, out))
+    told(elements::list_elements(packed, is_bare(bare), first, out))
 }
 
 #[unsafe(no_mangle)]
@@ -327,11 +333,9 @@ pub extern "C" fn kez_rivals(
 ) -> KezAnswer
     ensures { (result.refusal, result.value) ≡ two_numbers (kept_answer (rivals_given first.now (is_bare first_bare) second.now (is_bare second_bare))) }
 {
-    let found = versionedrivals::compare(first, is_bare(first_bare), second, is_bare(second_bare));
-    match found {
-        RivalsRead::Told(k) => shown(kept_number(k)),
-        RivalsRead::FirstRefused(r) => refused(r),
-        RivalsRead::SecondRefused(r) => refused(r),
+    match versionedrivals::compare(first, is_bare(first_bare), second, is_bare(second_bare)) {
+        Ok(k) => shown(k.number()),
+        Err(RefusedInput::First(r) | RefusedInput::Second(r)) => refused(r),
     }
 }
 
@@ -340,7 +344,7 @@ pub extern "C" fn kez_sha256_start(state: &mut [u8]) -> KezAnswer
     ensures value_value { (result.refusal, result.value) ≡ two_numbers (written (bytes_of_state started) state.old) }
     ensures state_after { state.new ≡ filled (bytes_of_state started) state.old }
 {
-    written(sha256bytes::start_in(state))
+    told(sha256bytes::start_in(state))
 }
 
 #[unsafe(no_mangle)]
@@ -348,7 +352,7 @@ pub extern "C" fn kez_sha256_add(state: &mut [u8], piece: &[u8]) -> KezAnswer
     ensures value_value { (result.refusal, result.value) ≡ two_numbers (writes bytes_of_state (add_in state.old piece.now) state.old) }
     ensures state_after { state.new ≡ leaves bytes_of_state (add_in state.old piece.now) state.old }
 {
-    written(sha256bytes::add_in(state, piece))
+    told(sha256bytes::add_in(state, piece))
 }
 
 #[unsafe(no_mangle)]
@@ -356,17 +360,7 @@ pub extern "C" fn kez_sha256_finish(state: &[u8], out: &mut [u8]) -> KezAnswer
     ensures value_value { (result.refusal, result.value) ≡ two_numbers (writes itself (finish_in state.now) out.old) }
     ensures out_after { out.new ≡ leaves itself (finish_in state.now) out.old }
 {
-    written(sha256bytes::finish_in(state, out))
-}
-
-// The id question's answer: yes is 1, no is 0.
-fn id_told(found: IdRead) -> KezAnswer
-    ensures { (result.refusal, result.value) ≡ two_numbers (yes_no (id_read found)) }
-{
-    match found {
-        IdRead::Belongs(b) => { shown(bit(b)) }
-        IdRead::Refused(r) => refused(r),
-    }
+    told(sha256bytes::finish_in(state, out))
 }
 
 // Whether the id is the SHA-256 of the canonical text.
@@ -374,7 +368,7 @@ fn id_told(found: IdRead) -> KezAnswer
 pub extern "C" fn kez_id_belongs(packed: &[u8], bare: u64) -> KezAnswer
     ensures { (result.refusal, result.value) ≡ two_numbers (yes_no (given (is_bare bare) belongs packed.now)) }
 {
-    id_told(eitherform::id_belongs(packed, is_bare(bare)))
+    told(eitherform::id_belongs(packed, is_bare(bare)))
 }
 
 // What a pointer form shows. The milliseconds are the word that stands there, in two's complement.
@@ -396,19 +390,17 @@ pub extern "C" fn kez_pointer_read(
     ensures content_len_after { content_len.new ≡ lent (form_at bytes.now) (λ f. f.content.len) content_len.old }
     ensures tag_count_after { tag_count.new ≡ lent (form_at bytes.now) (λ f. length f.tags) tag_count.old }
 {
-    let found = pointread::read_form(bytes);
-    match found {
-        OutlineRead::Found(f) => {
-            let content = f.content;
-            *version = f.version;
+    match pointread::read_form(bytes) {
+        Ok(f) => {
+            *version = f.version.number();
             *kind = f.kind;
             *milliseconds = moment::word_of(f.time);
-            *content_at = content.at as u64;
-            *content_len = content.len as u64;
+            *content_at = f.content.at as u64;
+            *content_len = f.content.len as u64;
             *tag_count = f.tag_count;
             shown(0)
         }
-        OutlineRead::Refused(r) => refused(r),
+        Err(r) => refused(r),
     }
 }
 
@@ -416,7 +408,7 @@ pub extern "C" fn kez_pointer_read(
 pub extern "C" fn kez_pointer_tag_len(bytes: &[u8], tag: u64) -> KezAnswer
     ensures { (result.refusal, result.value) ≡ two_numbers (pointer_texts tag bytes.now) }
 {
-    counted(pointread::texts_in(bytes, tag))
+    told(pointread::texts_in(bytes, tag))
 }
 
 #[unsafe(no_mangle)]
@@ -431,14 +423,13 @@ pub extern "C" fn kez_pointer_element(
     ensures at_after { at.new ≡ lent (pointer_element tag element bytes.now) (λ p. p.at) at.old }
     ensures len_after { len.new ≡ lent (pointer_element tag element bytes.now) (λ p. p.len) len.old }
 {
-    let found = pointread::find_element(bytes, tag, element);
-    match found {
-        ElementRead::Found(p) => {
+    match pointread::find_element(bytes, tag, element) {
+        Ok(p) => {
             *at = p.at as u64;
             *len = p.len as u64;
             shown(0)
         }
-        ElementRead::Refused(r) => refused(r),
+        Err(r) => refused(r),
     }
 }
 
@@ -447,7 +438,7 @@ pub extern "C" fn kez_pointer_convert(bytes: &[u8], out: &mut [u8]) -> KezAnswer
     ensures value_value { (result.refusal, result.value) ≡ two_numbers (writes pack (convertible bytes.now) out.old) }
     ensures out_after { out.new ≡ leaves pack (convertible bytes.now) out.old }
 {
-    written(pointconvert::convert(bytes, out))
+    told(pointconvert::convert(bytes, out))
 }
 
 #[unsafe(no_mangle)]
@@ -455,7 +446,7 @@ pub extern "C" fn kez_pointer_write(packed: &[u8], bare: u64, out: &mut [u8]) ->
     ensures value_value { (result.refusal, result.value) ≡ two_numbers (writes pointer_form (within65536 pointer_form (given (is_bare bare) unpack packed.now)) out.old) }
     ensures out_after { out.new ≡ leaves pointer_form (within65536 pointer_form (given (is_bare bare) unpack packed.now)) out.old }
 {
-    written(eitherform::write_pointer(packed, is_bare(bare), out))
+    told(eitherform::write_pointer(packed, is_bare(bare), out))
 }
 
 // The version as one number: 10,000 for a major one, 100 for a minor one, 1 for a patch.
@@ -466,35 +457,13 @@ pub extern "C" fn kez_version() -> u64
     1200
 }
 
-fn outcome_number(o: Outcome) -> u64
-    ensures { result ≡ outcome_number o }
-{
-    match o {
-        Outcome::New => 0,
-        Outcome::Replaced => 1,
-        Outcome::Loses => 2,
-        Outcome::Held => 3,
-        Outcome::NotKept => 4,
-    }
-}
-
-// What an offer comes to, or the refusal.
-fn offered(o: Offering) -> KezAnswer
-    ensures { (result.refusal, result.value) ≡ two_numbers (outcome_told (offering o)) }
-{
-    match o {
-        Offering::Told(r) => { shown(outcome_number(r)) }
-        Offering::Refused(r) => refused(r),
-    }
-}
-
 #[unsafe(no_mangle)]
 pub extern "C" fn kez_table_empty(slots: &mut [u8], cells: &mut [u8]) -> KezAnswer
     ensures value_value { (result.refusal, result.value) ≡ two_numbers (sized slots.old cells.old) }
     ensures slots_after { slots.new ≡ zeroed (sized slots.old cells.old) slots.old }
     ensures cells_after { cells.new ≡ zeroed (sized slots.old cells.old) cells.old }
 {
-    written(bytetable::empty(slots, cells))
+    told(bytetable::empty(slots, cells))
 }
 
 #[unsafe(no_mangle)]
@@ -508,7 +477,7 @@ pub extern "C" fn kez_table_offer(
     ensures slots_after { slots.new ≡ bytes_after (table_offer_of slots.old cells.old (given (is_bare bare) unpack packed.now)) slots.old }
     ensures cells_after { cells.new ≡ cells_after (table_offer_of slots.old cells.old (given (is_bare bare) unpack packed.now)) cells.old }
 {
-    offered(eitherform::offer(slots, cells, packed, is_bare(bare)))
+    told(eitherform::offer(slots, cells, packed, is_bare(bare)))
 }
 
 #[unsafe(no_mangle)]
@@ -523,13 +492,12 @@ pub extern "C" fn kez_table_slot(
     ensures at_after { at.new ≡ lent (table_slot slots.now cells.now n) (λ p. p.at) at.old }
     ensures len_after { len.new ≡ lent (table_slot slots.now cells.now n) (λ p. p.len) len.old }
 {
-    let found = bytetable::find_slot(slots, cells, n);
-    match found {
-        SlotRead::Found(place, bytes) => {
+    match bytetable::find_slot(slots, cells, n) {
+        Ok((place, bytes)) => {
             *at = place as u64;
             *len = bytes as u64;
             shown(0)
         }
-        SlotRead::Refused(r) => refused(r),
+        Err(r) => refused(r),
     }
 }

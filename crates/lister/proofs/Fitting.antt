@@ -18,11 +18,7 @@ use Rattle.buffer.proofs.Laws.{puts_eq}
 use Rattle.decimal.proofs.Spelling.{length_most, length_u64, length_u16}
 use Rattle.event.specs.Event.{Event}
 use Rattle.event.specs.inner.Tells.{among, Tells, refusal}
-use Rattle.event.specs.declared.Refusal.{Refusal}
 use Rattle.notepack.specs.declared.Head.{Head}
-use Rattle.notepack.specs.declared.HeadRead.{HeadRead}
-use Rattle.notepack.specs.declared.HeadRead.TheVariants as head-by
-use Rattle.notepack.specs.inner.Answers.{head_read}
 use Rattle.notepack.specs.inner.Numbers.{packed_numbers}
 use Rattle.notepack.specs.Views.{numbers_of, content_of, view}
 use Rattle.notepack.specs.Seen.{Seen}
@@ -106,18 +102,15 @@ stands_whole {d} {text} {d'} {r} w h =
 -- ---- what is printed, by what the reader told
 
 module _ {s d d' : List ℕ} {r : ℕ} (bytes : IsBytes s) (small : length s < 2 ^ 64) (room : 128 ≤ length d) where
-  pub lists_numbers : {f : HeadRead} {h : Head} → head_read f ≡ numbers_of s → f ≡ head-by.Found h → Wrote d 0 (numbers_text h) d' r
-      → (r ≡ length (listing (numbers_of s))) × (take r d' ≡ listing (numbers_of s))
-  unfolding listing
-  lists_numbers {f} {h} e g w =
-      let same : listing (numbers_of s) ≡ numbers_text h = ap listing (sym e ∙ ap head_read g) in
-      let whole : Wrote d 0 (listing (numbers_of s)) d' r = rw same w in
+  lists : {text : List ℕ} → text ≡ listing (numbers_of s) → Wrote d 0 text d' r → (r ≡ length (listing (numbers_of s))) × (take r d' ≡ listing (numbers_of s))
+  lists e w =
+      let whole : Wrote d 0 (listing (numbers_of s)) d' r = rw (sym e) w in
       stands_whole whole (omega (arith, room, listing_fits s bytes small))
 
-  pub lists_refusal : {f : HeadRead} {k : Refusal} → head_read f ≡ numbers_of s → f ≡ head-by.Refused k → Wrote d 0 (refusal_text k.number k.place) d' r
-      → (r ≡ length (listing (numbers_of s))) × (take r d' ≡ listing (numbers_of s))
+  pub lists_numbers : {h : Head} → shown h ≡ numbers_of s → Wrote d 0 (numbers_text h) d' r → (r ≡ length (listing (numbers_of s))) × (take r d' ≡ listing (numbers_of s))
   unfolding listing
-  lists_refusal {f} {k} e g w =
-      let same : listing (numbers_of s) ≡ refusal_text k.number k.place = ap listing (sym e ∙ ap head_read g) in
-      let whole : Wrote d 0 (listing (numbers_of s)) d' r = rw same w in
-      stands_whole whole (omega (arith, room, listing_fits s bytes small))
+  lists_numbers e = lists (ap listing e)
+
+  pub lists_refusal : {n p : ℕ} → refused n p ≡ numbers_of s → Wrote d 0 (refusal_text n p) d' r → (r ≡ length (listing (numbers_of s))) × (take r d' ≡ listing (numbers_of s))
+  unfolding listing
+  lists_refusal e = lists (ap listing e)

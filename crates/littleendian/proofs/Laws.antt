@@ -1,14 +1,18 @@
 -- The laws of numbers as bytes: a number and its bytes determine each other, n bytes are a number below 256 ^ n.
 -- By induction on the bytes; each step is one division by 256.
 use Prim.Native.Nat.{ℕ, zero, suc, ◌+◌, ◌*◌, ◌-◌, ◌/◌, ◌%◌, ◌≤◌, ◌<◌, ◌^◌}
-use mathlib.Core.Path.{◌≡◌, refl, ap, ◌∙◌}
-use mathlib.Core.List.{List, [], ◌∷◌}
+use mathlib.Core.Path.{◌≡◌, refl, sym, ap, ◌∙◌}
+use mathlib.Core.List.{List, [], ◌∷◌, ◌++◌}
 use mathlib.Core.Logic.{dite}
-use native.Mathlib.Nat.{pow-succ'}
+use native.Mathlib.Nat.{pow-succ', zero-add, div-div-eq-div-mul}
 use native.Mathlib.Omega.{arith}
 use native.Mathlib.Decide.{dec_lt}
-use lib.ListN.{length, take, drop}
-use lib.Seq.{get_or-drop}
+use lib.ListN.{length, take, drop, replicate}
+use Rattle.std.specs.Int.{w64, from_le_bytes, to_le_bytes}
+use Rattle.buffer.proofs.Laws.{puts_eq, kept}
+use Rattle.buffer.specs.inner.Store.{Buffer, Wrote}
+use lib.Seq.{take_all}
+use Rattle.std.proofs.lemmas.List.{drop-replicate}
 use Rattle.scan.specs.Bytes.{none, also, IsBytes}
 use Rattle.scan.specs.Place.{byte_at}
 use Rattle.scan.proofs.Step.{rest_more, part_none, byte_none}
@@ -33,13 +37,25 @@ unfolding number_of
 number_eight s =
     omega (arith, number_one 7 s 0, number_one 6 s 1, number_one 5 s 2, number_one 4 s 3, number_one 3 s 4, number_one 2 s 5, number_one 1 s 6, number_one 0 s 7)
 
--- eight bytes from a place on
-pub number_eight_at : (s : List ℕ) (at : ℕ)
-    → number_of (take 8 (drop at s)) ≡ byte_at s at + 256 * (byte_at s (at + 1) + 256 * (byte_at s (at + 2) + 256 * (byte_at s (at + 3) + 256 * (byte_at s (at + 4) + 256 * (byte_at s (at + 5) + 256 * (byte_at s (at + 6) + 256 * (byte_at s (at + 7) + 256 * 0)))))))
-number_eight_at s at =
-    let z : at + 0 ≡ at = omega arith in
-    number_eight (drop at s)
-    ∙ rw (get_or-drop at s 0 0, get_or-drop at s 1 0, get_or-drop at s 2 0, get_or-drop at s 3 0, get_or-drop at s 4 0, get_or-drop at s 5 0, get_or-drop at s 6 0, get_or-drop at s 7 0, z)
+-- which are what the library reads of eight
+pub number_le : (s : List ℕ) → from_le_bytes w64 s ≡ number_of (take 8 s)
+number_le s = omega (arith, number_eight s)
+
+-- and those behind which zeros stand
+number_zeros : (s : List ℕ) (k : ℕ) → number_of (s ++ replicate k 0) ≡ number_of s
+unfolding number_of
+number_zeros [] zero = refl
+number_zeros [] (suc k) = omega (arith, number_zeros [] k)
+number_zeros (b ∷ s) k = ap (λ (n : ℕ). b + 256 * n) (number_zeros s k)
+
+-- fewer bytes, read with zeros behind them
+pub number_short : {s b : List ℕ} {r : ℕ} → length s < 8 → Wrote (replicate 8 0) 0 s b r → from_le_bytes w64 b ≡ number_of (take 8 s)
+number_short {s} {b} h w =
+    let zeros : List ℕ = replicate (8 - length s) 0 in
+    let put = puts_eq (replicate 8 0) 0 s (omega arith) in
+    let e : b ≡ s ++ zeros = ap (λ (c : Buffer). c.0) (w.is ∙ put) ∙ rw (drop-replicate, zero-add) refl in
+    let all : take 8 b ≡ s ++ zeros = take_all 8 b (omega (arith, kept w)) ∙ e in
+    number_le b ∙ ap number_of all ∙ number_zeros s (8 - length s) ∙ sym (ap number_of (take_all 8 s (omega arith)))
 
 -- so many bytes are a number below that power of 256: eight below 2 ^ 64, seven below 2 ^ 56
 pub number_most : (n : ℕ) (l : List ℕ) → IsBytes l → length l ≤ n → number_of l < 256 ^ n
@@ -61,6 +77,11 @@ unfolding low_first
 low_bytes zero v = none
 low_bytes (suc n) v = also {b = v % 256} (omega arith) (low_bytes n (v / 256))
 
+-- the library's bytes of a number of 64 bits
+pub low_le : (v : ℕ) → to_le_bytes w64 v ≡ low_first 8 v
+unfolding low_first
+low_le v = simp div-div-eq-div-mul
+
 -- ---- back again
 
 pub bytes_back : (l : List ℕ) → IsBytes l → low_first (length l) (number_of l) ≡ l
@@ -76,16 +97,12 @@ unfolding number_of low_first
 number_back zero v h = omega (arith, h)
 number_back (suc n) v h = rw (number_back n (v / 256) (omega (arith, h, pow-succ' 256 n))) (omega arith)
 
--- ---- the turns of the writer
+-- ---- the turns of the writer: k bytes of n are written
 
-pub low_more : (n v : ℕ) → 0 < n → low_first n v ≡ v % 256 ∷ low_first (n - 1) (v / 256)
+pub low_more : (n k v : ℕ) → k < n → low_first (n - k) v ≡ v % 256 ∷ low_first (n - (k + 1)) (v / 256)
 unfolding low_first
-low_more zero v h = absurd (omega arith)
-low_more (suc n) v h =
-    let e : n ≡ suc n - 1 = omega arith in
-    ap (λ (k : ℕ). v % 256 ∷ low_first k (v / 256)) e
+low_more n k v h = let e : n - k ≡ suc (n - (k + 1)) = omega arith in rw e
 
-pub low_none : (n v : ℕ) → n ≤ 0 → low_first n v ≡ []
+pub low_none : (n k v : ℕ) → n ≤ k → low_first (n - k) v ≡ []
 unfolding low_first
-low_none zero v h = refl
-low_none (suc n) v h = absurd (omega arith)
+low_none n k v h = let e : n - k ≡ 0 = omega arith in rw e

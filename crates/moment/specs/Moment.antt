@@ -1,11 +1,9 @@
 -- Unix seconds and signed milliseconds, and the way between them (rules 18). No other definition has the number 1,000
 -- for them. Assumes nothing.
-use Rattle.std.specs.Prelude.{ℕ, ◌*◌, ◌/◌, ◌%◌, ◌-◌, ℤ, pos, negsuc, ltb, eqb}
+use Rattle.std.specs.Prelude.{ℕ, ◌*◌, ◌/◌, ◌%◌, ◌-◌, ℤ, pos, negsuc, Option, Some, None, ltb, eqb}
 use Rattle.scan.specs.Choice.{pick}
-use Rattle.moment.specs.declared.SecondsRead.{SecondsRead}
-use Rattle.moment.specs.declared.SecondsRead.TheVariants as seconds-by
-use Rattle.moment.specs.declared.MillisRead.{MillisRead}
-use Rattle.moment.specs.declared.MillisRead.TheVariants as millis-by
+use Rattle.moment.specs.declared.Seconds.{Seconds}
+use Rattle.moment.specs.declared.Millis.{Millis}
 
 -- the signed number that a word of 64 bits spells in two's complement
 unfoldable pub signed_of : ℕ → ℤ
@@ -30,9 +28,9 @@ unfoldable pub seconds_of : ℤ → Second
 seconds_of (pos n) = pick (eqb (n % 1_000) 0) (whole (n / 1_000)) split
 seconds_of (negsuc n) = split
 
-abbrev pub seconds_read : SecondsRead → Second
-seconds_read (seconds-by.Whole s) = whole s.0
-seconds_read seconds-by.Split = split
+abbrev pub seconds_read : Option Seconds → Second
+seconds_read (Some s) = whole s.0
+seconds_read None = split
 
 -- milliseconds, or none: a number that no word of 64 bits spells
 pub data Milliseconds : Type 0 where
@@ -42,6 +40,6 @@ pub data Milliseconds : Type 0 where
 unfoldable pub millis_for : ℕ → Milliseconds
 millis_for n = pick (ltb (millis_of n) 9_223_372_036_854_775_808) (fitting (pos (millis_of n))) beyond
 
-abbrev pub millis_read : MillisRead → Milliseconds
-millis_read (millis-by.Fitting m) = fitting m.0
-millis_read millis-by.Beyond = beyond
+abbrev pub millis_read : Option Millis → Milliseconds
+millis_read (Some m) = fitting m.0
+millis_read None = beyond

@@ -1,5 +1,5 @@
-// Unix seconds and signed milliseconds: two types, and one function from each to the other. No other code has the number
-// 1,000 for them.
+// Unix seconds and signed milliseconds: two types, and one function from each to the other. No other code has the
+// number 1,000 for them.
 #![tactic(auto)]
 
 ghost use Rattle.std.specs.Prelude.{◌≡◌};
@@ -11,63 +11,36 @@ pub struct Seconds(pub u64);
 #[derive(Clone, Copy)]
 pub struct Millis(pub i64);
 
-#[derive(Drop)]
-pub enum SecondsRead {
-    Whole(Seconds),
-    Split,
-}
-
-#[derive(Drop)]
-pub enum MillisRead {
-    Fitting(Millis),
-    Beyond,
-}
-
 // The milliseconds that a word spells in two's complement.
+#[tactic(auto, unfolding(crate::specs::Moment::signed_of))]
 pub fn millis_of(word: u64) -> Millis
     ensures { result.0 ≡ signed_of word }
 {
-    if word < 9_223_372_036_854_775_808 {
-        return Millis(word as i64);
-    }
-    let below = (18_446_744_073_709_551_615 - word) as i64;
-    Millis(-1 - below)
+    Millis(word.cast_signed())
 }
 
 // And the word that spells milliseconds.
+#[tactic(auto, unfolding(crate::specs::Moment::word_of))]
 pub fn word_of(m: Millis) -> u64
     ensures { result ≡ word_of m.0 }
 {
-    let z = m.0;
-    if z < 0 {
-        let below = (-1 - z) as u64;
-        return 18_446_744_073_709_551_615 - below;
-    }
-    z as u64
+    m.0.cast_unsigned()
 }
 
 // The second that milliseconds say: whole, and not before 1970.
-pub fn to_seconds(m: Millis) -> SecondsRead
+#[tactic(auto, unfolding(crate::specs::Moment::seconds_of))]
+pub fn to_seconds(m: Millis) -> Option<Seconds>
     ensures { seconds_read result ≡ seconds_of m.0 }
 {
-    let z = m.0;
-    if z < 0 {
-        return SecondsRead::Split;
-    }
-    let n = z as u64;
-    if n % 1000 == 0 {
-        return SecondsRead::Whole(Seconds(n / 1000));
-    }
-    SecondsRead::Split
+    let n = u64::try_from(m.0).ok()?;
+    (n % 1000 == 0).then_some(Seconds(n / 1000))
 }
 
 // The milliseconds of a second, where they fit.
-pub fn to_millis(s: Seconds) -> MillisRead
+#[tactic(auto, unfolding(crate::specs::Moment::millis_for, crate::specs::Moment::millis_of))]
+pub fn to_millis(s: Seconds) -> Option<Millis>
     ensures { millis_read result ≡ millis_for s.0 }
 {
-    let n = s.0;
-    if n <= 9_223_372_036_854_775 {
-        return MillisRead::Fitting(Millis((1000 * n) as i64));
-    }
-    MillisRead::Beyond
+    let n = s.0.checked_mul(1000)?;
+    Some(Millis(i64::try_from(n).ok()?))
 }

@@ -8,13 +8,14 @@ use mathlib.Core.List.{List, [], ◌∷◌, map}
 use native.Mathlib.Numerals.{sub-one}
 use native.Mathlib.Omega.{arith}
 use lib.ListN.{length}
-use lib.Dec.{eqb}
-use borrow.Author.Tests.{le-leb}
-use Rattle.scan.specs.Choice.{pick, Answer, shown, refused, Read, many}
+use lib.Dec.{leb, eqb}
+use borrow.Author.Tests.{le-leb, leb-true}
+use Rattle.scan.specs.Choice.{pick, Answer, shown, refused, Read, and_then, many}
 use Rattle.scan.specs.inner.Otherwise.{or_else}
 use Rattle.scan.specs.Bytes.{IsBytes}
+use Rattle.scan.proofs.Step.{pick_by}
 use Rattle.scan.proofs.SpanLaws.{span_length, span_fits}
-use Rattle.scan.proofs.Reading.{Reads, read_same, shown_reads, shown_gives}
+use Rattle.scan.proofs.Reading.{read_same, shown_reads, shown_gives}
 use Rattle.scan.proofs.Many.{then_shown, many_apart}
 use Rattle.varint.specs.Varint.{varint_at}
 use Rattle.event.specs.Event.{Event}
@@ -25,7 +26,7 @@ use Rattle.notepack.specs.Strict.{pack}
 use Rattle.notepack.specs.inner.Tally.{hollow_tags, tally_of}
 use Rattle.notepack.specs.inner.Answers.{Walked, walk_at}
 use Rattle.notepack.proofs.Piece.{Piece}
-use Rattle.notepack.proofs.Sound.{Number, text_reads, sized_text, number_reads, head_gives, packed_gives, Shows, sound}
+use Rattle.notepack.proofs.Sound.{text_reads, sized_text, head_gives, packed_gives, Shows, sound}
 use Rattle.notepack.proofs.Walking.{walked_packed}
 use Rattle.notepack.proofs.Viewing.{packed_head_lem, packed_apart, tag_apart}
 
@@ -118,13 +119,19 @@ module _ (s : List ℕ) where
       rw (count_number at _ t.1, w.0, w.1, tags_again_lem n a.0.next a.1 a.3) (ap (map (map (text_of s))) (sym a.4))
 
   -- a tag has at most 255 texts
-  pub count_few : IsBytes s → (at : ℕ) → (count_again s at).value ≤ 255
-  unfolding count_again
-  count_few bytes at = go (number_at 255 8 s at) (number_reads s bytes 255 8 at)
+  pub count_most : (at : ℕ) → (count_again s at).value ≤ 255
+  unfolding count_again number_at
+  count_most at = go (varint_at s at)
     where
-      go : (r : Answer (Read ℕ)) → Reads (Number 255) s at r → (or_else (record { value = 0; next = at }) r (λ (n : Read ℕ). n)).value ≤ 255
-      go (shown v) g = (shown_reads g).1.within
-      go (refused n q) g = omega arith
+      value : Answer (Read ℕ) → ℕ
+      value r = (or_else (record { value = 0; next = at }) r (λ (n : Read ℕ). n)).value
+
+      go : (r : Answer (Read ℕ)) → value (and_then r (λ (n : Read ℕ). pick (leb n.value 255) (shown n) (refused 8 at))) ≤ 255
+      go (shown n) = pick_by (λ (x : Answer (Read ℕ)). value x ≤ 255) (leb n.value 255) (λ t. leb-true n.value 255 t) (λ f. omega arith)
+      go (refused n q) = omega arith
+
+  pub count_few : IsBytes s → (at : ℕ) → (count_again s at).value ≤ 255
+  count_few bytes at = count_most at
 
   -- ---- the whole
 
@@ -168,3 +175,9 @@ module _ (s : List ℕ) where
   accepted bytes w r e k =
       let p = walked_packed s w (sym e ∙ k) in
       subst (λ (v : Walked). Accepted v) (sym p.2) (packed_accepted bytes p.0 p.1)
+
+  -- What stands in front of its tags is within an event's bounds, and so is its length.
+  pub within : IsBytes s → {w : Walked} → shown w ≡ walk_at s
+      → (length s ≤ 65_536) × (w.head.tag_count ≤ 1_000) × (w.head.created_at ≤ 9_223_372_036_854_775)
+  unfolding event_again
+  within bytes {w} e = let g = accepted bytes w (shown w) e refl in (g.sound.short, g.few, g.sound.valid.time)

@@ -17,8 +17,7 @@ use Rattle.notepack.specs.declared.Part.{Part}
 use Rattle.notepack.specs.declared.Head.{Head}
 use Rattle.notepack.specs.Unpack.{element_at, elements_at, tag_count_at, tag_at, tags_standing, head_at, Packed, packed_at, text_of, event_of, unpack}
 use Rattle.notepack.specs.declared.Tally.{Tally}
-use Rattle.notepack.specs.inner.Tally.{pass_elements, pass_tags, tally_of}
-use Rattle.notepack.specs.inner.Answers.{Walked, walk_at}
+use Rattle.notepack.specs.inner.Tally.{pass_elements, pass_tags}
 use Rattle.notepack.specs.Views.{numbers_of, content_of, nth, tag_of, texts_in, element_of}
 use Rattle.notepack.specs.inner.Places.{tag_start, element_place}
 
@@ -125,15 +124,6 @@ element_place_lem i j s = go (packed_at s) refl
         (λ n. rw (le-ltb i p.head.tag_count (omega (arith, n)), nth_none i p.tags (omega (arith, n, c))))
 
 -- ---- the calls of the code
-
--- the numbers are those of the walk
-pub numbers_walked : (s : List ℕ) → numbers_of s ≡ and_then (walk_at s) (λ (w : Walked). shown w.head)
-unfolding numbers_of walk_at
-numbers_walked s = go (packed_at s)
-  where
-    go : (r : Answer Packed) → and_then r (λ (p : Packed). shown p.head) ≡ and_then (and_then {B = Walked} r (λ (p : Packed). shown (record { head = p.head; tally = tally_of s p }))) (λ (w : Walked). shown w.head)
-    go (shown p) = refl
-    go (refused n q) = refl
 
 pub content_numbers : (s : List ℕ) → content_of s ≡ and_then (numbers_of s) (λ (h : Head). shown h.content)
 unfolding numbers_of content_of

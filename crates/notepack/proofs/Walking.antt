@@ -16,27 +16,19 @@ use Rattle.scan.proofs.Reading.{shown_reads, shown_gives, read_same}
 use Rattle.scan.proofs.Many.{then_shown}
 use Rattle.varint.proofs.UlebLaws.{uleb_shortest}
 use Rattle.hexdigits.specs.Hex.{hexes}
-use Rattle.notepack.specs.declared.Cursor.{Cursor}
 use Rattle.notepack.specs.declared.Part.{Part}
 use Rattle.notepack.specs.declared.Head.{Head}
 use Rattle.notepack.specs.declared.Tally.{Tally}
-use Rattle.notepack.specs.declared.Pass.{Pass}
-use Rattle.notepack.specs.declared.Pass.TheVariants as pass-by
 use Rattle.notepack.specs.Strict.{pack_tags, pack}
 use Rattle.notepack.specs.Unpack.{bytes_of, text_of, tags_standing, head_at, Packed, packed_at, event_of, unpack}
 use Rattle.notepack.specs.inner.Tally.{hollow_tags, head_len, more, pass_tags, tally_of}
-use Rattle.notepack.specs.inner.Answers.{pass, Walked, walk_at}
+use Rattle.notepack.specs.inner.Answers.{Walked, walk_at}
 use Rattle.notepack.proofs.Sound.{Headed, sized_text, head_gives, tags_reads}
 
 -- an input over the limit is refused first of all
 pub walk_long : (s : List ℕ) → 65_536 < length s → refused 1 0 ≡ walk_at s
 unfolding walk_at packed_at
 walk_long s l = rw (lt-leb (length s) 65_536 l)
-
--- what stands in front of the tags is refused
-pub walk_front : (s : List ℕ) (r : Answer Head) (n q : ℕ) → length s ≤ 65_536 → r ≡ head_at s → r ≡ refused n q → refused n q ≡ walk_at s
-unfolding walk_at packed_at
-walk_front s r n q l e k = rw (le-leb (length s) 65_536 l, sym e ∙ k)
 
 module _ (s : List ℕ) (bytes : IsBytes s) (h : Head) (found : head_at s ≡ shown h) where
   headed : Headed s bytes h
@@ -97,9 +89,9 @@ module _ (s : List ℕ) (bytes : IsBytes s) (h : Head) (found : head_at s ≡ sh
       → u ≡ tally_of s (record { head = h; tags = ts })
   tally_of_lem ts u n m = m ∙ λ i. record { len = sym (pack_length ts n) i; hollow = hollow_tags ts }
 
-  module _ (short : length s ≤ 65_536) (len : ℕ) (measured : len ≡ head_len h) (f : Pass)
-      (passed : pass f ≡ and_then (tags_standing h.tag_count s h.tags_at) (pass_tags s (record { len = len; hollow = false }))) where
-    told_tags : (u : Tally) (a : ℕ) → pass f ≡ read u a
+  module _ (short : length s ≤ 65_536) (len : ℕ) (measured : len ≡ head_len h) (f : Answer (Read Tally))
+      (passed : f ≡ and_then (tags_standing h.tag_count s h.tags_at) (pass_tags s (record { len = len; hollow = false }))) where
+    told_tags : (u : Tally) (a : ℕ) → f ≡ read u a
         → (ts : List (List Part)) × (tags_standing h.tag_count s h.tags_at ≡ read ts a) × (u ≡ tally_of s (record { head = h; tags = ts }))
     told_tags u a k = go (tags_told front u a (tags_standing h.tag_count s h.tags_at) (sym k ∙ passed ∙ ap (λ (n : ℕ). and_then (tags_standing h.tag_count s h.tags_at) (pass_tags s (record { len = n; hollow = false }))) measured))
       where
@@ -109,21 +101,21 @@ module _ (s : List ℕ) (bytes : IsBytes s) (h : Head) (found : head_at s ≡ sh
             let g = shown_reads (rw r.1 at (tags_reads s bytes h.tag_count h.tags_at)) in
             (r.0, r.1, tally_of_lem r.0 u g.1.count r.2)
 
-    pub walk_done : (u : Tally) (c : Cursor) → f ≡ pass-by.Done u c → c.at ≡ length s → shown (record { head = h; tally = u }) ≡ walk_at s
+    pub walk_done : (u : Tally) (end : ℕ) → f ≡ read u end → end ≡ length s → shown (record { head = h; tally = u }) ≡ walk_at s
     unfolding walk_at packed_at
-    walk_done u c k e = go (told_tags u c.at (ap pass k))
+    walk_done u end k e = go (told_tags u end k)
       where
-        go : ((ts : List (List Part)) × (tags_standing h.tag_count s h.tags_at ≡ read ts c.at) × (u ≡ tally_of s (record { head = h; tags = ts })))
+        go : ((ts : List (List Part)) × (tags_standing h.tag_count s h.tags_at ≡ read ts end) × (u ≡ tally_of s (record { head = h; tags = ts })))
             → shown (record { head = h; tally = u }) ≡ walk_at s
-        go r = rw (le-leb (length s) 65_536 short, found, r.1, eq-eqb c.at (length s) e, r.2)
+        go r = rw (le-leb (length s) 65_536 short, found, r.1, eq-eqb end (length s) e, r.2)
 
-    pub walk_after : (u : Tally) (c : Cursor) → f ≡ pass-by.Done u c → (c.at ≡ length s → ⊥) → refused 10 c.at ≡ walk_at s
+    pub walk_after : (u : Tally) (end : ℕ) → f ≡ read u end → (end ≡ length s → ⊥) → refused 10 end ≡ walk_at s
     unfolding walk_at packed_at
-    walk_after u c k n =
-        let r = told_tags u c.at (ap pass k) in
-        rw (le-leb (length s) 65_536 short, found, r.1, ne_eqb c.at (length s) n)
+    walk_after u end k n =
+        let r = told_tags u end k in
+        rw (le-leb (length s) 65_536 short, found, r.1, ne_eqb end (length s) n)
 
-    pub walk_refused : (n q : ℕ) → pass f ≡ refused n q → refused n q ≡ walk_at s
+    pub walk_refused : (n q : ℕ) → f ≡ refused n q → refused n q ≡ walk_at s
     unfolding walk_at packed_at
     walk_refused n q k = rw (le-leb (length s) 65_536 short, found) (go (tags_standing h.tag_count s h.tags_at) (sym k ∙ passed))
       where

@@ -3,3 +3,4 @@ pub mod Answers
 pub mod Tally
 pub mod Places
 pub mod Numbers
+pub mod Passed

@@ -10,16 +10,10 @@ ghost use Rattle.notepack.specs.inner.Again.{element_part_at, part_again, count_
 ghost use Rattle.notepack.specs.inner.Tally.{head_len, is_hollow, more, pass_elements, pass_tag, pass_tags};
 ghost use Rattle.notepack.specs.Views.{numbers_of, texts_in, element_of, view, content_of};
 ghost use Rattle.notepack.specs.inner.Places.{tag_start, element_place};
-ghost use Rattle.notepack.specs.inner.Answers.{count_read, element_read, part_read, number_read, pass, head_read, walk, walk_at};
+ghost use Rattle.event.specs.inner.Told.{answer, read_answer, number_of};
+ghost use Rattle.notepack.specs.inner.Answers.{walk, walk_at};
 
-use event::Refusal;
-use varint::VarintRead;
-
-// A place in the input. A cursor past the end reads as the end.
-#[derive(Clone, Copy)]
-pub struct Cursor {
-    pub at: usize,
-}
+use event::{Reason, Refusal};
 
 // A part of the input: raw bytes, whose text is their lowercase hex, or a text itself.
 #[derive(Clone, Copy)]
@@ -40,278 +34,175 @@ pub struct Head {
 }
 
 // The strict length of what was read so far, and whether an element was raw and empty.
-// Where one comes from a call it is taken field by field: a copy of the whole, padding and all, waits for the stores
-// before it.
-#[derive(Drop)]
+#[derive(Clone, Copy)]
 pub struct Tally {
     pub len: usize,
     pub hollow: bool,
 }
 
-#[derive(Drop)]
-pub enum PartRead {
-    Found(Part, Cursor),
-    Refused(Refusal),
+// How far a pass is: the tally of what was passed over, and the place behind it. The strict form is never longer than
+// what was read.
+#[derive(Clone, Copy)]
+struct Passed {
+    tally: Tally,
+    at: usize,
+    ghost len_bound: { tally.len ≤ at },
 }
 
-#[derive(Drop)]
-pub enum NumberRead {
-    Number(u64, Cursor),
-    Refused(Refusal),
-}
+// What is read at a place is told with the place behind it.
 
-// A number and the cursor behind it.
-#[derive(Drop)]
-struct Counted {
+// n bytes. A length beyond the rest is refused at the place of that length.
+#[tactic(auto, unfolding(crate::specs::Unpack::payload_at))]
+fn read_payload(
+    s: &[u8],
+    at: usize,
+    place: usize,
+    raw: bool,
     n: u64,
-    next: Cursor,
-}
-
-#[derive(Drop)]
-pub enum HeadRead {
-    Found(Head),
-    Refused(Refusal),
-}
-
-// How many, or the refusal.
-#[derive(Drop)]
-pub enum CountRead {
-    Count(u64),
-    Refused(Refusal),
-}
-
-// An element's part, which has its b, or the refusal.
-#[derive(Drop)]
-pub enum ElementRead {
-    Found(Part),
-    Refused(Refusal),
-}
-
-// Passed over, with the cursor behind and the tally so far; or the refusal.
-#[derive(Drop)]
-pub enum Pass {
-    Done(Tally, Cursor),
-    Refused(Refusal),
-}
-
-// An element's part, read again behind the reader, and the place behind it.
-#[derive(Drop)]
-pub struct PartAgain {
-    pub part: Part,
-    pub next: usize,
-}
-
-// A tag's number of texts, read again behind the reader, and the place behind it.
-#[derive(Drop)]
-pub struct CountAgain {
-    pub count: u64,
-    pub next: usize,
-}
-
-// A whole packed event, with the tally of its strict form; or the refusal.
-#[derive(Drop)]
-pub enum Walk {
-    Done(Head, Tally),
-    Refused(Refusal),
-}
-
-impl Cursor {
-    // n bytes. A length beyond the rest is refused at the place of that length.
-    fn payload(self, s: &[u8], place: usize, raw: bool, n: u64) -> PartRead
-        ensures { part_read result ≡ payload_at place raw n s.now self.at }
-    {
-        let at = self.at;
-        let len = n as usize;
-        if len <= scan::rest(s, at) {
-            return PartRead::Found(Part { at, len, raw }, Cursor { at: at + len });
-        }
-        PartRead::Refused(Refusal {
-            number: event::TRUNCATED,
-            place,
-        })
-    }
-
-    // n bytes of well-formed text.
-    fn text(self, s: &[u8], place: usize, n: u64) -> PartRead
-        ensures { part_read result ≡ text_at place n s.now self.at }
-    {
-        let at = self.at;
-        let found = self.payload(s, place, false, n);
-        let PartRead::Found(p, next) = found else {
-            return found;
-        };
-        if utf8::is_utf8(scan::part(s, p.at, p.len)) {
-            return found;
-        }
-        PartRead::Refused(Refusal {
-            number: event::ILL_FORMED_UTF8,
-            place: at,
-        })
-    }
-
-    // A number up to max; above it the refusal has the number given.
-    pub fn number(self, s: &[u8], max: u64, refusal: u8) -> NumberRead
-        ensures { number_read result ≡ number_at max refusal s.now self.at }
-    {
-        let at = self.at;
-        let found = varint::Cursor { at }.varint(s);
-        match found {
-            VarintRead::Value(n, behind) => {
-                if n <= max {
-                    return NumberRead::Number(n, Cursor { at: behind.at });
-                }
-                NumberRead::Refused(Refusal {
-                    number: refusal,
-                    place: at,
-                })
-            }
-            VarintRead::Refused(r) => NumberRead::Refused(r),
-        }
-    }
-
-    // The content: its length, then its text.
-    pub fn content(self, s: &[u8]) -> PartRead
-        ensures { part_read result ≡ content_at s.now self.at }
-    {
-        let at = self.at;
-        let found = varint::Cursor { at }.long_varint(s);
-        match found {
-            VarintRead::Value(n, behind) => Cursor { at: behind.at }.text(s, at, n),
-            VarintRead::Refused(unread) => PartRead::Refused(unread),
-        }
-    }
-
-    // An element: the varint 2 × length + b, then its payload.
-    pub fn element(self, s: &[u8]) -> PartRead
-        ensures { part_read result ≡ element_at s.now self.at }
-    {
-        let at = self.at;
-        let found = varint::Cursor { at }.varint(s);
-        match found {
-            VarintRead::Value(word, behind) => {
-                let c = Cursor { at: behind.at };
-                if word % 2 == 1 {
-                    return c.payload(s, at, true, word / 2);
-                }
-                c.text(s, at, word / 2)
-            }
-            VarintRead::Refused(r) => PartRead::Refused(r),
-        }
-    }
-
-    // The number of elements of a tag.
-    fn tag_count(self, s: &[u8]) -> NumberRead
-        ensures { number_read result ≡ tag_count_at s.now self.at }
-    {
-        let at = self.at;
-        let found = self.number(s, event::MAX_TEXTS, event::TOO_MANY);
-        let NumberRead::Number(n, next) = found else {
-            return found;
-        };
-        if n == 0 {
-            return NumberRead::Refused(Refusal {
-                number: event::EMPTY_TAG,
-                place: at,
-            });
-        }
-        found
-    }
-
-    // count elements, one after the other, added to the tally.
-    fn pass_elements(self, s: &[u8], count: u64, t: Tally) -> Pass
-        requires { t.len ≤ self.at }
-        ensures { pass result ≡ and_then (elements_at count s.now self.at) (pass_elements s.now t) }
-    {
-        let mut c = self;
-        let mut sum = Tally {
-            len: t.len,
-            hollow: t.hollow,
-        };
-        let mut left = count;
-        while 0 < left {
-            let found = c.element(s);
-            match found {
-                PartRead::Found(p, next) => {
-                    let n = packed_part_len(s, p);
-                    sum = sum.more(n, is_hollow(p));
-                    c = next;
-                    left -= 1;
-                }
-                PartRead::Refused(r) => return Pass::Refused(r),
-            }
-        }
-        Pass::Done(sum, c)
-    }
-
-    // A tag, added to the tally.
-    fn pass_tag(self, s: &[u8], t: Tally) -> Pass
-        requires { t.len ≤ self.at }
-        ensures { pass result ≡ and_then (tag_at s.now self.at) (pass_tag s.now t) }
-    {
-        let found = self.tag_count(s);
-        match found {
-            NumberRead::Number(n, next) => {
-                let sum = t.more(varint::varint_len(n), false);
-                next.pass_elements(&s[..], n, sum)
-            }
-            NumberRead::Refused(r) => Pass::Refused(r),
-        }
-    }
-
-    // count tags, one after the other, added to the tally.
-    fn pass_tags(self, s: &[u8], count: u64, t: Tally) -> Pass
-        requires { t.len ≤ self.at }
-        ensures { pass result ≡ and_then (tags_standing count s.now self.at) (pass_tags s.now t) }
-    {
-        let mut c = self;
-        let mut sum = Tally {
-            len: t.len,
-            hollow: t.hollow,
-        };
-        let mut tags = count;
-        while 0 < tags {
-            let found = c.pass_tag(s, sum);
-            match found {
-                Pass::Done(u, next) => {
-                    sum = Tally {
-                        len: u.len,
-                        hollow: u.hollow,
-                    };
-                    c = next;
-                    tags -= 1;
-                }
-                Pass::Refused(r) => return Pass::Refused(r),
-            }
-        }
-        Pass::Done(sum, c)
-    }
-}
-
-impl Tally {
-    // n bytes more of the strict form.
-    fn more(self, n: usize, hollow: bool) -> Tally
-        requires { self.len + n < 2 ^ 64 }
-        ensures { result ≡ more self n hollow }
-    {
-        let len = self.len + n;
-        if self.hollow {
-            return Tally { len, hollow: true };
-        }
-        Tally { len, hollow }
-    }
-}
-
-// Whether a part is raw and empty.
-fn is_hollow(p: Part) -> bool
-    ensures { result ≡ is_hollow p }
+) -> Result<(Part, usize), Refusal>
+    ensures { read_answer result ≡ payload_at place raw n s.now at }
 {
-    if p.raw {
-        return p.len == 0;
+    let len = n as usize;
+    if len <= scan::rest(s, at) {
+        return Ok((Part { at, len, raw }, at + len));
     }
-    false
+    Err(Refusal {
+        reason: Reason::Truncated,
+        place,
+    })
+}
+
+// n bytes of well-formed text.
+#[tactic(auto, unfolding(crate::specs::Unpack::text_at))]
+fn read_text(s: &[u8], at: usize, place: usize, n: u64) -> Result<(Part, usize), Refusal>
+    ensures { read_answer result ≡ text_at place n s.now at }
+{
+    let (p, next) = read_payload(s, at, place, false, n)?;
+    if utf8::is_utf8(scan::part(s, p.at, p.len)) {
+        return Ok((p, next));
+    }
+    Err(Refusal {
+        reason: Reason::IllFormedUtf8,
+        place: at,
+    })
+}
+
+// A number up to max; above it the refusal has the reason given.
+#[tactic(auto, unfolding(crate::specs::Unpack::number_at))]
+pub fn read_number(s: &[u8], at: usize, max: u64, over: Reason) -> Result<(u64, usize), Refusal>
+    ensures { read_answer result ≡ number_at max (number_of over) s.now at }
+{
+    let (n, next) = varint::varint(s, at)?;
+    if n <= max {
+        return Ok((n, next));
+    }
+    Err(Refusal {
+        reason: over,
+        place: at,
+    })
+}
+
+// The content: its length, then its text.
+#[tactic(auto, unfolding(crate::specs::Unpack::content_at))]
+pub fn read_content(s: &[u8], at: usize) -> Result<(Part, usize), Refusal>
+    ensures { read_answer result ≡ content_at s.now at }
+{
+    let (n, next) = varint::long_varint(s, at)?;
+    read_text(s, next, at, n)
+}
+
+// An element: the varint 2 × length + b, then its payload.
+#[tactic(auto, unfolding(crate::specs::Unpack::element_at))]
+pub fn read_element(s: &[u8], at: usize) -> Result<(Part, usize), Refusal>
+    ensures { read_answer result ≡ element_at s.now at }
+{
+    let (word, next) = varint::varint(s, at)?;
+    if word % 2 == 1 {
+        return read_payload(s, next, at, true, word / 2);
+    }
+    read_text(s, next, at, word / 2)
+}
+
+// The number of elements of a tag.
+#[tactic(auto, unfolding(crate::specs::Unpack::tag_count_at))]
+fn read_tag_count(s: &[u8], at: usize) -> Result<(u64, usize), Refusal>
+    ensures { read_answer result ≡ tag_count_at s.now at }
+{
+    let (n, next) = read_number(s, at, event::MAX_TEXTS, Reason::TooMany)?;
+    if n == 0 {
+        return Err(Refusal {
+            reason: Reason::EmptyTag,
+            place: at,
+        });
+    }
+    Ok((n, next))
+}
+
+impl Passed {
+    ghost use Rattle.notepack.specs.inner.Passed.{passed};
+
+    // n bytes more of the strict form, for what was read up to a place.
+    fn more(self, n: usize, hollow: bool, at: usize) -> Passed
+        requires { self.tally.len + n ≤ at }
+        ensures tally_value { result.tally ≡ more self.tally n hollow }
+        ensures at_value { result.at ≡ at }
+    {
+        Passed {
+            tally: Tally {
+                len: self.tally.len + n,
+                hollow: self.tally.hollow || hollow,
+            },
+            at,
+        }
+    }
+
+    // count elements more.
+    #[tactic(auto, using(crate::proofs::Passing::pass_steps))]
+    fn elements(self, s: &[u8], count: u64) -> Result<Passed, Refusal>
+        ensures { passed result ≡ and_then (elements_at count s.now self.at) (pass_elements s.now self.tally) }
+    {
+        let mut sum = self;
+        for _ in 0..count {
+            let (p, next) = read_element(s, sum.at)?;
+            sum = sum.more(packed_part_len(s, p), p.is_hollow(), next);
+        }
+        Ok(sum)
+    }
+
+    // A tag more.
+    #[tactic(auto, using(crate::proofs::Passing::pass_steps))]
+    fn tag(self, s: &[u8]) -> Result<Passed, Refusal>
+        ensures { passed result ≡ and_then (tag_at s.now self.at) (pass_tag s.now self.tally) }
+    {
+        let (n, next) = read_tag_count(s, self.at)?;
+        self.more(varint::varint_len(n), false, next).elements(s, n)
+    }
+
+    // count tags more.
+    #[tactic(auto, using(crate::proofs::Passing::pass_steps))]
+    fn tags(self, s: &[u8], count: u64) -> Result<Passed, Refusal>
+        ensures { passed result ≡ and_then (tags_standing count s.now self.at) (pass_tags s.now self.tally) }
+    {
+        let mut sum = self;
+        for _ in 0..count {
+            sum = sum.tag(s)?;
+        }
+        Ok(sum)
+    }
+}
+
+impl Part {
+    // Whether it is raw and empty.
+    #[tactic(auto, unfolding(crate::specs::inner::Tally::is_hollow))]
+    fn is_hollow(self) -> bool
+        ensures { result ≡ is_hollow self }
+    {
+        self.raw && self.len == 0
+    }
 }
 
 // The length of the strict element whose text these bytes are.
+#[tactic(auto, using(crate::proofs::Lengths::length_as_bytes, crate::proofs::Lengths::length_as_text))]
 pub fn packed_text_len(t: &[u8]) -> usize
     ensures value { result ≡ length (pack_element t.now) }
     ensures upper_bound { result ≤ length t.now + 10 }
@@ -328,13 +219,14 @@ fn bytes_len(b: &[u8]) -> usize
     ensures value { result ≡ length (pack_element (hexes b.now)) }
     ensures upper_bound { result ≤ length b.now + 10 }
 {
-    if b.len() == 0 {
+    if b.is_empty() {
         return 1;
     }
     varint::varint_len(2 * b.len() as u64 + 1) + b.len()
 }
 
 // The length of the strict element that has a part's text.
+#[tactic(auto, unfolding(crate::specs::Unpack::text_of))]
 fn packed_part_len(s: &[u8], p: Part) -> usize
     ensures { result ≡ length (pack_element (text_of s.now p)) }
 {
@@ -346,64 +238,36 @@ fn packed_part_len(s: &[u8], p: Part) -> usize
 }
 
 // created_at, kind, the content and the number of tags.
-fn numbers(s: &[u8]) -> HeadRead
-    ensures { head_read result ≡ numbers_at s.now }
+#[tactic(auto, unfolding(crate::specs::Unpack::numbers_at))]
+fn read_numbers(s: &[u8]) -> Result<Head, Refusal>
+    ensures { answer result ≡ numbers_at s.now }
 {
-    let time = Cursor { at: 128 }.number(s, event::MAX_CREATED_AT, event::CREATED_AT_OUT_OF_RANGE);
-    let first = match time {
-        NumberRead::Number(n, next) => Counted { n, next },
-        NumberRead::Refused(r) => return HeadRead::Refused(r),
-    };
-    let kind = first
-        .next
-        .number(s, event::MAX_KIND, event::KIND_OUT_OF_RANGE);
-    let second = match kind {
-        NumberRead::Number(n, next) => Counted { n, next },
-        NumberRead::Refused(r) => return HeadRead::Refused(r),
-    };
-    let text = second.next.content(s);
-    match text {
-        PartRead::Refused(r) => HeadRead::Refused(r),
-        PartRead::Found(content, behind) => {
-            let count = behind.number(s, event::MAX_TAGS, event::TOO_MANY);
-            match count {
-                NumberRead::Refused(r) => HeadRead::Refused(r),
-                NumberRead::Number(tag_count, tags) => HeadRead::Found(Head {
-                    created_at: first.n,
-                    kind: second.n,
-                    content: Part {
-                        at: content.at,
-                        len: content.len,
-                        raw: content.raw,
-                    },
-                    tag_count,
-                    tags_at: tags.at,
-                }),
-            }
-        }
-    }
+    let (created_at, at) = read_number(s, 128, event::MAX_CREATED_AT, Reason::CreatedAtOutOfRange)?;
+    let (kind, at) = read_number(s, at, event::MAX_KIND, Reason::KindOutOfRange)?;
+    let (content, at) = read_content(s, at)?;
+    let (tag_count, tags_at) = read_number(s, at, event::MAX_TAGS, Reason::TooMany)?;
+    Ok(Head {
+        created_at,
+        kind,
+        content,
+        tag_count,
+        tags_at,
+    })
 }
 
 // All in front of the tags: id, pubkey and sig first.
-fn read_head(s: &[u8]) -> HeadRead
-    ensures { head_read result ≡ head_at s.now }
+#[tactic(auto, unfolding(crate::specs::Unpack::head_at))]
+fn read_head(s: &[u8]) -> Result<Head, Refusal>
+    ensures { answer result ≡ head_at s.now }
 {
-    let id = Cursor { at: 0 }.payload(s, 0, true, 32);
-    if let PartRead::Refused(r) = id {
-        return HeadRead::Refused(r);
-    }
-    let pubkey = Cursor { at: 32 }.payload(s, 32, true, 32);
-    if let PartRead::Refused(r) = pubkey {
-        return HeadRead::Refused(r);
-    }
-    let sig = Cursor { at: 64 }.payload(s, 64, true, 64);
-    if let PartRead::Refused(r) = sig {
-        return HeadRead::Refused(r);
-    }
-    numbers(s)
+    read_payload(s, 0, 0, true, 32)?;
+    read_payload(s, 32, 32, true, 32)?;
+    read_payload(s, 64, 64, true, 64)?;
+    read_numbers(s)
 }
 
 // The strict length of all in front of the tags.
+#[tactic(auto, unfolding(crate::specs::inner::Tally::head_len))]
 fn head_len(h: Head) -> usize
     requires { h.content.len ≤ 65536 }
     ensures { result ≡ head_len h }
@@ -417,233 +281,186 @@ fn head_len(h: Head) -> usize
 }
 
 // The whole input, checked and measured in one pass: 1 first of all, 10 for a byte after the end.
-pub fn walk_packed(s: &[u8]) -> Walk
+#[tactic(auto, using(scan::proofs::Step::tests), unfolding(crate::specs::inner::Answers::walk_at, crate::specs::Unpack::packed_at))]
+pub fn walk_packed(s: &[u8]) -> Result<(Head, Tally), Refusal>
     ensures { walk result ≡ walk_at s.now }
 {
     if event::MAX_INPUT < s.len() {
-        return Walk::Refused(Refusal {
-            number: event::INPUT_TOO_LONG,
+        return Err(Refusal {
+            reason: Reason::InputTooLong,
             place: 0,
         });
     }
-    let front = read_head(s);
-    let h = match front {
-        HeadRead::Found(h) => h,
-        HeadRead::Refused(r) => return Walk::Refused(r),
-    };
+    let h = read_head(s)?;
     walk_tags(s, h)
 }
 
 // The tags behind what stands in front of them, to the input's end.
-fn walk_tags(s: &[u8], h: Head) -> Walk
+fn walk_tags(s: &[u8], h: Head) -> Result<(Head, Tally), Refusal>
     requires { (length s.now ≤ 65536) × (head_at s.now ≡ shown h) }
     ensures { walk result ≡ walk_at s.now }
 {
-    let t = Tally {
-        len: head_len(h),
-        hollow: false,
+    let front = Passed {
+        tally: Tally {
+            len: head_len(h),
+            hollow: false,
+        },
+        at: h.tags_at,
     };
-    let tags_at = h.tags_at;
-    let passed = Cursor { at: tags_at }.pass_tags(s, h.tag_count, t);
-    match passed {
-        Pass::Refused(r) => Walk::Refused(r),
-        Pass::Done(tally, c) => {
-            if c.at == s.len() {
-                let t = Tally {
-                    len: tally.len,
-                    hollow: tally.hollow,
-                };
-                return Walk::Done(h, t);
-            }
-            Walk::Refused(Refusal {
-                number: event::AFTER_THE_END,
-                place: c.at,
-            })
-        }
+    let all = front.tags(s, h.tag_count)?;
+    if all.at == s.len() {
+        return Ok((h, all.tally));
     }
+    Err(Refusal {
+        reason: Reason::AfterTheEnd,
+        place: all.at,
+    })
 }
 
 // The numbers of a packed event: created_at, kind, where the content stands, how many tags; or the refusal.
-pub fn read_packed(s: &[u8]) -> HeadRead
-    ensures { head_read result ≡ numbers_of s.now }
+#[tactic(auto, unfolding(crate::specs::Views::numbers_of, crate::specs::inner::Answers::walk_at))]
+pub fn read_packed(s: &[u8]) -> Result<Head, Refusal>
+    ensures { answer result ≡ numbers_of s.now }
 {
-    let walked = walk_packed(s);
-    match walked {
-        Walk::Done(h, _) => HeadRead::Found(h),
-        Walk::Refused(r) => HeadRead::Refused(r),
-    }
+    let (h, _) = walk_packed(s)?;
+    Ok(h)
 }
 
 // The content, a part of the lent slice; empty where the reader refuses.
+#[tactic(auto, using(crate::proofs::Viewing::content_numbers))]
 pub fn content<'a>(s: &'a [u8]) -> &'a [u8]
     ensures { result.now ≡ view s.now (content_of s.now) }
 {
-    let found = read_packed(s);
-    match found {
-        HeadRead::Found(h) => {
-            let p = h.content;
-            scan::part(s, p.at, p.len)
-        }
-        HeadRead::Refused(_) => &s[..0],
+    match read_packed(s) {
+        Ok(h) => scan::part(s, h.content.at, h.content.len),
+        Err(_) => &s[..0],
     }
 }
 
-// The number of texts in tag i, with the cursor at the first of them.
-fn find_tag(s: &[u8], i: u64) -> NumberRead
-    ensures { number_read result ≡ tag_start i s.now }
+// The number of texts in tag i, with the place of the first of them.
+#[tactic(auto, unfolding(crate::specs::inner::Places::tag_start))]
+fn find_tag(s: &[u8], i: u64) -> Result<(u64, usize), Refusal>
+    ensures { read_answer result ≡ tag_start i s.now }
 {
-    let found = read_packed(s);
-    match found {
-        HeadRead::Refused(r) => NumberRead::Refused(r),
-        HeadRead::Found(h) => {
-            if i < h.tag_count {
-                return skip_to(s, h.tags_at, i);
-            }
-            NumberRead::Refused(Refusal {
-                number: event::NO_SUCH,
-                place: 0,
-            })
-        }
+    let h = read_packed(s)?;
+    if i < h.tag_count {
+        return skip_to(s, h.tags_at, i);
     }
+    Err(Refusal {
+        reason: Reason::NoSuch,
+        place: 0,
+    })
 }
+
+// A tally that nothing was added to: where things are passed over and not measured.
+const NOTHING: Tally = Tally {
+    len: 0,
+    hollow: false,
+};
 
 // The count of the tag behind i tags.
-fn skip_to(s: &[u8], at: usize, i: u64) -> NumberRead
-    ensures { number_read result ≡ and_then (tags_standing i s.now at) (λ t. tag_count_at s.now t.next) }
+#[tactic(auto, using(crate::proofs::Viewing::skip_tags))]
+fn skip_to(s: &[u8], at: usize, i: u64) -> Result<(u64, usize), Refusal>
+    ensures { read_answer result ≡ and_then (tags_standing i s.now at) (λ t. tag_count_at s.now t.next) }
 {
-    let passed = Cursor { at }.pass_tags(
-        s,
-        i,
-        Tally {
-            len: 0,
-            hollow: false,
-        },
-    );
-    match passed {
-        Pass::Done(_, c) => c.tag_count(s),
-        Pass::Refused(r) => NumberRead::Refused(r),
-    }
+    let skipped = Passed { tally: NOTHING, at }.tags(s, i)?;
+    read_tag_count(s, skipped.at)
 }
 
 // The number of texts in tag i, or the refusal: the reader's, then 19.
-pub fn texts_in(s: &[u8], i: u64) -> CountRead
-    ensures { count_read result ≡ texts_in i s.now }
+pub fn texts_in(s: &[u8], i: u64) -> Result<u64, Refusal>
+    ensures { answer result ≡ texts_in i s.now }
 {
-    let found = find_tag(s, i);
-    match found {
-        NumberRead::Number(n, _) => CountRead::Count(n),
-        NumberRead::Refused(r) => CountRead::Refused(r),
-    }
+    let (n, _) = find_tag(s, i)?;
+    Ok(n)
 }
 
 // The element behind j elements.
-fn skip_elements(s: &[u8], c: Cursor, j: u64) -> PartRead
-    ensures { part_read result ≡ and_then (elements_at j s.now c.at) (λ e. element_at s.now e.next) }
+#[tactic(auto, using(crate::proofs::Viewing::skip_elements))]
+fn skip_elements(s: &[u8], at: usize, j: u64) -> Result<(Part, usize), Refusal>
+    ensures { read_answer result ≡ and_then (elements_at j s.now at) (λ e. element_at s.now e.next) }
 {
-    let passed = c.pass_elements(
-        s,
-        j,
-        Tally {
-            len: 0,
-            hollow: false,
-        },
-    );
-    match passed {
-        Pass::Done(_, next) => next.element(s),
-        Pass::Refused(r) => PartRead::Refused(r),
-    }
+    let skipped = Passed { tally: NOTHING, at }.elements(s, j)?;
+    read_element(s, skipped.at)
 }
 
-fn find_part(s: &[u8], i: u64, j: u64) -> PartRead
-    ensures { part_read result ≡ element_place i j s.now }
+// Element j of tag i, and the place behind it.
+#[tactic(auto, unfolding(crate::specs::inner::Places::element_place))]
+fn find_part(s: &[u8], i: u64, j: u64) -> Result<(Part, usize), Refusal>
+    ensures { read_answer result ≡ element_place i j s.now }
 {
-    let found = find_tag(s, i);
-    match found {
-        NumberRead::Refused(r) => PartRead::Refused(r),
-        NumberRead::Number(n, first) => {
-            if j < n {
-                return skip_elements(s, first, j);
-            }
-            PartRead::Refused(Refusal {
-                number: event::NO_SUCH,
-                place: 0,
-            })
-        }
+    let (n, first) = find_tag(s, i)?;
+    if j < n {
+        return skip_elements(s, first, j);
     }
+    Err(Refusal {
+        reason: Reason::NoSuch,
+        place: 0,
+    })
 }
 
 // Element j of tag i, both from 0: where its payload stands and its b; or the refusal: the reader's, then 19.
-pub fn find_element(s: &[u8], i: u64, j: u64) -> ElementRead
-    ensures { element_read result ≡ element_of i j s.now }
+pub fn find_element(s: &[u8], i: u64, j: u64) -> Result<Part, Refusal>
+    ensures { answer result ≡ element_of i j s.now }
 {
-    let found = find_part(s, i, j);
-    match found {
-        PartRead::Found(p, _) => ElementRead::Found(p),
-        PartRead::Refused(r) => ElementRead::Refused(r),
-    }
+    let (p, _) = find_part(s, i, j)?;
+    Ok(p)
 }
 
 // The payload of element j of tag i, a part of the lent slice; empty where there is none.
+#[tactic(auto, unfolding(crate::specs::Views::view))]
 pub fn element<'a>(s: &'a [u8], i: u64, j: u64) -> &'a [u8]
     ensures { result.now ≡ view s.now (element_of i j s.now) }
 {
-    let found = find_element(s, i, j);
-    match found {
-        ElementRead::Found(p) => scan::part(s, p.at, p.len),
-        ElementRead::Refused(_) => &s[..0],
+    match find_element(s, i, j) {
+        Ok(p) => scan::part(s, p.at, p.len),
+        Err(_) => &s[..0],
     }
 }
 
 // ---- going over it again
 
+// A packed event as the reader lets it pass: its bytes, and what stands in front of its tags; neither is more than an
+// event may have.
+#[derive(Clone, Copy)]
+pub struct PackedEvent<'a> {
+    pub bytes: &'a [u8],
+    pub head: Head,
+    pub ghost len_bound: { length bytes.now ≤ 65536 },
+    pub ghost tags_bound: { head.tag_count ≤ 1000 },
+    pub ghost time_bound: { head.created_at ≤ 9223372036854775 },
+}
+
 // An element's part, with no second test of its text.
-fn read_part(s: &[u8], at: usize) -> PartRead
-    ensures { part_read result ≡ element_part_at s.now at }
+#[tactic(auto, unfolding(crate::specs::inner::Again::element_part_at))]
+fn read_part(s: &[u8], at: usize) -> Result<(Part, usize), Refusal>
+    ensures { read_answer result ≡ element_part_at s.now at }
 {
-    let found = varint::Cursor { at }.varint(s);
-    match found {
-        VarintRead::Value(word, behind) => {
-            Cursor { at: behind.at }.payload(s, at, word % 2 == 1, word / 2)
-        }
-        VarintRead::Refused(r) => PartRead::Refused(r),
-    }
+    let (word, next) = varint::varint(s, at)?;
+    read_payload(s, next, at, word % 2 == 1, word / 2)
 }
 
 // The part at a place; where none is read it is empty and the place stays.
-pub fn part_again(s: &[u8], at: usize) -> PartAgain
-    ensures part_value { result.part ≡ (part_again s.now at).value }
-    ensures next_value { result.next ≡ (part_again s.now at).next }
+#[tactic(auto, unfolding(crate::specs::inner::Again::part_again))]
+pub fn part_again(s: &[u8], at: usize) -> (Part, usize)
+    ensures part_value { result.0 ≡ (part_again s.now at).value }
+    ensures next_value { result.1 ≡ (part_again s.now at).next }
 {
-    let found = read_part(s, at);
-    match found {
-        PartRead::Found(part, behind) => PartAgain {
-            part,
-            next: behind.at,
-        },
-        PartRead::Refused(_) => PartAgain {
-            part: Part {
-                at,
-                len: 0,
-                raw: false,
-            },
-            next: at,
-        },
-    }
+    let nothing = Part {
+        at,
+        len: 0,
+        raw: false,
+    };
+    read_part(s, at).unwrap_or((nothing, at))
 }
 
 // A tag's number of texts; 0, and the place stays, where none is read.
-pub fn count_again(s: &[u8], at: usize) -> CountAgain
-    ensures count_value { result.count ≡ (count_again s.now at).value }
-    ensures next_value { result.next ≡ (count_again s.now at).next }
+#[tactic(auto, unfolding(crate::specs::inner::Again::count_again))]
+pub fn count_again(s: &[u8], at: usize) -> (u64, usize)
+    ensures count_value { result.0 ≡ (count_again s.now at).value }
+    ensures next_value { result.1 ≡ (count_again s.now at).next }
 {
-    let found = Cursor { at }.number(s, event::MAX_TEXTS, event::TOO_MANY);
-    match found {
-        NumberRead::Number(count, behind) => CountAgain {
-            count,
-            next: behind.at,
-        },
-        NumberRead::Refused(_) => CountAgain { count: 0, next: at },
-    }
+    read_number(s, at, event::MAX_TEXTS, Reason::TooMany).unwrap_or((0, at))
 }
 
 // The place behind n texts, from part to part.
@@ -651,11 +468,8 @@ pub fn texts_end(s: &[u8], at: usize, n: u64) -> usize
     ensures { result ≡ texts_end n s.now at }
 {
     let mut i = at;
-    let mut left = n;
-    while 0 < left {
-        let p = part_again(s, i);
-        i = p.next;
-        left -= 1;
+    for _ in 0..n {
+        (_, i) = part_again(s, i);
     }
     i
 }

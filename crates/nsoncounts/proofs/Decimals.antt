@@ -87,9 +87,8 @@ record Run (l d : List ℕ) (c : ℕ) : Type 0 where
   some : 0 < length d
   span : Span l 0 d c
 
-record Says (n : ℕ) (l d : List ℕ) : Type 0 where
+record Says (n : ℕ) (l : List ℕ) : Type 0 where
   whole : length l ≡ n
-  same : l ≡ d
   spelling : is_decimal n l ≡ true
 
 digits_spelled : (l : List ℕ) → All DecimalDigit l → 0 < length l → (get_or l 0 0 ≡ 48 → length l ≡ 1) → decimal (number_of l) ≡ l
@@ -97,7 +96,7 @@ digits_spelled [] d h k = absurd (omega arith)
 digits_spelled (b ∷ []) d h k = decimal_unique b [] d (λ e. refl)
 digits_spelled (b ∷ c ∷ l) d h k = decimal_unique b (c ∷ l) d (λ e. absurd (omega (arith, k e)))
 
-width_spelled : (n : ℕ) (l : List ℕ) {d : List ℕ} {c : ℕ} → length l ≤ n → Run l d c → full_width n l c ≡ true → Says n l d
+width_spelled : (n : ℕ) (l : List ℕ) {d : List ℕ} {c : ℕ} → length l ≤ n → Run l d c → full_width n l c ≡ true → (l ≡ d) × Says n l
 unfolding full_width is_decimal
 width_spelled n l {d} {c} m r t =
     let p = pick_true (eqb c n) (pick (eqb (get_or l 0 0) 48) (eqb n 1) true) t in
@@ -108,31 +107,40 @@ width_spelled n l {d} {c} m r t =
     let all : All DecimalDigit l = rw q r.all in
     let o = ap length q in
     let x = digits_spelled l all (omega (arith, r.some)) (λ z. w ∙ one p.1 z) in
-    record { whole = w; same = q; spelling = rw (eq-eqb (length l) n w, x) (same_same l) }
+    (q, record { whole = w; spelling = rw (eq-eqb (length l) n w, x) (same_same l) })
   where
     one : pick (eqb (get_or l 0 0) 48) (eqb n 1) true ≡ true → get_or l 0 0 ≡ 48 → n ≡ 1
     one e z = eqb-true n 1 (rw (eq-eqb (get_or l 0 0) 48 z) at e)
 
 -- ---- the code's ways out
 
-module _ (max refusal past n : ℕ) (s : List ℕ) (at : ℕ) {l : List ℕ} (q : l ≡ take n (drop at s)) where
-  pub number_yes : {v c : ℕ} {t : Bool} → number v c ≡ digits_at max l 0 → t ≡ full_width n l c → t ≡ true
-      → (n ≤ length s - at) × (read v (at + n) ≡ up_to max past at (decimal_at refusal n s at))
-  unfolding decimal_at
-  number_yes {v} {c} e f y =
+module _ (max n : ℕ) (s : List ℕ) (at : ℕ) {l : List ℕ} (q : l ≡ take n (drop at s)) where
+  -- what a number of full width is
+  width_says : {v c : ℕ} {t : Bool} → number v c ≡ digits_at max l 0 → t ≡ full_width n l c → t ≡ true → (v ≤ max) × (number_of l ≡ v) × Says n l
+  width_says e f y =
       let x = consumes_number max l 0 (sym e) in
       let r = width_spelled n l (part_most n s at q) (record { all = x.1; some = x.2; span = x.3 }) (sym f ∙ y) in
-      let w = rw q at r.spelling in
-      let o : number_of (take n (drop at s)) ≡ v = ap number_of (sym q ∙ r.same) ∙ x.5 in
-      (part_fits n s at q r.whole, sym (rw (w, o, le-leb v max x.6) refl))
+      (x.6, ap number_of r.0 ∙ x.5, r.1)
+
+  pub number_fits : {v c : ℕ} {t : Bool} → number v c ≡ digits_at max l 0 → t ≡ full_width n l c → t ≡ true → n ≤ length s - at
+  number_fits e f y = part_fits n s at q (width_says e f y).2.whole
+
+module _ (max refusal past n : ℕ) (s : List ℕ) (at : ℕ) {l : List ℕ} (q : l ≡ take n (drop at s)) where
+  pub number_yes : {v c : ℕ} {t : Bool} → number v c ≡ digits_at max l 0 → t ≡ full_width n l c → t ≡ true → read v (at + n) ≡ up_to max past at (decimal_at refusal n s at)
+  unfolding decimal_at
+  number_yes {v} {c} e f y =
+      let r = width_says max n s at q e f y in
+      let w = rw q at r.2.spelling in
+      let o : number_of (take n (drop at s)) ≡ v = ap number_of (sym q) ∙ r.1 in
+      sym (rw (w, o, le-leb v max r.0) refl)
 
   pub over_yes : {c : ℕ} {t : Bool} → over c ≡ digits_at max l 0 → t ≡ full_width n l c → t ≡ true → refused past at ≡ up_to max past at (decimal_at refusal n s at)
   unfolding decimal_at
   over_yes {c} e f y =
       let x = consumes_over max l 0 (sym e) in
       let r = width_spelled n l (part_most n s at q) (record { all = x.1; some = x.2; span = x.3 }) (sym f ∙ y) in
-      let w = rw q at r.spelling in
-      let o : number_of (take n (drop at s)) ≡ number_of x.0 = ap number_of (sym q ∙ r.same) in
+      let w = rw q at r.1.spelling in
+      let o : number_of (take n (drop at s)) ≡ number_of x.0 = ap number_of (sym q ∙ r.0) in
       sym (rw (w, o, lt-leb (number_of x.0) max x.5) refl)
 
   no : is_decimal n l ≡ false → refused refusal at ≡ up_to max past at (decimal_at refusal n s at)
@@ -150,6 +158,8 @@ module _ (max refusal past n : ℕ) (s : List ℕ) (at : ℕ) {l : List ℕ} (q 
 
   pub none_no : Digits.none ≡ digits_at max l 0 → refused refusal at ≡ up_to max past at (decimal_at refusal n s at)
   none_no e = no (not_decimal n l (λ d. let x = spelled max n l d in omega (arith, x.ends, x.some, ap end_of e)))
+
+pub ruleset number_steps = (number_fits, number_yes, over_yes, number_no, over_no, none_no)
 
 -- ten digits say no more than the ten-digit maximum
 pub ten_digits : (refusal past : ℕ) (s : List ℕ) (at : ℕ) → up_to 9_999_999_999 past at (decimal_at refusal 10 s at) ≡ decimal_at refusal 10 s at

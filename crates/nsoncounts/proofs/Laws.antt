@@ -1,4 +1,4 @@
--- Small laws that several functions share: what fits behind a piece, tests of a range, and reads taken apart.
+-- Small laws that several functions share: what fits behind a piece or up to an end, and reads taken apart.
 -- Each is a case or a line of arithmetic.
 use Prim.Native.Nat.{ℕ, ◌+◌, ◌*◌, ◌-◌, ◌%◌, ◌<◌, ◌≤◌}
 use mathlib.Core.Path.{◌≡◌, refl, sym, ap, ◌∙◌}
@@ -7,17 +7,20 @@ use mathlib.Core.List.{List}
 use native.Mathlib.Omega.{arith}
 use lib.ListN.{length, get_or, take, drop, length-take, length-drop}
 use lib.Seq.{get_or-take, get_or-drop}
-use lib.Dec.{leb}
-use borrow.Author.Tests.{le-leb, lt-leb}
-use Rattle.scan.specs.Choice.{Answer, shown, refused, Read, read, and_then}
-use Rattle.scan.specs.Place.{stands_at, within}
+use lib.Dec.{leb, eqb}
+use borrow.Author.Tests.{le-leb, lt-leb, eqb-true}
+use Rattle.scan.specs.Choice.{pick, Answer, shown, refused, Read, read, and_then}
+use Rattle.scan.specs.Place.{stands_at}
+use Rattle.scan.proofs.Step.{pick_true}
 use Rattle.scan.proofs.PlaceLaws.{stands_span}
 use Rattle.scan.proofs.SpanLaws.{span_fits}
 use Rattle.scan.proofs.Reading.{read_same}
-use Rattle.hexdigits.specs.Hex.{value_of}
+use Rattle.event.specs.declared.Reason.{Reason}
+use Rattle.event.specs.inner.Told.{number_of}
+use Rattle.hexdigits.specs.Hex.{value_of, all_digits}
 use Rattle.jsontext.specs.inner.Escape.{unescape}
-use Rattle.nson.specs.Read.{part_at, text_at, byte_here, word_here}
-use Rattle.nsoncounts.specs.inner.Counted.{next_of, text_size_at}
+use Rattle.nson.specs.Read.{part_at, hex_at, text_at, byte_here, word_here}
+use Rattle.nsoncounts.specs.inner.Counted.{next_of, is_hex, text_size_at}
 
 -- ---- what fits
 
@@ -39,6 +42,23 @@ part_most n s at e =
     let d = ap length e in
     omega arith
 
+-- hex digits by one test; where it passes they are within the input
+pub hex_by : (n : ℕ) (s : List ℕ) (at : ℕ) → hex_at n s at ≡ pick (is_hex n s at) (shown (at + n)) (refused 12 at)
+unfolding hex_at is_hex
+hex_by n s at = go (eqb (length (part_at n s at)) n)
+  where
+    go : (t : Bool)
+        → pick t (pick (all_digits (part_at n s at)) (shown (at + n)) (refused 12 at)) (refused 12 at)
+        ≡ pick (pick t (all_digits (part_at n s at)) false) (shown (at + n)) (refused 12 at)
+    go true = refl
+    go false = refl
+
+pub hex_fits : (n : ℕ) (s : List ℕ) (at : ℕ) → is_hex n s at ≡ true → n ≤ length s - at
+unfolding is_hex
+hex_fits n s at h = part_fits n s at refl (eqb-true _ n (pick_true (eqb (length (part_at n s at)) n) (all_digits (part_at n s at)) h).0)
+
+pub ruleset hex_steps = (hex_by, hex_fits)
+
 -- ---- whether a descriptor passes the end
 
 pub room : (at n end : ℕ) → n ≤ end → at ≤ end - n → leb (at + n) end ≡ true
@@ -50,19 +70,12 @@ no_room at n end h = lt-leb (at + n) end (omega arith)
 pub no_width : (at n end : ℕ) → end < n → leb (at + n) end ≡ false
 no_width at n end h = lt-leb (at + n) end (omega arith)
 
--- ---- from 1 to 5
+pub ruleset room_steps = (room, no_room, no_width)
 
-pub one_to_five : (n : ℕ) → 1 ≤ n → n ≤ 5 → within 1 5 n ≡ true
-unfolding within
-one_to_five n h k = rw (le-leb 1 n h) (le-leb n 5 k)
+-- ---- a refusal's number
 
-pub past_five : (n : ℕ) → 1 ≤ n → 5 < n → within 1 5 n ≡ false
-unfolding within
-past_five n h k = rw (le-leb 1 n h) (lt-leb n 5 k)
-
-pub below_one : (n : ℕ) → n < 1 → within 1 5 n ≡ false
-unfolding within
-below_one n h = rw (lt-leb 1 n h)
+pub reason_some : (r : Reason) → 1 ≤ number_of r
+reason_some r = grind arith
 
 -- ---- bytes and words at a place
 
@@ -97,6 +110,16 @@ word_part s at e p q =
 
 -- ---- reads taken apart
 
+-- what follows one read and then another
+pub then_then : {A B C : Type 0} (r : Answer A) (f : A → Answer B) (g : B → Answer C) → and_then (and_then r f) g ≡ and_then r (λ x. and_then (f x) g)
+then_then (shown x) f g = refl
+then_then (refused n p) f g = refl
+
+-- the same steps where the read shows a value
+pub then_same : {A B : Type 0} (r : Answer A) (f g : A → Answer B) → ((x : A) → r ≡ shown x → f x ≡ g x) → and_then r f ≡ and_then r g
+then_same (shown x) f g h = h x refl
+then_same (refused n p) f g h = refl
+
 module _ {A : Type 0} where
   -- the place behind a read is that of a value
   pub next_shown : (r : Answer (Read A)) {p : ℕ} → next_of r ≡ shown p → (x : A) × (r ≡ read x p)
@@ -115,13 +138,6 @@ module _ {A : Type 0} where
   check_shown x (shown q) e = let g = read_same e in (ap shown g.1, sym g.0)
   check_shown x (refused n p) e = let z : ◌≡◌ {A = ℕ} 0 1 = cc in absurd (omega arith)
 
-  check_refused : (x : A) (t : Answer ℕ) {n p : ℕ} → and_then t (λ p. read x p) ≡ refused n p → t ≡ refused n p
-  check_refused x (shown q) e = let z : ◌≡◌ {A = ℕ} 0 1 = cc in absurd (omega arith)
-  check_refused x (refused n p) e = cc
-
 -- a counted text whose length was told was read
 pub text_shown : (n : ℕ) (s : List ℕ) (at : ℕ) {m p : ℕ} → text_size_at n s at ≡ read m p → (text_at n s at ≡ shown p) × (m ≡ length (unescape (part_at n s at)))
 text_shown n s at e = check_shown (length (unescape (part_at n s at))) (text_at n s at) e
-
-pub text_refused : (n : ℕ) (s : List ℕ) (at : ℕ) {k p : ℕ} → text_size_at n s at ≡ refused k p → text_at n s at ≡ refused k p
-text_refused n s at e = check_refused (length (unescape (part_at n s at))) (text_at n s at) e

@@ -1,6 +1,6 @@
 -- The counts that were read are those that stand at their places: `counts_placed`. Each read ends where its digits do.
 -- Along the reads; n counts by induction on n.
-use Prim.Native.Nat.{ℕ, zero, suc, ◌+◌, ◌*◌, ◌≤◌}
+use Prim.Native.Nat.{ℕ, zero, suc, ◌+◌, ◌*◌}
 use mathlib.Core.Path.{◌≡◌, refl, sym, ap, ◌∙◌}
 use mathlib.Core.Bool.{Bool, true, false}
 use mathlib.Core.List.{List}
@@ -14,8 +14,7 @@ use Rattle.scan.proofs.Reading.{read_same}
 use Rattle.scan.proofs.Many.{many_apart, many_count, pick_shown, after, shown_same}
 use Rattle.nson.specs.Nson.{Counts}
 use Rattle.nson.specs.Read.{hex_at, byte_here, word_here, descriptor_at, byte_count_at, word_count_at, kind_count_at, item_count_at, tag_counts_at, counts_to, counts_at}
-use Rattle.nsoncounts.specs.inner.Counted.{next_of, item_sizes, tag_sizes, sizes_of, counts_of}
-use Rattle.nsoncounts.proofs.Laws.{next_shown}
+use Rattle.nsoncounts.specs.inner.Counted.{item_sizes, tag_sizes, sizes_of, counts_of}
 use Rattle.nsoncounts.proofs.Counting.{hex_next}
 
 descriptor_next : (n end : ℕ) (s : List ℕ) (at p : ℕ) → descriptor_at n end s at ≡ shown p → p ≡ at + n
@@ -88,23 +87,6 @@ tag_placed end s at v e =
     let r = items_placed end s n.value n.next v f in
     let z = r.1 in
     (r.0 ∙ rw (x, y) refl, omega arith, i.1))
-
--- ---- places only grow
-
-pub descriptor_on : (n end : ℕ) (s : List ℕ) (at : ℕ) {p : ℕ} → 320 ≤ at → descriptor_at n end s at ≡ shown p → 320 ≤ p
-descriptor_on n end s at {p} h e = let k = descriptor_next n end s at p e in omega arith
-
-pub kind_on : (end : ℕ) (s : List ℕ) (at : ℕ) {k p : ℕ} → 320 ≤ at → kind_count_at end s at ≡ read k p → 320 ≤ p
-kind_on end s at {k} {p} h e = let g : p ≡ at + 2 = kind_says end s at (record { value = k; next = p }) e in omega arith
-
-pub item_on : (end : ℕ) (s : List ℕ) (at : ℕ) {k p : ℕ} → 320 ≤ at → item_count_at end s at ≡ read k p → 320 ≤ p
-item_on end s at {k} {p} h e = let g : p ≡ at + 2 = (item_says end s at (record { value = k; next = p }) e).0.ends in omega arith
-
-pub tag_on : (end : ℕ) (s : List ℕ) (at : ℕ) {p : ℕ} → 320 ≤ at → next_of (tag_counts_at end s at) ≡ shown p → 320 ≤ p
-tag_on end s at {p} h e =
-    let x = next_shown (tag_counts_at end s at) e in
-    let g : p ≡ at + (2 + 4 * byte_here s at) = (tag_placed end s at (record { value = x.0; next = p }) x.1).1 in
-    omega arith
 
 -- no tag is empty
 pub data Filled (s : List ℕ) : ℕ → ℕ → Type 0 where

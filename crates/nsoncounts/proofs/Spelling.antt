@@ -17,7 +17,7 @@ use Rattle.nsonstring.specs.Counted.{fault_in}
 use Rattle.nsonstring.proofs.Faults.{no_fault}
 use Rattle.nson.specs.Read.{part_at, text_at}
 use Rattle.nsoncounts.specs.inner.Counted.{text_size_at}
-use Rattle.nsoncounts.proofs.Laws.{part_most, text_shown}
+use Rattle.nsoncounts.proofs.Laws.{part_fits, part_most, reason_some, text_shown}
 
 record Short (l : List ℕ) : Type 0 where
   most : length (unescape l) ≤ length l
@@ -41,10 +41,12 @@ faultless_short : (l : List ℕ) → fault_in l ≡ 0 → Short l
 faultless_short l z = quoted_short (no_fault l z).quoted
 
 -- the text of a part is no longer than the part is to be
-pub text_most : (n : ℕ) (s : List ℕ) (at : ℕ) {l : List ℕ} {f m : ℕ} → l ≡ take n (drop at s) → f ≡ fault_in l → f ≡ 0 → m ≡ length (unescape l) → m ≤ n
-text_most n s at {l} e g z q =
+pub text_most : (n : ℕ) (s : List ℕ) (at : ℕ) {l : List ℕ} {m : ℕ} → l ≡ take n (drop at s) → 0 ≡ fault_in l → m ≡ length (unescape l) → m ≤ n
+text_most n s at {l} e z q =
     let k = part_most n s at e in
-    omega (arith, q, (faultless_short l (sym g ∙ z)).most)
+    omega (arith, q, (faultless_short l (sym z)).most)
+
+pub ruleset text_steps = (text_most, part_fits, reason_some)
 
 -- a counted text of as many bytes as were counted is those bytes
 pub no_escape_lem : (n : ℕ) (s : List ℕ) (at : ℕ) {m p : ℕ} → text_size_at n s at ≡ read m p → m ≡ n → unescape (part_at n s at) ≡ part_at n s at

@@ -17,6 +17,7 @@ use Rattle.buffer.proofs.EntryLaws.{short, fitted}
 use Rattle.event.specs.Event.{Event}
 use Rattle.notepack.specs.Strict.{pack_tags, pack}
 use Rattle.nson.specs.Nson.{Counts}
+use Rattle.nson.specs.inner.Needs.{nson_needs}
 use Rattle.nson.specs.inner.Places.{tag_counts_place, around_kind, before_tags}
 use Rattle.nson.specs.Read as nson
 use Rattle.nson.proofs.Head.{Head, head_shown}
@@ -26,7 +27,7 @@ use Rattle.nsonwalk.specs.declared.NsonWalked.{NsonWalked}
 use Rattle.nsonwalk.specs.inner.Walk.{walked_of, nson_walk_at}
 use Rattle.nsonwalk.proofs.Standing.{Stands, body_stands, tag_count}
 use Rattle.nsonread.specs.inner.Copy.{nson_tags_text, nson_front_text, strict_of}
-use Rattle.nsonread.proofs.Copying.{all_copied}
+use Rattle.nsonread.proofs.Copying.{tags_copied}
 
 -- what the reading shows: the counts in front of it, and the event
 pub record Shows (s : List ℕ) (w : NsonWalked) : Type 0 where
@@ -43,7 +44,7 @@ module _ (s : List ℕ) (time : ℕ) (n : Read Counts) (b : nson.Body) (h : Head
       let m : l ≡ tag_sizes (length l) s tag_counts_place = ap (λ (c : Counts). c.tags) p.same in
       let place = n.next + around_kind + n.value.kind + n.value.content + before_tags in
       let is : nson.items_at (nson.tag_at s) false (tag_sizes (length l) s tag_counts_place) s place ≡ shown d.tags.list = rw m at d.tags.is in
-      let t : nson_tags_text (length l) s tag_counts_place place ≡ pack_tags b.tags = all_copied s (length l) 328 place d.tags.list p.filled is ∙ ap pack_tags d.tags.same in
+      let t : nson_tags_text (length l) s tag_counts_place place ≡ pack_tags b.tags = tags_copied s false (length l) 328 place d.tags.list p.filled is ∙ ap pack_tags d.tags.same in
       rw (t, sym d.content, tag_count s time n b h d) (simp (append_assoc))
 
 -- ---- the walk and the reading tell the same
@@ -103,34 +104,28 @@ walk_shows s w e =
 -- ---- the entry
 
 module _ (s d : List ℕ) where
-  pub write_refused : {r : Answer NsonWalked} {n q : ℕ} → r ≡ nson_walk_at s → r ≡ refused n q → (refused n q ≡ writes pack (nson.read_nson s) d) × (d ≡ leaves pack (nson.read_nson s) d)
-  write_refused e k = let u = walk_refuses s (sym e ∙ k) in (rw u refl, rw u refl)
+  pub write_refused : {n q : ℕ} → refused n q ≡ nson_walk_at s → (refused n q ≡ writes pack (nson.read_nson s) d) × (d ≡ leaves pack (nson.read_nson s) d)
+  write_refused e = let u = walk_refuses s (sym e) in (rw u refl, rw u refl)
 
-  pub write_short : {r : Answer NsonWalked} {w : NsonWalked} → r ≡ nson_walk_at s → r ≡ shown w → length d < w.len
-      → (refused 11 w.len ≡ writes pack (nson.read_nson s) d) × (d ≡ leaves pack (nson.read_nson s) d)
-  write_short {w = w} e k l = go (walk_shows s w (sym e ∙ k))
-    where
-      go : Shows s w → (refused 11 w.len ≡ writes pack (nson.read_nson s) d) × (d ≡ leaves pack (nson.read_nson s) d)
-      go g = let f = short (pack g.event) d g.len l in (rw g.shows f.0, rw g.shows f.1)
+  module _ (w : NsonWalked) (e : shown w ≡ nson_walk_at s) where
+    pub write_short : length d < w.len → (refused 11 w.len ≡ writes pack (nson.read_nson s) d) × (d ≡ leaves pack (nson.read_nson s) d)
+    write_short l =
+        let g = walk_shows s w (sym e) in
+        let f = short (pack g.event) d g.len l in
+        (rw g.shows f.0, rw g.shows f.1)
 
-  pub write_fitted : {r : Answer NsonWalked} {w : NsonWalked} {d' : List ℕ} {n : ℕ} → r ≡ nson_walk_at s → r ≡ shown w → w.len ≤ length d → Wrote d 0 (strict_of s w) d' n
-      → (shown n ≡ writes pack (nson.read_nson s) d) × (d' ≡ leaves pack (nson.read_nson s) d)
-  write_fitted {w = w} {d'} {n} e k l o = go (walk_shows s w (sym e ∙ k))
-    where
-      go : Shows s w → (shown n ≡ writes pack (nson.read_nson s) d) × (d' ≡ leaves pack (nson.read_nson s) d)
-      go g =
-          let t : Wrote d 0 (pack g.event) d' n = rw g.text at o in
-          let f = fitted g.len l t in
-          (rw g.shows f.0, rw g.shows f.1)
+    pub write_fitted : {d' : List ℕ} {n : ℕ} → w.len ≤ length d → Wrote d 0 (strict_of s w) d' n
+        → (shown n ≡ writes pack (nson.read_nson s) d) × (d' ≡ leaves pack (nson.read_nson s) d)
+    write_fitted l o =
+        let g = walk_shows s w (sym e) in
+        let f = fitted g.len l (rw g.text at o) in
+        (rw g.shows f.0, rw g.shows f.1)
 
 -- ---- the length alone
 
-module _ (s : List ℕ) where
-  pub len_refused : {r : Answer NsonWalked} {n q : ℕ} → r ≡ nson_walk_at s → r ≡ refused n q → refused n q ≡ and_then (nson.read_nson s) (λ e. shown (length (pack e)))
-  len_refused e k = let u = walk_refuses s (sym e ∙ k) in rw u refl
-
-  pub len_shown : {r : Answer NsonWalked} {w : NsonWalked} → r ≡ nson_walk_at s → r ≡ shown w → shown w.len ≡ and_then (nson.read_nson s) (λ e. shown (length (pack e)))
-  len_shown {w = w} e k = go (walk_shows s w (sym e ∙ k))
-    where
-      go : Shows s w → shown w.len ≡ and_then (nson.read_nson s) (λ e. shown (length (pack e)))
-      go g = rw g.shows (ap (λ (i : ℕ). shown i) g.len)
+pub needs_walk : (s : List ℕ) → nson_needs s ≡ and_then (nson_walk_at s) (λ w. shown w.len)
+needs_walk s = go (nson_walk_at s) refl
+  where
+    go : (r : Answer NsonWalked) → nson_walk_at s ≡ r → nson_needs s ≡ and_then r (λ w. shown w.len)
+    go (shown w) e = let g = walk_shows s w e in rw g.shows (ap (λ (i : ℕ). shown i) (sym g.len))
+    go (refused n p) e = rw (walk_refuses s e) refl

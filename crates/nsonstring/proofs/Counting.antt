@@ -3,15 +3,15 @@
 -- It begins behind the first byte, a block is one turn, and at the end it is `Simple`. A block is lent with the byte
 -- before it as its first.
 use Prim.Native.Nat.{ℕ, ◌+◌, ◌-◌, ◌/◌, ◌<◌, ◌≤◌}
-use mathlib.Core.Path.{◌≡◌, sym}
+use mathlib.Core.Path.{◌≡◌, refl, sym}
 use mathlib.Core.List.{List}
 use native.Mathlib.Omega.{arith}
 use lib.ListN.{length, get_or, take, drop, length-drop}
 use lib.Seq.{length-take-le}
 use Rattle.scan.specs.inner.Blocks.{neighbours}
-use Rattle.scan.proofs.BlockLaws.{neighbours_none, neighbours_more, lent_sum, neighbours_block}
+use Rattle.scan.proofs.BlockLaws.{neighbours_none, neighbours_more, neighbours_block}
 use Rattle.jsonstring.specs.inner.Loose.{clash_of}
-use Rattle.nsonstring.specs.inner.Simple.{slash_of, high_of, Simple}
+use Rattle.nsonstring.specs.inner.Simple.{slash_of, high_of, Simple, Grown}
 use Rattle.nsonstring.proofs.Simple.{slash_space}
 
 -- the sum over what is left from i on
@@ -44,24 +44,19 @@ counting_first t o q z b =
       above = sym a;
     }
 
--- the length of a block that is lent with the byte before it
-lent_length : (t : List ℕ) (i e : ℕ) → 1 ≤ i → i ≤ e → e ≤ length t → length (take (e - (i - 1)) (drop (i - 1) t)) ≡ e - (i - 1)
-lent_length t i e o h k = length-take-le (e - (i - 1)) (drop (i - 1) t) (omega (arith, length-drop (i - 1) t))
-
 -- a block more
-pub counting_block : {t : List ℕ} {i n h : ℕ} (e : ℕ) {m x y : ℕ} → Counting t i n h → i ≤ e → e ≤ length t
-    → m ≡ lent_sum clash_of (take (e - (i - 1)) (drop (i - 1) t)) → x ≡ lent_sum slash_of (take (e - (i - 1)) (drop (i - 1) t)) → y ≡ lent_sum high_of (take (e - (i - 1)) (drop (i - 1) t))
-    → x < length (take (e - (i - 1)) (drop (i - 1) t)) → y < length (take (e - (i - 1)) (drop (i - 1) t)) → m ≡ 0 → Counting t e (n + x) (h + y)
-counting_block {t} {i} {n} {h} e {m} {x} {y} g o k q r v a b z =
-    let w = lent_length t i e g.some o k in
+pub counting_block : {t : List ℕ} {i n h : ℕ} (e : ℕ) {m k : ℕ} → Counting t i n h → i ≤ e → e ≤ length t
+    → Grown (take (e - (i - 1)) (drop (i - 1) t)) n h m k → Counting t e m k
+counting_block {t} {i} {n} {h} e {m} {k} g o l x =
+    let w = length-take-le (e - (i - 1)) (drop (i - 1) t) (omega (arith, g.some, length-drop (i - 1) t)) in
     record {
       some = omega (arith, g.some);
-      inside = k;
-      few = omega (arith, g.some, g.few, w, a);
-      fewer = omega (arith, g.some, g.fewer, w, b);
-      clashes = omega (arith, g.clashes, neighbours_block clash_of t i e g.some o k q, z);
-      escapes = omega (arith, g.escapes, neighbours_block slash_of t i e g.some o k r);
-      above = omega (arith, g.above, neighbours_block high_of t i e g.some o k v);
+      inside = l;
+      few = omega (arith, g.some, g.few, w, x.few);
+      fewer = omega (arith, g.some, g.fewer, w, x.fewer);
+      clashes = omega (arith, g.clashes, neighbours_block clash_of t i e g.some o l refl, x.clashes);
+      escapes = omega (arith, g.escapes, neighbours_block slash_of t i e g.some o l refl, x.escapes);
+      above = omega (arith, g.above, neighbours_block high_of t i e g.some o l refl, x.above);
     }
 
 -- nothing is left
@@ -74,3 +69,5 @@ counting_done {t} {n} {h} l g =
       escapes = omega (arith, g.escapes, neighbours_none slash_of p t (length t) (omega arith));
       above = omega (arith, g.above, neighbours_none high_of p t (length t) (omega arith));
     }
+
+pub ruleset counting = (counting_first, counting_done)

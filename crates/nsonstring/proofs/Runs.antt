@@ -38,12 +38,12 @@ after_escape {t} {e} h s g p =
     record { back = λ r. p.back (rw q (escape (test_letter c g) r)) }
 
 -- a turn: a run and the escape behind it
+pub turn_inside : (t : List ℕ) (e : ℕ) {b : ℕ} {l : Bool} → b ≡ get_or t (e + 1) 0 → l ≡ is_letter b → l ≡ true → e + 2 ≤ length t
+turn_inside t e b l g = let n = letter_place t (e + 1) (ap is_letter (sym b) ∙ sym l ∙ g) in omega arith
+
 pub turn : {t : List ℕ} {i : ℕ} {part : List ℕ} {b : ℕ} {l : Bool} (e : ℕ) → e ≡ backslash_at t i → part ≡ take (e - i) (drop i t) → All NsonBare part → e < length t
-    → b ≡ get_or t (e + 1) 0 → l ≡ is_letter b → l ≡ true → Before t i → (i ≤ e) × (e + 2 ≤ length t) × Before t (e + 2)
-turn {t} {i} e q r a h b l g p =
-    let k : is_letter (get_or t (e + 1) 0) ≡ true = ap is_letter (sym b) ∙ sym l ∙ g in
-    let n = letter_place t (e + 1) k in
-    (run_onward t i q, omega arith, after_escape h (run_slash t i q h) k (after_run e q (rw r at a) p))
+    → b ≡ get_or t (e + 1) 0 → l ≡ is_letter b → l ≡ true → Before t i → Before t (e + 2)
+turn {t} {i} e q r a h b l g p = after_escape h (run_slash t i q h) (ap is_letter (sym b) ∙ sym l ∙ g) (after_run e q (rw r at a) p)
 
 -- nothing is left
 pub at_end : {t : List ℕ} {i : ℕ} → length t ≤ i → Before t i → Quoted NsonBare NsonLetter t
@@ -52,3 +52,5 @@ at_end {t} {i} h p = p.back (rw (rest_none t i h) none)
 -- a run up to the end
 pub run_end : {t : List ℕ} {i : ℕ} (e : ℕ) → e ≡ backslash_at t i → All NsonBare (take (e - i) (drop i t)) → length t ≤ e → Before t i → Quoted NsonBare NsonLetter t
 run_end e q b h p = at_end h (after_run e q b p)
+
+pub ruleset runs = (run_onward, at_start, turn_inside, turn, at_end, run_end)

@@ -94,14 +94,22 @@ simple_ascii {t} s z = utf8_ascii (ascii 0x20 t (sym s.above ∙ z))
 
 -- ---- what the look answers
 
--- of the empty text
-pub seen_none : (t : List ℕ) → length t ≡ 0 → (0 ≡ fault_in t) × (0 ≡ length (unescape t))
-seen_none t z = (sym (fault_end t 0 (omega arith)), sym (ap length (unescape_end t 0 (omega arith))))
+-- the empty text has no fault and spells nothing
+pub none_fault : (t : List ℕ) → length t ≡ 0 → 0 ≡ fault_in t
+none_fault t z = sym (fault_end t 0 (omega arith))
+
+pub none_len : (t : List ℕ) → length t ≡ 0 → 0 ≡ length (unescape t)
+none_len t z = sym (ap length (unescape_end t 0 (omega arith)))
 
 -- a text has no fewer bytes than escapes
 pub simple_most : {t : List ℕ} {n h : ℕ} → Simple t n h → n ≤ length t
 simple_most {t} s = omega (arith, (simple_sound t s).longer)
 
--- of a simple text that is UTF-8
-pub seen_simple : {t : List ℕ} {n h : ℕ} → Simple t n h → Utf8 t → (0 ≡ fault_in t) × (length t - n ≡ length (unescape t))
-seen_simple {t} s u = let k = simple_sound t s in (sym (faultless k.quoted u), omega (arith, k.longer))
+-- a simple text that is UTF-8 has no fault, and is longer than what it spells by its escapes
+pub simple_fault : {t : List ℕ} {n h : ℕ} → Simple t n h → Utf8 t → 0 ≡ fault_in t
+simple_fault {t} s u = sym (faultless (simple_sound t s).quoted u)
+
+pub simple_len : {t : List ℕ} {n h : ℕ} → Simple t n h → length t - n ≡ length (unescape t)
+simple_len {t} s = omega (arith, (simple_sound t s).longer)
+
+pub ruleset seen = (none_fault, none_len, simple_most, simple_len)

@@ -1,6 +1,5 @@
 pub mod Laws
 pub mod Sizing
 pub mod Turns
-pub mod Parts
 pub mod Standing
 pub mod Walking

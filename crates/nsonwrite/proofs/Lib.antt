@@ -1,5 +1,5 @@
 pub mod Plain
 pub mod Turns
-pub mod Counts
+pub mod Carried
 pub mod Whole
 pub mod Entry

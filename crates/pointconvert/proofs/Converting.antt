@@ -10,15 +10,14 @@ use borrow.Author.Tests.{ne_eqb}
 use Rattle.scan.specs.Choice.{shown, refused, and_then}
 use Rattle.scan.proofs.Reading.{shown_gives}
 use Rattle.scan.proofs.Many.{after, shown_same}
-use Rattle.moment.specs.Moment.{Second, whole, split, seconds_of}
+use Rattle.moment.specs.Moment.{whole, split, seconds_of}
 use Rattle.notepack.specs.declared.Part.{Part}
 use Rattle.notepack.specs.Unpack.{bytes_of}
 use Rattle.pointer.specs.Pointer.{header_at, kind_at, millis_at, second_at, time_at, pointed_text_at, pointed_tags_at, Form, form_at, pointed_event, pointer_event}
 use Rattle.pointer.proofs.Pieces.{text_gives}
 use Rattle.pointer.proofs.Again.{parts_tags}
-use Rattle.pointread.specs.declared.Outline.{Outline}
-use Rattle.pointread.specs.inner.Answers.{outline_of}
-use Rattle.pointread.proofs.Forms.{header_long, header_short}
+use Rattle.pointread.specs.inner.Answers.{Fields, fields_of}
+use Rattle.pointread.proofs.Forms.{header_long}
 use Rattle.pointread.proofs.Asking.{outlined, unread, first, form_tagged}
 use Rattle.pointconvert.specs.inner.Again.{form_event, Holds}
 
@@ -36,7 +35,7 @@ module _ (s : List ℕ) where
   module _ (v0 : header_at s ≡ shown 0) where
     -- ---- refused
 
-    pub no_form : {n p : ℕ} → and_then (form_at s) (λ (f : Form). shown (outline_of f)) ≡ refused n p → pointer_event s ≡ refused n p
+    pub no_form : {n p : ℕ} → and_then (form_at s) (λ (f : Form). shown (fields_of f)) ≡ refused n p → pointer_event s ≡ refused n p
     unfolding pointer_event
     no_form e = rw v0 (unread s _ e)
 
@@ -71,44 +70,35 @@ module _ (s : List ℕ) where
           content = omega (arith, at, len, long, g.pointed.inside.ends);
         }))))
 
-    same_event_lem : (t : ℕ) (f : Form) → form_at s ≡ shown f → pointed_event s t f ≡ form_event s (outline_of f) t
+    same_event_lem : (t : ℕ) (f : Form) → form_at s ≡ shown f → pointed_event s t f ≡ form_event s (fields_of f) t
     unfolding pointed_event form_event
     same_event_lem t f e =
         let tags : map (map (bytes_of s)) f.tags ≡ _ = ap (map (map (bytes_of s))) (form_tagged s f e).tags ∙ parts_tags s (length f.tags) (first s) in
         rw tags
 
-    module _ {o : Outline} (e : and_then (form_at s) (λ (f : Form). shown (outline_of f)) ≡ shown o) where
+    module _ {o : Fields} (e : and_then (form_at s) (λ (f : Form). shown (fields_of f)) ≡ shown o) where
       pub form_holds : Holds s o
       form_holds =
           let f = outlined s o e in
           let k = (form_known f.0 f.1).content in
-          let c = ap (λ (x : Outline). x.content) f.2 in
+          let c = ap (λ (x : Fields). x.content) f.2 in
           record {
             least = header_long 0 s v0;
-            most = header_short 0 s v0;
             content = rw c at k;
+            tags = sym (ap (λ (x : Fields). x.tag_count) f.2) ∙ (form_tagged s f.0 f.1).count;
           }
 
-      pub few_tags : o.tag_count ≤ 8_192
-      few_tags =
-          let f = outlined s o e in
-          omega (arith, ap (λ (x : Outline). x.tag_count) f.2, (form_tagged s f.0 f.1).ends, header_short 0 s v0)
-
       -- the second that the milliseconds say
-      module _ {r : Second} (second : r ≡ seconds_of o.time.0) where
-        told : r ≡ seconds_of (millis_at s)
-        told =
-            let f = outlined s o e in
-            let time = sym (ap (λ (x : Outline). x.time.0) f.2) ∙ (form_known f.0 f.1).time in
-            second ∙ ap seconds_of time
+      told : seconds_of o.time ≡ seconds_of (millis_at s)
+      told = let f = outlined s o e in ap seconds_of (sym (ap (λ (x : Fields). x.time) f.2) ∙ (form_known f.0 f.1).time)
 
-        pub event_shown : {t : ℕ} → r ≡ whole t → pointer_event s ≡ shown (form_event s o t)
-        unfolding pointer_event second_at
-        event_shown {t} w =
-            let f = outlined s o e in
-            let event = same_event_lem t f.0 f.1 ∙ ap (λ (x : Outline). form_event s x t) f.2 in
-            rw (v0, f.1, sym told ∙ w) (ap shown event)
+      pub event_shown : {t : ℕ} → whole t ≡ seconds_of o.time → pointer_event s ≡ shown (form_event s o t)
+      unfolding pointer_event second_at
+      event_shown {t} w =
+          let f = outlined s o e in
+          let event = same_event_lem t f.0 f.1 ∙ ap (λ (x : Fields). form_event s x t) f.2 in
+          rw (v0, f.1, sym told ∙ sym w) (ap shown event)
 
-        pub event_split : r ≡ split → pointer_event s ≡ refused 28 48
-        unfolding pointer_event second_at
-        event_split w = let f = outlined s o e in rw (v0, f.1, sym told ∙ w)
+      pub event_split : split ≡ seconds_of o.time → pointer_event s ≡ refused 28 48
+      unfolding pointer_event second_at
+      event_split w = let f = outlined s o e in rw (v0, f.1, sym told ∙ sym w)

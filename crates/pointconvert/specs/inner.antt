@@ -1,2 +1,2 @@
-pub mod Measured
+pub mod Fitting
 pub mod Again

@@ -1,5 +1,5 @@
--- What a header, a pointer, a table and a text say that were read, in a form of either version: the part is what the word
--- names, it lies in the data, and what is asked of it holds. A walk over the definitions, one law for each.
+-- What a header, a pointer, a table and a text say that were read, in a form of either version: the part is what the
+-- word names, it lies in the data, and what is asked of it holds. A walk over the definitions, one law for each.
 use Prim.Native.Nat.{ℕ, ◌+◌, ◌%◌, ◌≤◌}
 use mathlib.Core.Path.{◌≡◌, refl}
 use mathlib.Core.Bool.{Bool, true, false, ◌&&◌}

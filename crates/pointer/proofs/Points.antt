@@ -1,6 +1,6 @@
 -- Of a v1 nothing is asked but its header and its pointers.
--- Each part of the reading, of version 1, shows something or refuses with 27: so does a test between two such parts, one
--- after another, and any number of them.
+-- Each part of the reading, of version 1, shows something or refuses with 27: so does a test between two such parts,
+-- one after another, and any number of them.
 use Prim.Native.Nat.{ℕ, zero, suc, ◌+◌, ◌%◌}
 use mathlib.Core.Path.{◌≡◌}
 use mathlib.Core.Bool.{Bool, true, false, ◌&&◌}

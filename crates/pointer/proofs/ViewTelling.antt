@@ -1,5 +1,5 @@
--- A refusal of a question about a pointer form, and of converting it, has one of its numbers and a place in the input or
--- at its end: the reader's, and 19 or 29 at 0.
+-- A refusal of a question about a pointer form, and of converting it, has one of its numbers and a place in the input
+-- or at its end: the reader's, and 19 or 29 at 0.
 use Prim.{Unit, tt}
 use Prim.Native.Nat.{ℕ, zero, suc}
 use mathlib.Core.Path.{refl}

@@ -25,7 +25,8 @@ pub record Stands (s : List ℕ) (f : Form) : Type 0 where
   pub time : f.time ≡ signed_of (word_at s 48)
   -- the content is what the pointer at 56 names
   pub content : f.content ≡ part_named s 56
-  -- the tags are as many as the table has pointers that the one at 64 names, each tag what its own table's pointers name
+  -- the tags are as many as the table has pointers that the one at 64 names, each tag what its own table's pointers
+  -- name
   pub tags : f.tags ≡ each_from (tag_named s) (entries_in (part_named s 64)) (part_named s 64).at
   -- the content and every text lie in the data
   pub content_inside : InData s f.content

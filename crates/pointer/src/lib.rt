@@ -1,2 +1,3 @@
-// The pointer form: definitions and theorems alone (specs/, proofs/). Its reader is crate pointread, its writer pointwrite.
+// The pointer form: definitions and theorems alone (specs/, proofs/). Its reader is crate pointread, its writer
+// pointwrite.
 #![tactic(auto)]

@@ -3,48 +3,60 @@
 
 ghost use Rattle.std.specs.Prelude.{◌≡◌};
 ghost use Rattle.utf8.specs.inner.Width.{is_utf8};
-ghost use Rattle.notepack.specs.inner.Answers.{element_read};
-ghost use Rattle.pointer.specs.Pointer.{word_at, named, is_header, header_at, asked, data_size, piece_at, table_at, pointed_text, tag_table_at, kind_at, time_at, tags_table_at};
-ghost use Rattle.pointfields.specs.inner.Answers.{version_read, word_read, time_read};
+ghost use Rattle.event.specs.inner.Told.{answer};
+ghost use Rattle.pointer.specs.Pointer.{word_at, lower, upper, named, is_header, header_at, asked, data_size, piece_at, table_at, pointed_text, tag_table_at, kind_at, time_at, tags_table_at};
+ghost use Rattle.pointfields.specs.inner.Answers.{number_of, version_read, time_read};
 
-use event::Refusal;
+use event::{Reason, Refusal};
 use moment::Millis;
-use notepack::{ElementRead, Part};
+use notepack::Part;
 
-#[derive(Drop)]
-pub enum VersionRead {
-    Version(u64),
-    Refused(Refusal),
+// The two versions of the form. A v0 asks more than a v1.
+#[derive(Clone, Copy, PartialEq, Eq)]
+pub enum FormVersion {
+    V0 = 0,
+    V1 = 1,
 }
 
-#[derive(Drop)]
-pub enum WordRead {
-    Word(u64),
-    Refused(Refusal),
-}
-
-#[derive(Drop)]
-pub enum TimeRead {
-    Time(Millis),
-    Refused(Refusal),
+impl FormVersion {
+    // The number that a header has for it.
+    pub fn number(self) -> u64
+        ensures { result ≡ number_of self }
+    {
+        self as u64
+    }
 }
 
 // ---- words, the header, pointers
 
 // The number of the eight bytes at a place, the lowest first.
+#[tactic(auto, unfolding(pointer::specs::Pointer::word_at))]
 pub fn word_at(s: &[u8], at: usize) -> u64
     ensures { result ≡ word_at s.now at }
 {
     littleendian::number_at(s, at)
 }
 
-// What a word names: the upper 32 bits are the offset in the data, the lower the length.
+// The upper and the lower 32 bits of a word.
+fn upper(w: u64) -> u64
+    ensures { result ≡ upper w }
+{
+    w / 4_294_967_296
+}
+
+fn lower(w: u64) -> u64
+    ensures { result ≡ lower w }
+{
+    w % 4_294_967_296
+}
+
+// What a word names: the upper half is the offset in the data, the lower the length.
 fn named(w: u64) -> Part
     ensures { result ≡ named w }
 {
     Part {
-        at: 72 + (w / 4_294_967_296) as usize,
-        len: (w % 4_294_967_296) as usize,
+        at: 72 + upper(w) as usize,
+        len: lower(w) as usize,
         raw: false,
     }
 }
@@ -57,39 +69,38 @@ pub fn named_at(s: &[u8], at: usize) -> Part
 }
 
 // Whether a word is a header: no reserved bit, a version that is known, the length up to the id.
+#[tactic(auto, unfolding(pointer::specs::Pointer::is_header))]
 fn is_header(w: u64, s: &[u8]) -> bool
     ensures { result ≡ is_header w s.now }
 {
-    let upper = w / 4_294_967_296;
-    let lower = w % 4_294_967_296;
-    if upper / 65_536 == 0 {
-        if upper % 65_536 <= 1 {
-            if 72 <= lower {
-                return lower + 96 == s.len() as u64;
-            }
-        }
-    }
-    false
+    upper(w) / 65_536 == 0
+        && upper(w) % 65_536 <= 1
+        && 72 <= lower(w)
+        && lower(w) + 96 == s.len() as u64
 }
 
-// The version, 0 or 1; or the refusal, 1 first of all.
-pub fn version(s: &[u8]) -> VersionRead
+// The version, or the refusal, 1 first of all.
+#[tactic(auto, unfolding(pointer::specs::Pointer::header_at, pointer::specs::Pointer::is_header))]
+pub fn version(s: &[u8]) -> Result<FormVersion, Refusal>
     ensures { version_read result ≡ header_at s.now }
 {
-    if s.len() <= event::MAX_INPUT {
-        let w = word_at(s, 0);
-        if is_header(w, s) {
-            return VersionRead::Version(w / 4_294_967_296 % 65_536);
-        }
-        return VersionRead::Refused(Refusal {
-            number: event::BAD_HEADER,
+    if event::MAX_INPUT < s.len() {
+        return Err(Refusal {
+            reason: Reason::InputTooLong,
             place: 0,
         });
     }
-    VersionRead::Refused(Refusal {
-        number: event::INPUT_TOO_LONG,
-        place: 0,
-    })
+    let w = word_at(s, 0);
+    if !is_header(w, s) {
+        return Err(Refusal {
+            reason: Reason::BadHeader,
+            place: 0,
+        });
+    }
+    if upper(w) % 65_536 == 1 {
+        return Ok(FormVersion::V1);
+    }
+    Ok(FormVersion::V0)
 }
 
 // How many bytes of data stand between the first 72 bytes and the last 96.
@@ -100,83 +111,68 @@ pub fn data_size(s: &[u8]) -> usize
 }
 
 // The piece that the pointer at a place names.
-pub fn piece_at(s: &[u8], at: usize) -> ElementRead
-    ensures { element_read result ≡ piece_at s.now at }
+#[tactic(auto, unfolding(pointer::specs::Pointer::piece_at))]
+pub fn piece_at(s: &[u8], at: usize) -> Result<Part, Refusal>
+    ensures { answer result ≡ piece_at s.now at }
 {
     let w = word_at(s, at);
-    let upper = w / 4_294_967_296;
-    let lower = w % 4_294_967_296;
-    if upper % 8 == 0 {
-        if upper + lower <= data_size(s) as u64 {
-            return ElementRead::Found(named(w));
-        }
+    if upper(w) % 8 == 0 && upper(w) + lower(w) <= data_size(s) as u64 {
+        return Ok(named(w));
     }
-    ElementRead::Refused(Refusal {
-        number: event::BAD_POINTER,
+    Err(Refusal {
+        reason: Reason::BadPointer,
         place: at,
     })
 }
 
 // The same, of a table: pointers, of eight bytes each.
-fn table_at(s: &[u8], at: usize) -> ElementRead
-    ensures { element_read result ≡ table_at s.now at }
+#[tactic(auto, unfolding(pointer::specs::Pointer::table_at))]
+fn table_at(s: &[u8], at: usize) -> Result<Part, Refusal>
+    ensures { answer result ≡ table_at s.now at }
 {
-    let found = piece_at(s, at);
-    let ElementRead::Found(p) = found else {
-        return found;
-    };
+    let p = piece_at(s, at)?;
     if p.len % 8 == 0 {
-        return found;
+        return Ok(p);
     }
-    ElementRead::Refused(Refusal {
-        number: event::BAD_POINTER,
+    Err(Refusal {
+        reason: Reason::BadPointer,
         place: at,
     })
 }
 
 // The table of a tag: in a v0 of 1 to 255 texts.
-pub fn tag_table_at(version: u64, s: &[u8], at: usize) -> ElementRead
-    ensures { element_read result ≡ tag_table_at version s.now at }
+#[tactic(auto, unfolding(pointer::specs::Pointer::tag_table_at))]
+pub fn tag_table_at(version: FormVersion, s: &[u8], at: usize) -> Result<Part, Refusal>
+    ensures { answer result ≡ tag_table_at (number_of version) s.now at }
 {
-    let found = table_at(s, at);
-    let ElementRead::Found(p) = found else {
-        return found;
-    };
-    if version == 1 {
-        return found;
-    }
+    let p = table_at(s, at)?;
     let n = (p.len / 8) as u64;
-    if n <= event::MAX_TEXTS {
-        if 1 <= n {
-            return found;
-        }
-        return ElementRead::Refused(Refusal {
-            number: event::EMPTY_TAG,
+    if version == FormVersion::V0 && event::MAX_TEXTS < n {
+        return Err(Refusal {
+            reason: Reason::TooMany,
             place: at,
         });
     }
-    ElementRead::Refused(Refusal {
-        number: event::TOO_MANY,
-        place: at,
-    })
+    if version == FormVersion::V0 && n == 0 {
+        return Err(Refusal {
+            reason: Reason::EmptyTag,
+            place: at,
+        });
+    }
+    Ok(p)
 }
 
 // The table of the tags: in a v0 at most 1,000.
-pub fn tags_table_at(version: u64, s: &[u8]) -> ElementRead
-    ensures { element_read result ≡ tags_table_at version s.now }
+#[tactic(auto, unfolding(pointer::specs::Pointer::tags_table_at))]
+pub fn tags_table_at(version: FormVersion, s: &[u8]) -> Result<Part, Refusal>
+    ensures { answer result ≡ tags_table_at (number_of version) s.now }
 {
-    let found = table_at(s, 64);
-    let ElementRead::Found(p) = found else {
-        return found;
-    };
-    if version == 1 {
-        return found;
+    let p = table_at(s, 64)?;
+    if version == FormVersion::V1 || (p.len / 8) as u64 <= event::MAX_TAGS {
+        return Ok(p);
     }
-    if (p.len / 8) as u64 <= event::MAX_TAGS {
-        return found;
-    }
-    ElementRead::Refused(Refusal {
-        number: event::TOO_MANY,
+    Err(Refusal {
+        reason: Reason::TooMany,
         place: 64,
     })
 }
@@ -184,65 +180,55 @@ pub fn tags_table_at(version: u64, s: &[u8]) -> ElementRead
 // ---- numbers
 
 // The kind: in a v0 at most 65,535.
-pub fn kind_at(version: u64, s: &[u8]) -> WordRead
-    ensures { word_read result ≡ kind_at version s.now }
+#[tactic(auto, unfolding(pointer::specs::Pointer::kind_at))]
+pub fn kind_at(version: FormVersion, s: &[u8]) -> Result<u64, Refusal>
+    ensures { answer result ≡ kind_at (number_of version) s.now }
 {
     let w = word_at(s, 40);
-    if version == 1 {
-        return WordRead::Word(w);
+    if version == FormVersion::V1 || w <= event::MAX_KIND {
+        return Ok(w);
     }
-    if w <= event::MAX_KIND {
-        return WordRead::Word(w);
-    }
-    WordRead::Refused(Refusal {
-        number: event::KIND_OUT_OF_RANGE,
+    Err(Refusal {
+        reason: Reason::KindOutOfRange,
         place: 40,
     })
 }
 
 // The time: in a v0 a whole second, not before 1970.
-pub fn time_at(version: u64, s: &[u8]) -> TimeRead
-    ensures { time_read result ≡ time_at version s.now }
+#[tactic(auto, unfolding(pointer::specs::Pointer::time_at, pointer::specs::Pointer::second_at))]
+pub fn time_at(version: FormVersion, s: &[u8]) -> Result<Millis, Refusal>
+    ensures { time_read result ≡ time_at (number_of version) s.now }
 {
     let m = moment::millis_of(word_at(s, 48));
-    if version == 1 {
-        return TimeRead::Time(m);
+    if version == FormVersion::V1 || moment::to_seconds(m).is_some() {
+        return Ok(m);
     }
-    let told = moment::to_seconds(m);
-    match told {
-        moment::SecondsRead::Whole(_) => TimeRead::Time(m),
-        moment::SecondsRead::Split => TimeRead::Refused(Refusal {
-            number: event::SPLIT_SECOND,
-            place: 48,
-        }),
-    }
+    Err(Refusal {
+        reason: Reason::SplitSecond,
+        place: 48,
+    })
 }
 
 // ---- texts
 
 // Whether bytes are what the version asks of a text.
-fn is_text(version: u64, t: &[u8]) -> bool
-    ensures { result ≡ asked version (is_utf8 t.now) }
+fn is_text(version: FormVersion, t: &[u8]) -> bool
+    ensures { result ≡ asked (number_of version) (is_utf8 t.now) }
 {
-    if version == 1 {
-        return true;
-    }
-    utf8::is_utf8(t)
+    version == FormVersion::V1 || utf8::is_utf8(t)
 }
 
 // The text that the pointer at a place names: in a v0 well-formed.
-pub fn text_at(version: u64, s: &[u8], at: usize) -> ElementRead
-    ensures { element_read result ≡ pointed_text version s.now at }
+#[tactic(auto, unfolding(pointer::specs::Pointer::pointed_text))]
+pub fn text_at(version: FormVersion, s: &[u8], at: usize) -> Result<Part, Refusal>
+    ensures { answer result ≡ pointed_text (number_of version) s.now at }
 {
-    let found = piece_at(s, at);
-    let ElementRead::Found(p) = found else {
-        return found;
-    };
+    let p = piece_at(s, at)?;
     if is_text(version, scan::part(s, p.at, p.len)) {
-        return found;
+        return Ok(p);
     }
-    ElementRead::Refused(Refusal {
-        number: event::ILL_FORMED_UTF8,
+    Err(Refusal {
+        reason: Reason::IllFormedUtf8,
         place: p.at,
     })
 }

@@ -17,21 +17,20 @@ use Rattle.pointer.specs.Entries.{pointer_texts, pointer_element}
 use Rattle.pointer.specs.Named.{part_named, parts_from, tag_named}
 use Rattle.pointer.proofs.Items.{each_count, each_nth, each_none}
 use Rattle.pointer.proofs.Words.{word_below}
-use Rattle.pointread.specs.declared.Outline.{Outline}
-use Rattle.pointread.specs.inner.Answers.{outline_of}
+use Rattle.pointread.specs.inner.Answers.{Fields, fields_of}
 use Rattle.pointread.specs.inner.Walk.{tag_table}
 use Rattle.pointread.proofs.Asking.{outlined, first, Tagged, form_tagged}
 
 module _ (s : List ℕ) where
   -- ---- the table of tag i
 
-  module _ (i : ℕ) {o : Outline} (e : and_then (form_at s) (λ (f : Form). shown (outline_of f)) ≡ shown o) where
+  module _ (i : ℕ) {o : Fields} (e : and_then (form_at s) (λ (f : Form). shown (fields_of f)) ≡ shown o) where
     pub table_found : i < o.tag_count → tag_table i s ≡ shown (part_named s ((first s) + 8 * i))
     unfolding tag_table
     table_found h =
         let f = outlined s o e in
         let g = form_tagged s f.0 f.1 in
-        let n = ap (λ (x : Outline). x.tag_count) f.2 in
+        let n = ap (λ (x : Fields). x.tag_count) f.2 in
         let t : nth i f.0.tags ≡ shown (tag_named s ((first s) + 8 * i)) =
         ap (nth i) g.tags ∙ each_nth (tag_named s) i (length f.0.tags) (first s) (omega (arith, n)) in
         rw (f.1, t)
@@ -41,7 +40,7 @@ module _ (s : List ℕ) where
     table_none h =
         let f = outlined s o e in
         let g = form_tagged s f.0 f.1 in
-        let n = ap (λ (x : Outline). x.tag_count) f.2 in
+        let n = ap (λ (x : Fields). x.tag_count) f.2 in
         let t : nth i f.0.tags ≡ refused 19 0 = ap (nth i) g.tags ∙ each_none (tag_named s) i (length f.0.tags) (first s) (omega (arith, n)) in
         rw (f.1, t)
 
@@ -49,7 +48,7 @@ module _ (s : List ℕ) where
     pub pointer_fits : i < o.tag_count → (first s) + 8 * i ≤ length s
     pointer_fits h =
         let f = outlined s o e in
-        let n = ap (λ (x : Outline). x.tag_count) f.2 in
+        let n = ap (λ (x : Fields). x.tag_count) f.2 in
         omega (arith, n, (form_tagged s f.0 f.1).ends)
 
   -- ---- what is asked of tag i is asked of its table
@@ -117,3 +116,10 @@ module _ (s : List ℕ) where
     pub element_refused : (j : ℕ) → pointer_element i j s ≡ refused n q
     unfolding pointer_element
     element_refused j = by_table i (nth j) ∙ rw e
+
+-- where a table or a text stands, or none does
+pub ruleset tables = (table_found, table_none)
+
+pub ruleset texts = (texts_table, texts_refused)
+
+pub ruleset elements = (element_table, element_none, element_refused)

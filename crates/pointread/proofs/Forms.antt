@@ -15,8 +15,7 @@ use Rattle.notepack.specs.declared.Part.{Part}
 use Rattle.pointer.specs.Pointer.{asked, entries_in, header_at, pointed_text, kind_at, time_at, tags_table_at, pointed_tag_at, pointed_tags_at, Form, form_at}
 use Rattle.pointer.specs.Named.{part_named}
 use Rattle.pointer.proofs.Pieces.{Tabled, header_gives, table_gives}
-use Rattle.pointread.specs.declared.Outline.{Outline}
-use Rattle.pointread.specs.inner.Answers.{outline_of}
+use Rattle.pointread.specs.inner.Answers.{Fields, fields_of}
 use Rattle.pointread.specs.inner.Walk.{tags_fault, front_at}
 use Rattle.pointread.proofs.Texts.{text_alike}
 
@@ -55,26 +54,26 @@ module _ (version : ℕ) (s : List ℕ) where
   -- of the tags their number is kept
   counted : (k : ℕ) (t : ℤ) (c : Part) (n at : ℕ) (b : Answer (Read (List (List Part)))) → many (pointed_tag_at version s) n at ≡ b
       → and_then (and_then (and_then b (λ ts. shown ts.value)) (λ ts. shown (record { version = version; kind = k; time = t; content = c; tags = ts })))
-      (λ (f : Form). shown (outline_of f))
+      (λ (f : Form). shown (fields_of f))
       ≡ and_then (and_then b (λ _. shown (tt {0})))
-      (λ _. shown (record { version = version; kind = k; time = record { 0 = t }; content = c; tag_count = n }))
+      (λ _. shown (record { version = version; kind = k; time = t; content = c; tag_count = n }))
   counted k t c n at (shown ts) e = rw (many_count (pointed_tag_at version s) n at ts e)
   counted k t c n at (refused m p) e = refl
 
   tabled : (k : ℕ) (t : ℤ) (c : Part) (a : Answer Part) → Gives (Tabled s 64) a
       → and_then (and_then (and_then a (λ p. and_then (many (pointed_tag_at version s) (entries_in p) p.at) (λ ts. shown ts.value)))
       (λ ts. shown (record { version = version; kind = k; time = t; content = c; tags = ts })))
-      (λ (f : Form). shown (outline_of f))
-      ≡ and_then (and_then a (λ p. shown (record { version = version; kind = k; time = record { 0 = t }; content = c; tag_count = entries_in p })))
-      (λ (o : Outline). and_then (tags_fault version s o.tag_count (part_named s 64).at) (λ _. shown o))
+      (λ (f : Form). shown (fields_of f))
+      ≡ and_then (and_then a (λ p. shown (record { version = version; kind = k; time = t; content = c; tag_count = entries_in p })))
+      (λ (o : Fields). and_then (tags_fault version s o.tag_count (part_named s 64).at) (λ _. shown o))
   unfolding tags_fault
   tabled k t c (shown p) (gives g) = rw g.pointed.is (counted k t c (entries_in (part_named s 64)) (part_named s 64).at _ refl)
   tabled k t c (refused m q) g = refl
 
   -- THE law
   pub outline_walk : header_at s ≡ shown version
-      → and_then (form_at s) (λ (f : Form). shown (outline_of f))
-      ≡ and_then (front_at version s) (λ (o : Outline). and_then (tags_fault version s o.tag_count (part_named s 64).at) (λ _. shown o))
+      → and_then (form_at s) (λ (f : Form). shown (fields_of f))
+      ≡ and_then (front_at version s) (λ (o : Fields). and_then (tags_fault version s o.tag_count (part_named s 64).at) (λ _. shown o))
   unfolding form_at front_at pointed_tags_at
   outline_walk h =
       rw (h, text_alike version s 56)
@@ -87,20 +86,20 @@ module _ (version : ℕ) (s : List ℕ) where
 
   -- what each way out of the walk says
   pub walk_refused : {n p : ℕ} → header_at s ≡ shown version → front_at version s ≡ refused n p
-      → and_then (form_at s) (λ (f : Form). shown (outline_of f)) ≡ refused n p
+      → and_then (form_at s) (λ (f : Form). shown (fields_of f)) ≡ refused n p
   walk_refused h e = outline_walk h ∙ rw e
 
-  module _ {o : Outline} (h : header_at s ≡ shown version) (e : front_at version s ≡ shown o) where
+  module _ {o : Fields} (h : header_at s ≡ shown version) (e : front_at version s ≡ shown o) where
     pub walk_bad : {n p : ℕ} → tags_fault version s o.tag_count (part_named s 64).at ≡ refused n p
-        → and_then (form_at s) (λ (f : Form). shown (outline_of f)) ≡ refused n p
+        → and_then (form_at s) (λ (f : Form). shown (fields_of f)) ≡ refused n p
     walk_bad t = outline_walk h ∙ rw (e, t)
 
     pub walk_fine : tags_fault version s o.tag_count (part_named s 64).at ≡ shown tt
-        → and_then (form_at s) (λ (f : Form). shown (outline_of f)) ≡ shown o
+        → and_then (form_at s) (λ (f : Form). shown (fields_of f)) ≡ shown o
     walk_fine t = outline_walk h ∙ rw (e, t)
 
   -- the table of the tags ends within the input
-  tags_inside : 168 ≤ length s → Gives (λ (o : Outline). (part_named s 64).at + 8 * o.tag_count ≤ length s) (front_at version s)
+  tags_inside : 168 ≤ length s → Gives (λ (o : Fields). (part_named s 64).at + 8 * o.tag_count ≤ length s) (front_at version s)
   unfolding front_at
   tags_inside long =
       then_gives _ (anything (kind_at version s))
@@ -112,5 +111,5 @@ module _ (version : ℕ) (s : List ℕ) where
       then_gives _ tags_tabled
       (λ p g. let e = ap (λ (x : Part). x.len) g.pointed.is in gives (omega (arith, e, g.pointed.inside.ends))))))
 
-  pub tags_fit_lem : {o : Outline} → header_at s ≡ shown version → front_at version s ≡ shown o → (part_named s 64).at + 8 * o.tag_count ≤ length s
+  pub tags_fit_lem : {o : Fields} → header_at s ≡ shown version → front_at version s ≡ shown o → (part_named s 64).at + 8 * o.tag_count ≤ length s
   tags_fit_lem h e = shown_gives (rw e at (tags_inside (header_long h)))

@@ -53,6 +53,18 @@ module _ (version : ℕ) (s : List ℕ) where
       let g = shown_gives (rw e at (tag_table_gives s version at)) in
       (rw g.tabled.pointed.is (inside_lies s (word_at s at) g.tabled.pointed.inside), g.tabled.eights)
 
+  pub tag_from : (at : ℕ) {p : Part} → tag_table_at version s at ≡ shown p → 72 ≤ p.at
+  tag_from at e = (tag_lies at e).0.from
+
+  -- and ends within the input
+  pub tag_ends : (at : ℕ) {p : Part} → 168 ≤ length s → tag_table_at version s at ≡ shown p → p.at + 8 * (p.len / 8) ≤ length s
+  tag_ends at long e = let l = (tag_lies at e).0 in omega (arith, l.from, l.ends)
+
+  -- no table, no tag
+  pub tag_unread : (at : ℕ) {n q : ℕ} → tag_table_at version s at ≡ refused n q → pointed_tag version s at ≡ refused n q
+  unfolding pointed_tag
+  tag_unread at e = rw e
+
   module _ (at : ℕ) (p : Part) (table : tag_table_at version s at ≡ shown p) where
     -- a tag of no texts, in a v1
     pub tag_none : p.len / 8 ≡ 0 → pointed_tag version s at ≡ shown p
@@ -98,3 +110,6 @@ module _ (version : ℕ) (s : List ℕ) where
           let bad : pointed_text_at version s (p.at + 8 * (b - first)) ≡ refused x.0 x.1 = rw i x.3 in
           let e = many_bad (pointed_text_at version s) (b - first) (entries_in p) p.at (omega arith) (λ j m. goods j (omega arith)) bad in
           rw (table, e, x.2)
+
+-- all of it
+pub ruleset tables = (tag_unread, tag_none, entry_told, tag_fine, tag_bad, tag_from, tag_ends)

@@ -105,3 +105,8 @@ good_piece version s i {p} e = rw e (go (asked version (is_utf8 (bytes_of s p)))
 pub bad_piece : (version : ℕ) (s : List ℕ) (i : ℕ) {n q : ℕ} → piece_at s (72 + 8 * i) ≡ refused n q → false ≡ is_good version s i
 unfolding is_good pointed_text
 bad_piece version s i e = rw e
+
+-- for a part, and for a word
+pub ruleset parts = (entry_there, end_decides, empty_text)
+
+pub ruleset words = (good_piece, bad_piece)

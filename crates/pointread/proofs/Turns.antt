@@ -1,8 +1,8 @@
--- The turns of the loops over texts and over tags: a read that is good passes on to the others, one that is not decides.
--- A tag is read exactly where its table and its texts are.
-use Prim.{Unit, tt}
-use Prim.Native.Nat.{ℕ, zero, suc, ◌+◌, ◌-◌, ◌<◌, ◌≤◌}
-use mathlib.Core.Path.{◌≡◌, refl, ◌∙◌}
+-- The turns of the loops over texts and over tags: a read that is good passes on to the others, one that is not
+-- decides. A tag is read exactly where its table and its texts are.
+use Prim.{tt}
+use Prim.Native.Nat.{ℕ, zero, suc, ◌+◌, ◌*◌, ◌-◌, ◌<◌, ◌≤◌}
+use mathlib.Core.Path.{◌≡◌, refl}
 use mathlib.Core.List.{List, ◌∷◌}
 use native.Mathlib.Numerals.{sub-one}
 use native.Mathlib.Omega.{arith}
@@ -21,20 +21,26 @@ module _ {A : Type 0} (item : ℕ → Answer (Read A)) where
   turn (shown xs) y = refl
   turn (refused n q) y = refl
 
-  turn_more : (left at : ℕ) {x : Answer (Unit {0})} → x ≡ fault (many item left at) → 0 < left → Good item at → x ≡ fault (many item (left - 1) (at + 8))
+  turn_first : (left at : ℕ) → 0 < left → Good item at → fault (many item left at) ≡ fault (many item (left - 1) (at + 8))
   unfolding many
-  turn_more zero at v h g = absurd (omega arith)
-  turn_more (suc left) at v h (good y q) = v ∙ rw (q, sub-one) (turn (many item left (at + 8)) y)
+  turn_first zero at h g = absurd (omega arith)
+  turn_first (suc left) at h (good y q) = rw (q, sub-one) (turn (many item left (at + 8)) y)
 
-  turn_bad : (left at : ℕ) {n q : ℕ} {x : Answer (Unit {0})} → x ≡ fault (many item left at) → 0 < left → item at ≡ refused n q → x ≡ refused n q
-  unfolding many
-  turn_bad zero at v h e = absurd (omega arith)
-  turn_bad (suc left) at v h e = v ∙ rw e
+  turn_more : (n i at : ℕ) → i < n → Good item (at + 8 * i) → fault (many item (n - i) (at + 8 * i)) ≡ fault (many item (n - (i + 1)) (at + 8 * (i + 1)))
+  turn_more n i at h g =
+      let one : n - (i + 1) ≡ n - i - 1 = omega arith in
+      let next : at + 8 * (i + 1) ≡ at + 8 * i + 8 = omega arith in
+      rw (one, next) (turn_first (n - i) (at + 8 * i) (omega arith) g)
 
-  turn_done : (left at : ℕ) {x : Answer (Unit {0})} → x ≡ fault (many item left at) → left ≤ 0 → x ≡ shown tt
+  turn_bad : (left at : ℕ) {n q : ℕ} → 0 < left → item at ≡ refused n q → fault (many item left at) ≡ refused n q
   unfolding many
-  turn_done zero at v h = v
-  turn_done (suc left) at v h = absurd (omega arith)
+  turn_bad zero at h e = absurd (omega arith)
+  turn_bad (suc left) at h e = rw e
+
+  turn_done : (left at : ℕ) → left ≤ 0 → fault (many item left at) ≡ shown tt
+  unfolding many
+  turn_done zero at h = refl
+  turn_done (suc left) at h = absurd (omega arith)
 
 -- ---- what has a fault
 
@@ -60,19 +66,18 @@ same_fault (refused m p) b = refl
 module _ (version : ℕ) (s : List ℕ) where
   -- ---- texts
 
-  pub texts_more : (left at : ℕ) {p : Part} {x : Answer (Unit {0})} → x ≡ texts_fault version s left at → 0 < left → pointed_text version s at ≡ shown p
-      → x ≡ texts_fault version s (left - 1) (at + 8)
+  pub texts_more : (n i at : ℕ) {p : Part} → i < n → pointed_text version s (at + 8 * i) ≡ shown p
+      → texts_fault version s (n - i) (at + 8 * i) ≡ texts_fault version s (n - (i + 1)) (at + 8 * (i + 1))
   unfolding texts_fault
-  texts_more left at {p} v h e = turn_more (pointed_text_at version s) left at v h (good p (as_read version s at e))
+  texts_more n i at {p} h e = turn_more (pointed_text_at version s) n i at h (good p (as_read version s (at + 8 * i) e))
 
-  pub texts_bad : (left at : ℕ) {n q : ℕ} {x : Answer (Unit {0})} → x ≡ texts_fault version s left at → 0 < left → pointed_text version s at ≡ refused n q
-      → x ≡ refused n q
+  pub texts_bad : (n i at : ℕ) {m q : ℕ} → i < n → pointed_text version s (at + 8 * i) ≡ refused m q → texts_fault version s (n - i) (at + 8 * i) ≡ refused m q
   unfolding texts_fault
-  texts_bad left at v h e = turn_bad (pointed_text_at version s) left at v h (as_read version s at e)
+  texts_bad n i at h e = turn_bad (pointed_text_at version s) (n - i) (at + 8 * i) (omega arith) (as_read version s (at + 8 * i) e)
 
-  pub texts_done : (left at : ℕ) {x : Answer (Unit {0})} → x ≡ texts_fault version s left at → left ≤ 0 → x ≡ shown tt
+  pub texts_done : (n i at : ℕ) → n ≤ i → texts_fault version s (n - i) (at + 8 * i) ≡ shown tt
   unfolding texts_fault
-  texts_done left at v h = turn_done (pointed_text_at version s) left at v h
+  texts_done n i at h = turn_done (pointed_text_at version s) (n - i) (at + 8 * i) (omega arith)
 
   -- ---- a tag
 
@@ -102,27 +107,34 @@ module _ (version : ℕ) (s : List ℕ) where
 
   -- ---- tags
 
-  pub tags_more : (left at : ℕ) {p : Part} {x : Answer (Unit {0})} → x ≡ tags_fault version s left at → 0 < left → pointed_tag version s at ≡ shown p
-      → x ≡ tags_fault version s (left - 1) (at + 8)
+  pub tags_more : (n i at : ℕ) {p : Part} → i < n → pointed_tag version s (at + 8 * i) ≡ shown p
+      → tags_fault version s (n - i) (at + 8 * i) ≡ tags_fault version s (n - (i + 1)) (at + 8 * (i + 1))
   unfolding tags_fault
-  tags_more left at v h e = turn_more (pointed_tag_at version s) left at v h (tag_good at e)
+  tags_more n i at h e = turn_more (pointed_tag_at version s) n i at h (tag_good (at + 8 * i) e)
 
-  pub tags_bad : (left at : ℕ) {n q : ℕ} {x : Answer (Unit {0})} → x ≡ tags_fault version s left at → 0 < left → pointed_tag version s at ≡ refused n q
-      → x ≡ refused n q
+  pub tags_bad : (n i at : ℕ) {m q : ℕ} → i < n → pointed_tag version s (at + 8 * i) ≡ refused m q → tags_fault version s (n - i) (at + 8 * i) ≡ refused m q
   unfolding tags_fault
-  tags_bad left at v h e = turn_bad (pointed_tag_at version s) left at v h (tag_refused at e)
+  tags_bad n i at h e = turn_bad (pointed_tag_at version s) (n - i) (at + 8 * i) (omega arith) (tag_refused (at + 8 * i) e)
 
-  pub tags_done : (left at : ℕ) {x : Answer (Unit {0})} → x ≡ tags_fault version s left at → left ≤ 0 → x ≡ shown tt
+  pub tags_done : (n i at : ℕ) → n ≤ i → tags_fault version s (n - i) (at + 8 * i) ≡ shown tt
   unfolding tags_fault
-  tags_done left at v h = turn_done (pointed_tag_at version s) left at v h
+  tags_done n i at h = turn_done (pointed_tag_at version s) (n - i) (at + 8 * i) (omega arith)
 
   -- the same by a tag's fault
-  pub fault_more : (left at : ℕ) {x : Answer (Unit {0})} → x ≡ tags_fault version s left at → 0 < left → tag_fault version s at ≡ shown tt
-      → x ≡ tags_fault version s (left - 1) (at + 8)
+  pub fault_more : (n i at : ℕ) → i < n → tag_fault version s (at + 8 * i) ≡ shown tt
+      → tags_fault version s (n - i) (at + 8 * i) ≡ tags_fault version s (n - (i + 1)) (at + 8 * (i + 1))
   unfolding tag_fault
-  fault_more left at v h e = after (pointed_tag version s at) _ tt e (λ p q _. tags_more left at v h q)
+  fault_more n i at h e = after (pointed_tag version s (at + 8 * i)) _ tt e (λ p q _. tags_more n i at h q)
 
-  pub fault_bad : (left at : ℕ) {n q : ℕ} {x : Answer (Unit {0})} → x ≡ tags_fault version s left at → 0 < left → tag_fault version s at ≡ refused n q
-      → x ≡ refused n q
+  pub fault_bad : (n i at : ℕ) {m q : ℕ} → i < n → tag_fault version s (at + 8 * i) ≡ refused m q → tags_fault version s (n - i) (at + 8 * i) ≡ refused m q
   unfolding tag_fault
-  fault_bad left at v h e = tags_bad left at v h (has_fault (pointed_tag version s at) e)
+  fault_bad n i at h e = tags_bad n i at h (has_fault (pointed_tag version s (at + 8 * i)) e)
+
+-- for the loops, and for a tag
+pub ruleset texts = (texts_more, texts_bad, texts_done)
+
+pub ruleset tags = (tags_more, tags_bad, tags_done)
+
+pub ruleset tags_by_fault = (fault_more, fault_bad, tags_done)
+
+pub ruleset tag = (tag_texts_lem, tag_untabled)

@@ -1,38 +1,19 @@
--- The lengths of what is written: a part's text, its filling, the tags, the data and the whole; and the whole, cut in
+-- The lengths of what is written: a text with its filling, the tags, the data and the whole; and the whole, cut in
 -- front of the data and behind it.
 -- By induction on the tags; the rest is counting.
-use Prim.Native.Nat.{ℕ, zero, suc, ◌+◌, ◌*◌, ◌≤◌}
+use Prim.Native.Nat.{ℕ, ◌+◌, ◌≤◌}
 use mathlib.Core.Path.{◌≡◌, refl, sym, ap, ◌∙◌}
-use mathlib.Core.Bool.{true, false}
 use mathlib.Core.List.{List, [], ◌∷◌, ◌++◌, append_assoc}
 use native.Mathlib.Omega.{arith}
-use lib.ListN.{length, drop, replicate, length-take, length-drop, length-append}
-use Rattle.littleendian.specs.LittleEndian.{low_first}
-use Rattle.hexdigits.proofs.Texts.{length_hexes}
+use lib.ListN.{length, take, replicate, length-append}
+use Rattle.std.proofs.lemmas.List.{take-replicate}
 use Rattle.event.specs.Event.{Text, Tag, Event, Valid}
-use Rattle.notepack.specs.declared.Part.{Part}
-use Rattle.notepack.specs.Unpack.{bytes_of, text_of}
-use Rattle.notepack.proofs.Walking.{text_raw, text_plain}
 use Rattle.pointer.specs.Written.{filling, padded_text, tag_piece, tag_size, tag_pieces, tag_pointers, pieces_offset, pointer_data, pointer_form}
 use Rattle.pointer.proofs.Filled.{length_filling, length_tags, length_piece}
 use Rattle.pointer.proofs.Words.{length_word}
 use Rattle.pointwrite.specs.inner.Pieces.{tags_size, data_length, form_front}
 
--- ---- a part's text
-
-module _ (s : List ℕ) (p : Part) where
-  -- a part is no longer than the input
-  pub part_short : length (bytes_of s p) ≤ length s
-  part_short = omega (arith, length-take p.len (drop p.at s), length-drop p.at s)
-
-  -- two digits for each raw byte
-  pub raw_length : p.raw ≡ true → length (text_of s p) ≡ 2 * length (bytes_of s p)
-  raw_length r = rw (text_raw s p r) (length_hexes (bytes_of s p))
-
-  pub plain_length : p.raw ≡ false → length (text_of s p) ≡ length (bytes_of s p)
-  plain_length r = rw (text_plain s p r)
-
--- ---- its filling
+-- ---- a text and its filling
 
 pub filling_most : (n : ℕ) → length (filling n) ≤ 7
 filling_most n = omega (arith, length_filling n)
@@ -41,18 +22,10 @@ pub length_padded : (t : Text) → length (padded_text t) ≡ length t + length 
 unfolding padded_text
 length_padded t = length-append t (filling (length t))
 
-pub filling_padded : (t : Text) {n k : ℕ} → n ≡ length t → k ≡ length (filling n) → n + k ≡ length (padded_text t)
-filling_padded t e f = rw (f, e) (sym (length_padded t))
-
--- the lowest bytes of 0 are zeros
-zeros : (k : ℕ) → low_first k 0 ≡ replicate k 0
-unfolding low_first
-zeros zero = refl
-zeros (suc k) = ap (λ (l : List ℕ). 0 ∷ l) (zeros k)
-
-pub filling_zeros : (n : ℕ) {k : ℕ} → k ≡ length (filling n) → filling n ≡ low_first k 0
+-- as many of seven zeros
+pub filling_zeros : (n : ℕ) {k : ℕ} → k ≡ length (filling n) → filling n ≡ take k (replicate 7 0)
 unfolding filling
-filling_zeros n {k} e = sym (zeros k ∙ ap (λ (j : ℕ). replicate j 0) (e ∙ length_filling n))
+filling_zeros n {k} e = sym (take-replicate k 7 0 (omega (arith, e, filling_most n)) ∙ ap (λ (j : ℕ). replicate j 0) (e ∙ length_filling n))
 
 -- ---- the whole
 

@@ -1,4 +1,3 @@
-pub mod Times
 pub mod Lengths
 pub mod Turns
 pub mod Whole

@@ -1,39 +1,78 @@
 -- The turns of the loops over texts and tags: what one more adds to the lengths, the pointers and the pieces.
 -- Each by one step of the definition; l is what is left, m what is left behind it.
 use Prim.Native.Nat.{ℕ, ◌+◌, ◌*◌, ◌-◌, ◌<◌, ◌≤◌}
-use mathlib.Core.Path.{◌≡◌, refl, ap, ◌∙◌}
+use mathlib.Core.Path.{◌≡◌, refl, sym, ap, ◌∙◌}
 use mathlib.Core.List.{List, [], ◌∷◌, ◌++◌}
 use native.Mathlib.Omega.{arith}
 use lib.ListN.{length, length-append}
 use Rattle.buffer.specs.inner.Store.{Wrote}
-use Rattle.event.specs.Event.{Text, Tag}
-use Rattle.notepack.specs.inner.Again.{count_again, texts_again, texts_end, tags_again}
-use Rattle.notepack.proofs.Again.{texts_count, tags_turn}
+use Rattle.buffer.proofs.Laws.{Left, part, done, also}
+use Rattle.event.specs.Event.{Tag}
+use Rattle.notepack.specs.declared.Part.{Part}
+use Rattle.notepack.specs.Unpack.{text_of}
+use Rattle.notepack.specs.inner.Again.{part_again, count_again, texts_again, texts_end, tags_again}
+use Rattle.notepack.proofs.Again.{texts_count, texts_turn, texts_left, tags_turn, tags_left_lem}
 use Rattle.pointer.specs.Layout.{pointer, word}
 use Rattle.pointer.specs.Written.{padded_text, padded_texts, text_pointers, tag_piece, tag_size, tag_pieces, tag_pointers}
 use Rattle.pointwrite.specs.inner.Pieces.{tag_texts, tag_end, tags_size}
+use Rattle.pointwrite.proofs.Lengths.{length_padded}
 
--- ---- texts
+-- ---- the loops over texts: of n texts k are passed, and the next stands at a place
 
-module _ {l m : Tag} {t : Text} (e : l ≡ t ∷ m) where
-  pub texts_length_lem : length (padded_texts l) ≡ length (padded_text t) + length (padded_texts m)
-  texts_length_lem = ap (λ (x : Tag). length (padded_texts x)) e ∙ length-append (padded_text t) (padded_texts m)
+module _ (s : List ℕ) (n k at : ℕ) where
+  module _ (l : k < n) {p : Part} {next : ℕ} (e : p ≡ (part_again s at).value) (f : next ≡ (part_again s at).next) where
+    text_turn : (texts_again (n - k) s at ≡ text_of s p ∷ texts_again (n - (k + 1)) s next) × (texts_end (n - k) s at ≡ texts_end (n - (k + 1)) s next)
+    text_turn = let one : n - (k + 1) ≡ n - k - 1 = omega arith in rw one (texts_turn s (n - k) at (omega arith) e f)
 
-  pub pointers_more : (o : ℕ) {n k : ℕ} → n ≡ length t → k ≡ length (padded_text t) → text_pointers o l ≡ word (pointer o n) ++ text_pointers (o + k) m
-  pointers_more o f g = rw (e, f, g)
+    pub text_ends : {x : ℕ} → x ≡ texts_end (n - k) s at → x ≡ texts_end (n - (k + 1)) s next
+    text_ends g = g ∙ text_turn.1
 
-module _ {l : Tag} (e : l ≡ []) where
-  pub texts_none : length (padded_texts l) ≡ 0
-  texts_none = rw e
+    pub text_gathered : (len : ℕ) {m x : ℕ} → len + length (padded_texts (texts_again (n - k) s at)) ≡ x → m ≡ length (padded_text (text_of s p))
+        → len + m + length (padded_texts (texts_again (n - (k + 1)) s next)) ≡ x
+    text_gathered len {m} {x} g h =
+        omega (
+          arith,
+          g,
+          h,
+          ap (λ (ts : Tag). length (padded_texts ts)) text_turn.0,
+          length-append (padded_text (text_of s p)) (padded_texts (texts_again (n - (k + 1)) s next)),
+        )
 
-  pub pointers_none : (o : ℕ) → text_pointers o l ≡ []
-  pointers_none o = rw e
+    -- it stands in the data
+    pub text_fits : (len : ℕ) {q x : ℕ} → len + length (padded_texts (texts_again (n - k) s at)) ≡ x → x ≤ 65_536 → q ≡ length (text_of s p) → len + q ≤ 65_536
+    text_fits len {q} {x} g b h = omega (arith, text_gathered len g refl, b, h, length_padded (text_of s p))
 
--- ---- tags
+    module _ {d : List ℕ} {place : ℕ} {all d' : List ℕ} {o : ℕ} {d'' : List ℕ} {o' : ℕ} where
+      pub text_written : Left d place all d' o (padded_texts (texts_again (n - k) s at)) → Wrote d' o (padded_text (text_of s p)) d'' o'
+          → Left d place all d'' o' (padded_texts (texts_again (n - (k + 1)) s next))
+      text_written g w = part (also (ap padded_texts text_turn.0) g) w
 
--- the tag at a place, and the others from where it ends
-pub tag_turn : (s : List ℕ) (left at : ℕ) {end : ℕ} → 0 < left → end ≡ tag_end s at → tags_again left s at ≡ tag_texts s at ∷ tags_again (left - 1) s end
-tag_turn s left at h e = tags_turn s left at h refl refl e
+      pub text_pointed : (offset : ℕ) {len m : ℕ} → Left d place all d' o (text_pointers offset (texts_again (n - k) s at))
+          → len ≡ length (text_of s p) → m ≡ length (padded_text (text_of s p)) → Wrote d' o (word (pointer offset len)) d'' o'
+          → Left d place all d'' o' (text_pointers (offset + m) (texts_again (n - (k + 1)) s next))
+      text_pointed offset {len} {m} g h i w = part (also (rw (text_turn.0, h, i)) g) w
+
+  -- none is left
+  module _ (l : n ≤ k) where
+    no_text : (texts_again (n - k) s at ≡ []) × (texts_end (n - k) s at ≡ at)
+    no_text = texts_left s (n - k) at (omega arith)
+
+    pub texts_ended : {x : ℕ} → x ≡ texts_end (n - k) s at → at ≡ x
+    texts_ended g = sym (g ∙ no_text.1)
+
+    pub texts_gathered : {len x : ℕ} → len + length (padded_texts (texts_again (n - k) s at)) ≡ x → len ≡ x
+    texts_gathered {len} {x} g = omega (arith, g, ap (λ (ts : Tag). length (padded_texts ts)) no_text.0)
+
+    module _ {d : List ℕ} {place : ℕ} {all d' : List ℕ} {o : ℕ} where
+      pub texts_written : Left d place all d' o (padded_texts (texts_again (n - k) s at)) → Wrote d place all d' o
+      texts_written g = done (also (ap padded_texts no_text.0) g)
+
+      pub texts_pointed : (offset : ℕ) → Left d place all d' o (text_pointers offset (texts_again (n - k) s at)) → Wrote d place all d' o
+      texts_pointed offset g = done (also (ap (text_pointers offset) no_text.0) g)
+
+pub ruleset text_steps = (text_ends, text_gathered, text_written, text_pointed, texts_written, texts_pointed)
+
+-- ---- a tag
 
 -- the tag whose count and first text are told
 module _ (s : List ℕ) (at : ℕ) {n : ℕ} (e : n ≡ (count_again s at).value) where
@@ -64,22 +103,46 @@ module _ (s : List ℕ) (at : ℕ) {n : ℕ} (e : n ≡ (count_again s at).value
       unfolding tag_piece
       tag_wrote w = rw (← tag_table_lem, ← same_tag) w
 
-module _ {l m : List Tag} {t : Tag} (e : l ≡ t ∷ m) where
-  pub sizes_more : tags_size l ≡ tag_size t + tags_size m
-  sizes_more = ap tags_size e
+-- ---- the loops over tags: of n tags k are passed, and the next stands at a place
 
-  pub pieces_more : (o : ℕ) {k : ℕ} → k ≡ o + tag_size t → tag_pieces o l ≡ tag_piece o t ++ tag_pieces k m
-  pieces_more o f = rw (e, f)
+module _ (s : List ℕ) (n k at : ℕ) where
+  module _ (l : k < n) {end : ℕ} (e : end ≡ tag_end s at) where
+    tag_turn : tags_again (n - k) s at ≡ tag_texts s at ∷ tags_again (n - (k + 1)) s end
+    tag_turn = let one : n - (k + 1) ≡ n - k - 1 = omega arith in rw one (tags_turn s (n - k) at (omega arith) refl refl e)
 
-  pub tag_pointers_more : (o : ℕ) {n k : ℕ} → n ≡ 8 * length t → k ≡ tag_size t → tag_pointers o l ≡ word (pointer o n) ++ tag_pointers (o + k) m
-  tag_pointers_more o f g = rw (e, f, g)
+    pub tag_gathered : (len : ℕ) {m x : ℕ} → len + tags_size (tags_again (n - k) s at) ≡ x → m ≡ tag_size (tag_texts s at) → len + m + tags_size (tags_again (n - (k + 1)) s end) ≡ x
+    tag_gathered len {m} {x} g h = omega (arith, g, h, ap tags_size tag_turn)
 
-module _ {l : List Tag} (e : l ≡ []) where
-  pub sizes_none : tags_size l ≡ 0
-  sizes_none = rw e
+    pub tag_reached : (len : ℕ) {m x : ℕ} → len + tags_size (tags_again (n - k) s at) ≡ x → m ≡ len + tag_size (tag_texts s at) → m + tags_size (tags_again (n - (k + 1)) s end) ≡ x
+    tag_reached len {m} {x} g h = omega (arith, g, h, ap tags_size tag_turn)
 
-  pub pieces_none : (o : ℕ) → tag_pieces o l ≡ []
-  pieces_none o = rw e
+    module _ (offset : ℕ) {d : List ℕ} {place : ℕ} {all d' : List ℕ} {o : ℕ} {d'' : List ℕ} {o' : ℕ} where
+      pub tag_written : {m : ℕ} → Left d place all d' o (tag_pieces offset (tags_again (n - k) s at)) → m ≡ offset + tag_size (tag_texts s at)
+          → Wrote d' o (tag_piece offset (tag_texts s at)) d'' o' → Left d place all d'' o' (tag_pieces m (tags_again (n - (k + 1)) s end))
+      tag_written {m} g h w = part (also (rw (tag_turn, h)) g) w
 
-  pub tag_pointers_none : (o : ℕ) → tag_pointers o l ≡ []
-  tag_pointers_none o = rw e
+      pub tag_pointed : {len m : ℕ} → Left d place all d' o (tag_pointers offset (tags_again (n - k) s at))
+          → len ≡ 8 * length (tag_texts s at) → m ≡ tag_size (tag_texts s at) → Wrote d' o (word (pointer offset len)) d'' o'
+          → Left d place all d'' o' (tag_pointers (offset + m) (tags_again (n - (k + 1)) s end))
+      tag_pointed {len} {m} g h i w = part (also (rw (tag_turn, h, i)) g) w
+
+  -- it stands in the data
+  pub tag_fits : k < n → (len : ℕ) {x : ℕ} → len + tags_size (tags_again (n - k) s at) ≡ x → x ≤ 65_536 → len + tag_size (tag_texts s at) ≤ 65_536
+  tag_fits l len {x} g b = omega (arith, tag_gathered l refl len g refl, b)
+
+  -- none is left
+  module _ (l : n ≤ k) where
+    no_tag : tags_again (n - k) s at ≡ []
+    no_tag = tags_left_lem s (n - k) at (omega arith)
+
+    pub tags_gathered : {len x : ℕ} → len + tags_size (tags_again (n - k) s at) ≡ x → len ≡ x
+    tags_gathered {len} {x} g = omega (arith, g, ap tags_size no_tag)
+
+    module _ (offset : ℕ) {d : List ℕ} {place : ℕ} {all d' : List ℕ} {o : ℕ} where
+      pub tags_written : Left d place all d' o (tag_pieces offset (tags_again (n - k) s at)) → Wrote d place all d' o
+      tags_written g = done (also (ap (tag_pieces offset) no_tag) g)
+
+      pub tags_pointed : Left d place all d' o (tag_pointers offset (tags_again (n - k) s at)) → Wrote d place all d' o
+      tags_pointed g = done (also (ap (tag_pointers offset) no_tag) g)
+
+pub ruleset tag_steps = (tag_gathered, tag_reached, tag_written, tag_pointed, tags_written, tags_pointed)

@@ -1,23 +1,24 @@
 -- The data and all in front of it, as they are written of a packed event; and what the entry answers and leaves.
 -- What was measured stands for what it is; the event is gone over again.
 use Prim.Native.Nat.{ℕ, ◌+◌, ◌*◌, ◌≤◌, ◌<◌}
-use mathlib.Core.Path.{◌≡◌, sym, ◌∙◌, subst}
+use mathlib.Core.Path.{◌≡◌, refl, sym, subst}
 use mathlib.Core.List.{List, ◌++◌}
 use native.Mathlib.Omega.{arith}
 use lib.ListN.{length, take, drop}
 use borrow.Author.Tests.{le-leb, lt-leb}
 use Rattle.scan.specs.Choice.{Answer, shown, refused}
+use Rattle.scan.specs.Bytes.{IsBytes}
 use Rattle.buffer.specs.inner.Store.{Wrote}
 use Rattle.buffer.specs.Entry.{writes, leaves}
 use Rattle.buffer.proofs.EntryLaws.{short, fitted}
 use Rattle.moment.specs.Moment.{millis_of}
-use Rattle.event.specs.Event.{Event, Valid}
+use Rattle.event.specs.Event.{Event}
 use Rattle.notepack.specs.declared.Head.{Head}
 use Rattle.notepack.specs.Unpack.{text_of, unpack}
 use Rattle.notepack.specs.inner.Again.{tags_again, event_again}
 use Rattle.notepack.specs.inner.Answers.{Walked, walk_at}
 use Rattle.notepack.proofs.Walking.{walk_refuses}
-use Rattle.notepack.proofs.Again.{tags_count}
+use Rattle.notepack.proofs.Again.{tags_count, Accepted, accepted}
 use Rattle.pointer.specs.Layout.{pointer, word}
 use Rattle.pointer.specs.Written.{padded_text, tag_pieces, tag_pointers, pointer_data, pointer_form}
 use Rattle.pointer.specs.Entries.{within65536}
@@ -68,25 +69,31 @@ Answers s d r d' =
     (r ≡ writes pointer_form (within65536 pointer_form (unpack s)) d) × (d' ≡ leaves pointer_form (within65536 pointer_form (unpack s)) d)
 
 module _ (s : List ℕ) (d : List ℕ) where
-  pub write_refused : (r : Answer Walked) (n q : ℕ) → r ≡ walk_at s → r ≡ refused n q → Answers s d (refused n q) d
-  write_refused r n q e k = let u = walk_refuses s n q (sym e ∙ k) in (rw u, rw u)
+  pub write_refused : (n q : ℕ) → refused n q ≡ walk_at s → Answers s d (refused n q) d
+  write_refused n q e = let u = walk_refuses s n q (sym e) in (rw u, rw u)
 
-  module _ {e : Event} (shows : unpack s ≡ shown e) (v : Valid e) {n : ℕ} (measured : n ≡ data_length e) where
+  module _ (bytes : IsBytes s) {w : Walked} (walked : shown w ≡ walk_at s) {n : ℕ} (measured : n ≡ data_length (event_again s w.head)) where
+    abbrev pub e : Event
+    e = event_again s w.head
+
+    event : Accepted s w
+    event = accepted s bytes w (shown w) walked refl
+
     long : 168 + n ≡ length (pointer_form e)
-    long = omega (arith, measured, form_length e v)
+    long = omega (arith, measured, form_length e event.sound.valid)
 
     pub write_long : 65_536 < 168 + n → Answers s d (refused 29 0) d
-    write_long h = let u = lt-leb (length (pointer_form e)) 65_536 (omega (arith, long)) in (rw (shows, u), rw (shows, u))
+    write_long h = let u = lt-leb (length (pointer_form e)) 65_536 (omega (arith, long)) in (rw (event.shows, u), rw (event.shows, u))
 
     module _ (h : 168 + n ≤ 65_536) where
       pub write_short : length d < 168 + n → Answers s d (refused 11 (168 + n)) d
       write_short l =
           let u = le-leb (length (pointer_form e)) 65_536 (omega (arith, long)) in
           let f = short (pointer_form e) d long l in
-          (rw (shows, u) f.0, rw (shows, u) f.1)
+          (rw (event.shows, u) f.0, rw (event.shows, u) f.1)
 
       pub write_fitted : {d' : List ℕ} {o : ℕ} → 168 + n ≤ length d → Wrote d 0 (pointer_form e) d' o → Answers s d (shown o) d'
       write_fitted l w =
           let u = le-leb (length (pointer_form e)) 65_536 (omega (arith, long)) in
           let f = fitted long l w in
-          (rw (shows, u) f.0, rw (shows, u) f.1)
+          (rw (event.shows, u) f.0, rw (event.shows, u) f.1)

@@ -17,6 +17,7 @@ use Rattle.keys.specs.inner.Place.{key_at, key_there}
 use Rattle.keys.proofs.Keys.{replaceable-key, key_shown}
 use Rattle.rivals.specs.declared.Kept.{Kept}
 use Rattle.rivals.specs.declared.Kept.TheVariants.{NotRivals}
+use Rattle.rivals.specs.inner.Answers.{kept_there}
 use Rattle.rivals.specs.Rivals.{keeps_by, kept_of, chosen, first_refused, second_refused, rivals}
 
 -- two replaceable records of one kind: their authors decide
@@ -40,19 +41,19 @@ module _ (s t : List ℕ) where
   refused_second h r u n q e k f l = rw ((numbers_event s h (sym e ∙ k)).shows, numbers_refused t n q (sym f ∙ l))
 
   module _ (h k : Head) (r u : Answer Head) (e : r ≡ numbers_of s) (f : r ≡ shown h) (g : u ≡ numbers_of t) (l : u ≡ shown k) where
-    told_kept : rivals s t
-        ≡ chosen
-        (pick (same_key (key_there s (key_at s h)) (key_there t (key_at t k))) (keeps_by h.created_at k.created_at (take 32 s) (take 32 t)) NotRivals)
-    unfolding rivals kept_of
-    told_kept =
+    pub told_there : chosen (kept_there s h t k) ≡ rivals s t
+    unfolding rivals kept_of kept_there
+    told_there =
         let a = numbers_event s h (sym e ∙ f) in
         let b = numbers_event t k (sym g ∙ l) in
-        rw (a.shows, b.shows, key_shown s h a, key_shown t k b, a.time, b.time, a.id, b.id)
+        sym (rw (a.shows, b.shows, key_shown s h a, key_shown t k b, a.time, b.time, a.id, b.id))
 
     -- x tells whether the keys are the same
     module _ {x : Bool} (m : x ≡ same_key (key_there s (key_at s h)) (key_there t (key_at t k))) where
       pub told_rivals : (c : Kept) → x ≡ true → c ≡ keeps_by h.created_at k.created_at (take 32 s) (take 32 t) → chosen c ≡ rivals s t
-      told_rivals c v w = sym (told_kept ∙ rw (← m, v, ← w))
+      unfolding kept_there
+      told_rivals c v w = sym (sym told_there ∙ rw (← m, v, ← w))
 
       pub told_strangers : x ≡ false → chosen NotRivals ≡ rivals s t
-      told_strangers v = sym (told_kept ∙ rw (← m, v))
+      unfolding kept_there
+      told_strangers v = sym (sym told_there ∙ rw (← m, v))

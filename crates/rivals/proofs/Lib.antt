@@ -1,3 +1,4 @@
+pub mod Marking
 pub mod Choosing
 pub mod Order
 pub mod Telling

@@ -1,13 +1,13 @@
 -- Choosing is symmetric but for the full tie, and the order of choosing does not change the (created_at, id) that is
 -- kept.
 -- `over` is a strict total order on (created_at, id); the rest is by cases.
-use Prim.Native.Nat.{ℕ, ◌≤◌, ◌<◌}
+use Prim.Native.Nat.{ℕ}
 use mathlib.Core.Path.{◌≡◌, refl, sym, ◌∙◌}
 use mathlib.Core.Bool.{Bool, true, false}
 use mathlib.Core.List.{List, [], ◌∷◌}
 use native.Mathlib.Omega.{arith}
 use lib.Dec.{ltb, eqb}
-use borrow.Author.Tests.{lt-ltb, le-ltb, ltb-true, ltb-false, eq-eqb, ne_eqb, eqb-true, eqb-false}
+use Rattle.std.proofs.lemmas.Bool.Decides.{nat_tests}
 use Rattle.scan.specs.Choice.{pick}
 use Rattle.scan.proofs.Step.{false_true}
 use Rattle.event.specs.Event.{Event}
@@ -22,73 +22,19 @@ use Rattle.rivals.specs.Rivals.{keeps_by, keeps}
 step : ℕ → ℕ → Bool → Bool
 step a b rest = pick (ltb a b) true (pick (eqb a b) rest false)
 
--- how two numbers stand
-data Stand (a b : ℕ) : Type 0 where
-  below : a < b → Stand a b
-  same : a ≡ b → Stand a b
-  above : b < a → Stand a b
-
-stand : (a b : ℕ) → Stand a b
-stand a b = by_test (ltb a b) (eqb a b) refl refl
-  where
-    by_test : (t u : Bool) → ltb a b ≡ t → eqb a b ≡ u → Stand a b
-    by_test true u e f = below (ltb-true a b e)
-    by_test false true e f = same (eqb-true a b f)
-    by_test false false e f = let h = ltb-false a b e in let n = eqb-false a b f in above (omega (arith, n))
-
-step_below : (a b : ℕ) (r : Bool) → a < b → step a b r ≡ true
-unfolding step
-step_below a b r h = rw (lt-ltb a b h)
-
-step_same : (a b : ℕ) (r : Bool) → a ≡ b → step a b r ≡ r
-unfolding step
-step_same a b r h = rw (le-ltb a b (omega arith), eq-eqb a b h)
-
-step_above : (a b : ℕ) (r : Bool) → b < a → step a b r ≡ false
-unfolding step
-step_above a b r h = rw (le-ltb a b (omega arith), ne_eqb a b (λ e. omega arith))
-
--- where a step holds, it is by the number or, the numbers being equal, by the rest
-step_so : (a b : ℕ) (r : Bool) → step a b r ≡ true → (a ≤ b) × (a ≡ b → r ≡ true)
-step_so a b r h = go (stand a b)
-  where
-    go : Stand a b → (a ≤ b) × (a ≡ b → r ≡ true)
-    go (below l) = (omega arith, λ e. absurd (omega arith))
-    go (same e) = (omega arith, λ f. sym (step_same a b r e) ∙ h)
-    go (above l) = absurd (false_true (sym (step_above a b r l) ∙ h))
-
--- a step holds by the number, or by the rest
-so_step : (a b : ℕ) (r : Bool) → a ≤ b → (a ≡ b → r ≡ true) → step a b r ≡ true
-so_step a b r l f = go (stand a b)
-  where
-    go : Stand a b → step a b r ≡ true
-    go (below k) = step_below a b r k
-    go (same e) = step_same a b r e ∙ f e
-    go (above k) = absurd (omega (arith, l, k))
-
 -- a step one way rules it out the other way, where that holds of the rest
 step_asym : (a b : ℕ) (r q : Bool) → (r ≡ true → q ≡ false) → step a b r ≡ true → step b a q ≡ false
-step_asym a b r q f h = go (stand a b)
-  where
-    go : Stand a b → step b a q ≡ false
-    go (below l) = step_above b a q l
-    go (same e) = step_same b a q (sym e) ∙ f ((step_so a b r h).1 e)
-    go (above l) = absurd (false_true (sym (step_above a b r l) ∙ h))
+unfolding step
+step_asym a b r q f h = grind (arith, nat_tests)
 
 -- no step either way: the numbers are equal, and neither holds of the rest
 step_total : (a b : ℕ) (r q : Bool) → step a b r ≡ false → step b a q ≡ false → (a ≡ b) × (r ≡ false) × (q ≡ false)
-step_total a b r q h k = go (stand a b)
-  where
-    go : Stand a b → (a ≡ b) × (r ≡ false) × (q ≡ false)
-    go (below l) = absurd (false_true (sym h ∙ step_below a b r l))
-    go (same e) = (e, sym (step_same a b r e) ∙ h, sym (step_same b a q (sym e)) ∙ k)
-    go (above l) = absurd (false_true (sym k ∙ step_below b a q l))
+unfolding step
+step_total a b r q h k = grind (arith, nat_tests)
 
 step_trans : (a b c : ℕ) (p q r : Bool) → (p ≡ true → q ≡ true → r ≡ true) → step a b p ≡ true → step b c q ≡ true → step a c r ≡ true
-step_trans a b c p q r f h k =
-    let u = step_so a b p h in
-    let v = step_so b c q k in
-    so_step a c r (omega (arith, u.0, v.0)) (λ e. f (u.1 (omega (arith, u.0, v.0))) (v.1 (omega (arith, u.0, v.0))))
+unfolding step
+step_trans a b c p q r f h k = grind (arith, nat_tests)
 
 -- ---- lower as bytes is a strict total order
 
@@ -150,12 +96,7 @@ over_total d e h k =
 
 keeps_over : (d e : Event) → keeps d e ≡ pick (over d e) Second First
 unfolding keeps_by over step
-keeps_over d e = go (stand d.created_at e.created_at)
-  where
-    go : Stand d.created_at e.created_at → keeps d e ≡ pick (over d e) Second First
-    go (below l) = rw (le-ltb e.created_at d.created_at (omega arith), lt-ltb d.created_at e.created_at l)
-    go (same q) = rw (le-ltb e.created_at d.created_at (omega arith), le-ltb d.created_at e.created_at (omega arith), eq-eqb d.created_at e.created_at q)
-    go (above l) = rw (lt-ltb e.created_at d.created_at l, le-ltb d.created_at e.created_at (omega arith), ne_eqb d.created_at e.created_at (λ q. omega arith))
+keeps_over d e = grind (arith, nat_tests)
 
 -- the other one
 pub swapped : Kept → Kept

@@ -11,7 +11,7 @@ use native.Mathlib.Omega.{arith}
 use native.Mathlib.Decide.{dec_lt, ℕ_discrete}
 use lib.ListN.{length, get_or, take, drop, length-take, length-drop}
 use lib.Seq.{get_or-drop, get_or-take, drop-drop}
-use borrow.Author.Tests.{lt-ltb, le-ltb, eq-eqb, ne_eqb}
+use borrow.Author.Tests.{lt-ltb, eq-eqb, ne_eqb}
 use Rattle.scan.specs.Choice.{pick}
 use Rattle.scan.specs.inner.Blocks.{is_one, control_count, sum_of, neighbours, before_stop}
 use Rattle.scan.proofs.Step.{rest_none, rest_more, pick_by}
@@ -38,10 +38,6 @@ one_of_two b x y n =
 pub control_is : (b : ℕ) → b < 0x20 → control_count b ≡ 1
 unfolding control_count
 control_is b h = rw (lt-ltb b 0x20 h)
-
-pub control_not : (b : ℕ) → 0x20 ≤ b → control_count b ≡ 0
-unfolding control_count
-control_not b h = rw (le-ltb b 0x20 h)
 
 pub not_control : (b : ℕ) → control_count b ≡ 0 → 0x20 ≤ b
 not_control b z = dite (dec_lt b 0x20) (λ h. absurd (omega (arith, control_is b h))) (λ n. omega (arith, n))

@@ -1,17 +1,19 @@
--- The laws of comparing: the decision is equality, the same either way round; and the turns of the loops that compare.
--- A turn's law: the definition from the start is the definition from here. Its premises are what its loop knows.
-use Prim.Native.Nat.{ℕ, ◌+◌, ◌≤◌, ◌<◌}
-use mathlib.Core.Path.{◌≡◌, refl, sym, ◌∙◌}
+-- The laws of comparing: the decision is equality, the same either way round; and what the library's `==` and `<` of
+-- slices say of it.
+use Prim.Native.Nat.{ℕ}
+use mathlib.Core.Path.{◌≡◌, refl, sym, ap, ◌∙◌}
 use mathlib.Core.Bool.{Bool, true, false}
-use mathlib.Core.List.{List, [], ◌∷◌, ◌++◌}
+use mathlib.Core.List.{List, [], ◌∷◌}
 use native.Mathlib.Omega.{arith}
-use lib.ListN.{length, get_or, drop}
 use lib.Dec.{eqb}
-use borrow.Author.Tests.{lt-ltb, le-ltb, eq-eqb, ne_eqb, eqb-true}
+use lib.Pointwise.{pointwise}
+use Rattle.std.specs.Ordering.{nat_cmp, MatchOrdering}
+use Rattle.std.specs.declared.cmp.Ordering.{Ordering}
+use borrow.Author.Tests.{eq-eqb, eqb-true}
+use Rattle.std.proofs.lemmas.Bool.Decides.{nat_tests}
 use Rattle.scan.specs.Choice.{pick}
-use Rattle.scan.specs.Place.{begins}
 use Rattle.scan.specs.Compare.{same_bytes, lower}
-use Rattle.scan.proofs.Step.{pick_true, false_true, rest_none, rest_more}
+use Rattle.scan.proofs.Step.{pick_and, pick_true, false_true}
 
 -- equal byte strings are found equal
 pub same_same : (a : List ℕ) → same_bytes a a ≡ true
@@ -39,70 +41,17 @@ both_ways false false f g = refl
 pub same_sym : (a b : List ℕ) → same_bytes a b ≡ same_bytes b a
 same_sym a b = both_ways (same_bytes a b) (same_bytes b a) (λ h. rw (bytes_same a b h) (same_same b)) (λ h. rw (bytes_same b a h) (same_same a))
 
--- in parts: the first begins the other string, and the rest is the same
-pub same_append : (a b c : List ℕ) → same_bytes (a ++ b) c ≡ pick (begins a c) (same_bytes b (drop (length a) c)) false
-unfolding same_bytes begins
-same_append [] b c = refl
-same_append (x ∷ a) b [] = refl
-same_append (x ∷ a) b (y ∷ c) = go (same_append a b c) (eqb x y)
-  where
-    go : same_bytes (a ++ b) c ≡ pick (begins a c) (same_bytes b (drop (length a) c)) false → (t : Bool)
-        → pick t (same_bytes (a ++ b) c) false ≡ pick (pick t (begins a c) false) (same_bytes b (drop (length a) c)) false
-    go e true = e
-    go e false = refl
+-- what the library's `==` of slices computes
+pub same_eq : (a b : List ℕ) → pointwise eqb a b ≡ same_bytes a b
+unfolding same_bytes
+same_eq [] [] = refl
+same_eq [] (y ∷ b) = refl
+same_eq (x ∷ a) [] = refl
+same_eq (x ∷ a) (y ∷ b) = pick_and (eqb x y) (pointwise eqb a b) ∙ ap (λ (t : Bool). pick (eqb x y) t false) (same_eq a b)
 
--- ---- the same bytes
+-- ---- lower as bytes: the heads decide, as in the library's order of lists
 
-module _ (a b : List ℕ) (i : ℕ) where
-  pub same_again : same_bytes a b ≡ same_bytes (drop i a) (drop i b) → i < length a → i < length b → get_or a i 0 ≡ get_or b i 0
-      → same_bytes a b ≡ same_bytes (drop (i + 1) a) (drop (i + 1) b)
-  unfolding same_bytes
-  same_again v h l e = v ∙ rw (rest_more a i, rest_more b i, eq-eqb _ _ e)
-
-  pub same_short : same_bytes a b ≡ same_bytes (drop i a) (drop i b) → i < length a → length b ≤ i → false ≡ same_bytes a b
-  unfolding same_bytes
-  same_short v h l = sym (v ∙ rw (rest_more a i, rest_none b i))
-
-  pub same_other : same_bytes a b ≡ same_bytes (drop i a) (drop i b) → i < length a → i < length b → (get_or a i 0 ≡ get_or b i 0 → ⊥) → false ≡ same_bytes a b
-  unfolding same_bytes
-  same_other v h l n = sym (v ∙ rw (rest_more a i, rest_more b i, ne_eqb _ _ n))
-
-  pub same_left : same_bytes a b ≡ same_bytes (drop i a) (drop i b) → length a ≤ i → i < length b → false ≡ same_bytes a b
-  unfolding same_bytes
-  same_left v h l = sym (v ∙ rw (rest_none a i, rest_more b i))
-
-  pub same_whole : same_bytes a b ≡ same_bytes (drop i a) (drop i b) → length a ≤ i → length b ≤ i → true ≡ same_bytes a b
-  unfolding same_bytes
-  same_whole v h l = sym (v ∙ rw (rest_none a i, rest_none b i))
-
-pub ruleset sames = (same_again, same_short, same_other, same_left, same_whole)
-
--- ---- lower as bytes
-
-module _ (a b : List ℕ) (i : ℕ) where
-  pub lower_again : lower a b ≡ lower (drop i a) (drop i b) → i < length a → i < length b → get_or a i 0 ≡ get_or b i 0
-      → lower a b ≡ lower (drop (i + 1) a) (drop (i + 1) b)
-  unfolding lower
-  lower_again v h l e = v ∙ rw (rest_more a i, rest_more b i, le-ltb (get_or a i 0) (get_or b i 0) (omega (arith, e)), eq-eqb _ _ e)
-
-  pub lower_short : lower a b ≡ lower (drop i a) (drop i b) → i < length a → length b ≤ i → false ≡ lower a b
-  unfolding lower
-  lower_short v h l = sym (v ∙ rw (rest_more a i, rest_none b i))
-
-  pub lower_so : lower a b ≡ lower (drop i a) (drop i b) → i < length a → i < length b → get_or a i 0 < get_or b i 0 → true ≡ lower a b
-  unfolding lower
-  lower_so v h l e = sym (v ∙ rw (rest_more a i, rest_more b i, lt-ltb _ _ e))
-
-  pub lower_not : lower a b ≡ lower (drop i a) (drop i b) → i < length a → i < length b → get_or b i 0 ≤ get_or a i 0 → (get_or a i 0 ≡ get_or b i 0 → ⊥) → false ≡ lower a b
-  unfolding lower
-  lower_not v h l e n = sym (v ∙ rw (rest_more a i, rest_more b i, le-ltb _ _ e, ne_eqb _ _ n))
-
-  pub lower_left : lower a b ≡ lower (drop i a) (drop i b) → length a ≤ i → i < length b → true ≡ lower a b
-  unfolding lower
-  lower_left v h l = sym (v ∙ rw (rest_none a i, rest_more b i))
-
-  pub lower_whole : lower a b ≡ lower (drop i a) (drop i b) → length a ≤ i → length b ≤ i → false ≡ lower a b
-  unfolding lower
-  lower_whole v h l = sym (v ∙ rw (rest_none a i, rest_none b i))
-
-pub ruleset lowers = (lower_again, lower_short, lower_so, lower_not, lower_left, lower_whole)
+pub lower_heads : (x y : ℕ) (a b : List ℕ) (o : Ordering) → o ≡ nat_cmp x y
+    → MatchOrdering o (lower (x ∷ a) (y ∷ b) ≡ true) (lower (x ∷ a) (y ∷ b) ≡ lower a b) (lower (x ∷ a) (y ∷ b) ≡ false)
+unfolding lower
+lower_heads x y a b o e = grind (arith, nat_tests)

@@ -25,9 +25,6 @@ byte_place s i b n e f z = let m = eqb-false n 0 z in byte_positive s i b n e f 
 pub next_fits : (s : List ℕ) (i b n : ℕ) → length s < 2 ^ 64 → b ≡ get_or s i 0 → b ≡ n → eqb n 0 ≡ false → Fits w64 (i + 1)
 next_fits s i b n l e f z = let h = byte_place s i b n e f z in omega arith
 
-pub close_fits : (s : List ℕ) (i b n : ℕ) → length s < 2 ^ 64 → b ≡ get_or s i 0 → b ≡ n → 0 < n → Fits w64 (i + 1)
-close_fits s i b n l e f z = let h = byte_positive s i b n e f z in omega arith
-
 -- a byte that passes a test that 0 does not pass
 pub flag_fits : (p : ℕ → Bool) (s : List ℕ) (i b : ℕ) (t : Bool) → length s < 2 ^ 64 → b ≡ get_or s i 0 → t ≡ p b → t ≡ true → p 0 ≡ false → Fits w64 (i + 1)
 flag_fits p s i b t l e f g z =

@@ -7,3 +7,4 @@ pub mod Many
 pub mod CompareLaws
 pub mod Fits
 pub mod BlockLaws
+pub mod Chunks

@@ -1,22 +1,24 @@
 -- A range is its bounds; a fixed byte string stands at a place exactly where it is a span; a run is the longest span of
 -- bytes that pass.
--- The loops of the code cite the laws of each turn and the ruleset `runs`; a grammar cites the four laws that speak of
--- `Span`.
-use Prim.Native.Nat.{ℕ, zero, suc, ◌+◌, ◌-◌, ◌<◌, ◌≤◌}
+-- Loops over a run cite the laws of each turn, the ruleset `runs`; a grammar cites the four laws that speak of `Span`.
+use Prim.Native.Nat.{ℕ, zero, suc, ◌+◌, ◌<◌, ◌≤◌}
 use mathlib.Core.Path.{◌≡◌, refl, sym, ap, ◌∙◌}
-use mathlib.Core.Bool.{Bool, true, false}
+use mathlib.Core.Bool.{Bool, true, false, cond}
 use mathlib.Core.List.{List, [], ◌∷◌, ◌++◌}
 use mathlib.Core.Logic.{dite}
 use native.Mathlib.Omega.{arith}
 use native.Mathlib.Decide.{dec_lt}
-use lib.ListN.{length, get_or, drop, length-drop}
+use lib.ListN.{length, get_or, take, drop, length-drop}
 use lib.Dec.{leb, eqb}
-use borrow.Author.Tests.{leb-true, eq-eqb, ne_eqb, eqb-true}
+use lib.Pointwise.{pointwise}
+use Rattle.std.specs.List.{prefix_len}
+use Rattle.scan.specs.Choice.{pick}
+use borrow.Author.Tests.{leb-true, eq-eqb, eqb-true}
 use Rattle.scan.specs.Place.{begins, stands_at, within, run, run_at}
 use Rattle.scan.specs.Bytes.{All, none, also}
 use Rattle.scan.specs.inner.Span.{here, step, Span}
-use Rattle.scan.proofs.Step.{rest_none, rest_more, pick_by, pick_true, false_true}
-use Rattle.scan.proofs.SpanLaws.{from_span, to_span, place, span_fits}
+use Rattle.scan.proofs.Step.{rest_none, rest_more, pick_and, pick_by, pick_true, false_true}
+use Rattle.scan.proofs.SpanLaws.{from_span, to_span, place}
 
 -- ---- a range
 
@@ -25,30 +27,13 @@ pub within_bounds : (low high b : ℕ) → within low high b ≡ true → (low �
 unfolding within
 within_bounds low high b h = let t = pick_true (leb low b) (leb b high) h in (leb-true low b t.0, leb-true b high t.1)
 
--- a byte that passed the code's test is at least its lower end
-pub low_enough : (low high b : ℕ) {t : Bool} → t ≡ within low high b → t ≡ true → low ≤ b
-low_enough low high b e k = (within_bounds low high b (sym e ∙ k)).0
+-- ---- a fixed byte string: what the library's `==` of slices computes
 
--- ---- a fixed byte string: where the loop stands
-
-module _ (w s : List ℕ) (at i j : ℕ) where
-  pub stands_again : stands_at w s at ≡ begins (drop j w) (drop i s) → j < length w → i < length s → get_or w j 0 ≡ get_or s i 0
-      → stands_at w s at ≡ begins (drop (j + 1) w) (drop (i + 1) s)
-  unfolding begins
-  stands_again v h l e = v ∙ rw (rest_more w j, rest_more s i, eq-eqb _ _ e)
-
-  pub stands_other : stands_at w s at ≡ begins (drop j w) (drop i s) → j < length w → i < length s → (get_or w j 0 ≡ get_or s i 0 → ⊥)
-      → false ≡ stands_at w s at
-  unfolding begins
-  stands_other v h l n = sym (v ∙ rw (rest_more w j, rest_more s i, ne_eqb _ _ n))
-
-  pub stands_whole : stands_at w s at ≡ begins (drop j w) (drop i s) → length w ≤ j → true ≡ stands_at w s at
-  unfolding begins
-  stands_whole v h = sym (v ∙ rw (rest_none w j))
-
-pub stands_start : (w s : List ℕ) (at : ℕ) → stands_at w s at ≡ begins (drop 0 w) (drop at s)
-unfolding stands_at
-stands_start w s at = refl
+pub begins_eq : (w l : List ℕ) → pointwise eqb w (take (length w) l) ≡ begins w l
+unfolding begins
+begins_eq [] l = refl
+begins_eq (b ∷ w) [] = refl
+begins_eq (b ∷ w) (c ∷ l) = pick_and (eqb b c) (pointwise eqb w (take (length w) l)) ∙ ap (λ (t : Bool). pick (eqb b c) t false) (begins_eq w l)
 
 -- ---- a fixed byte string as a span, in both directions
 
@@ -78,14 +63,6 @@ pub stands_span : (w s : List ℕ) (at : ℕ) → stands_at w s at ≡ true → 
 unfolding stands_at
 stands_span w s at h = let r = begins_rest w (drop at s) h in to_span s w r.0 at r.1
 
--- it does not stand where too few bytes are left
-pub stands_short : (w s : List ℕ) (at : ℕ) → length s - at < length w → false ≡ stands_at w s at
-stands_short w s at h = go (stands_at w s at) refl
-  where
-    go : (t : Bool) → stands_at w s at ≡ t → false ≡ stands_at w s at
-    go true e = absurd (omega (arith, h, span_fits (stands_span w s at e)))
-    go false e = sym e
-
 -- ---- a run: where the loop stands
 
 module _ (p : ℕ → Bool) (s : List ℕ) (at i : ℕ) where
@@ -109,6 +86,16 @@ run_over p s (suc n) i e q h f =
     ∙ run_over p s n (i + 1) e (omega arith) h (λ k l m. f k (omega arith) m)
 
 pub ruleset runs = (run_again, run_left, run_broke)
+
+-- a run counted: so many bytes from the front pass
+pub run_counted : (p : ℕ → Bool) (l : List ℕ) (i : ℕ) → i + prefix_len p l ≡ run p l i
+unfolding run
+run_counted p [] i = omega arith
+run_counted p (b ∷ l) i = go (p b) (run_counted p l (i + 1))
+  where
+    go : (t : Bool) → i + 1 + prefix_len p l ≡ run p l (i + 1) → i + cond t (1 + prefix_len p l) 0 ≡ pick t (run p l (i + 1)) i
+    go true e = omega (arith, e)
+    go false e = omega arith
 
 -- ---- a run as a span, in both directions
 

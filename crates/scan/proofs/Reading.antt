@@ -36,11 +36,6 @@ pub from_reads : {A : Type 0} {G H : A → List ℕ → Type 0} {s : List ℕ} {
 from_reads (reads {x = x} {l = l} {e = e} g r) k = k x l e g r
 from_reads fails k = fails
 
-pub map_reads : {A : Type 0} {G H : A → List ℕ → Type 0} {s : List ℕ} {a : ℕ} {r : Answer (Read A)}
-    → Reads G s a r → ((x : A) (l : List ℕ) → G x l → H x l) → Reads H s a r
-map_reads (reads {x = x} {l = l} g r) k = reads (k x l g) r
-map_reads fails k = fails
-
 -- the n bytes from a place on, where there are as many, are a span
 pub part_span : (s : List ℕ) (a n : ℕ) → n ≤ length s - a → Span s a (take n (drop a s)) (a + n)
 part_span s a n h =

@@ -1,18 +1,23 @@
 -- The bridge between places and lists, and between tests and facts: what every proof over an input shares.
 -- A slice from place i on is its byte at i and the slice from i + 1 on.
-use Prim.Native.Nat.{ℕ, ◌+◌, ◌-◌, ◌<◌, ◌≤◌}
+use Prim.Native.Nat.{ℕ, ◌+◌, ◌-◌, ◌<◌, ◌≤◌, min}
 use mathlib.Core.Path.{◌≡◌, refl, sym, ap, ◌∙◌}
-use mathlib.Core.Bool.{Bool, true, false}
+use mathlib.Core.Bool.{Bool, true, false, ◌&&◌}
 use mathlib.Core.List.{List, [], ◌∷◌, ◌++◌}
 use native.Mathlib.Numerals.{add-one}
 use native.Mathlib.Omega.{arith}
 use lib.ListN.{length, get_or, take, drop, length-drop, take-append-drop, drop_of_length-le, get_or-eq_default}
 use lib.Seq.{drop-cons, drop-drop, take_all, take-nil}
 use borrow.Author.Tests.{lt-ltb, le-ltb, le-leb, lt-leb, eq-eqb, ne_eqb}
+use Rattle.std.proofs.lemmas.Grind.{common_steps}
 use Rattle.scan.specs.Choice.{pick}
 
 pub rest_none : (s : List ℕ) (i : ℕ) → length s ≤ i → drop i s ≡ []
 rest_none s i h = drop_of_length-le s h
+
+-- the same, from the place or from the end where that comes first
+pub rest_min : (s : List ℕ) (i : ℕ) → drop (min i (length s)) s ≡ drop i s
+rest_min s i = grind (arith, common_steps)
 
 pub rest_more : (s : List ℕ) (i : ℕ) → i < length s → drop i s ≡ get_or s i 0 ∷ drop (i + 1) s
 rest_more s i h = rw (add-one, drop-cons s i 0)
@@ -50,6 +55,11 @@ false_true e = let n = ap kind e in omega arith
 pub not_so : (x : Bool) → (x ≡ true → ⊥) → x ≡ false
 not_so true f = absurd (f refl)
 not_so false f = refl
+
+-- two tests in a row, as the code has them
+pub pick_and : (t x : Bool) → (t && x) ≡ pick t x false
+pick_and true x = refl
+pick_and false x = refl
 
 -- two tests in a row, both passed
 pub pick_true : (t x : Bool) → pick t x false ≡ true → (t ≡ true) × (x ≡ true)

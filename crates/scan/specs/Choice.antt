@@ -12,7 +12,7 @@ pub data Answer (A : Type 0) : Type 0 where
   shown : A → Answer A
   refused : (number place : ℕ) → Answer A
 
--- a value read at a cursor, and the place behind it
+-- a value read at a place, and the place behind it
 pub record Read (A : Type 0) : Type 0 where
   pub value : A
   pub next : ℕ

@@ -1,13 +1,13 @@
 -- What the code's blocks are: a piece that stays within a block, a piece that ends it, and the padding.
 -- By what stands at the start of a buffer of zeros (`written_front`) and `hashed_append`.
-use Rattle.std.proofs.Common.{◌≡◌, ℕ, zero, suc, ◌+◌, ◌-◌, ◌*◌, ◌/◌, ◌%◌, ◌^◌, ◌<◌, ◌≤◌, Bool, true, false, leb, List, [], ◌∷◌, ◌++◌, length, take, drop, replicate, sym, refl, ap, ◌∙◌, append_assoc, append-nil, zero-add, arith, length-append, length-drop, take-append-drop, length-take-le, take_all, take_at, le-leb, leb-false}
+use Rattle.std.proofs.Common.{◌≡◌, ℕ, ◌+◌, ◌-◌, ◌*◌, ◌/◌, ◌%◌, ◌^◌, ◌<◌, ◌≤◌, Bool, true, false, leb, List, [], ◌∷◌, ◌++◌, length, take, drop, replicate, sym, refl, ap, ◌∙◌, append_assoc, append-nil, zero-add, arith, length-append, length-drop, take-append-drop, length-take-le, take_all, take_at, le-leb, leb-false}
 use mathlib.Core.Logic.{dite}
 use native.Mathlib.Decide.{dec_le}
-use lib.ListN.{length-replicate}
+use Rattle.std.proofs.lemmas.List.{length-replicate, drop-replicate, take-replicate}
 use borrow.Author.Tests.{lt-leb}
 use Rattle.scan.proofs.Step.{rest_none}
 use Rattle.buffer.specs.inner.Store.{Buffer, puts, Wrote}
-use Rattle.buffer.proofs.Laws.{puts_eq, kept}
+use Rattle.buffer.proofs.Laws.{puts_eq, then, kept}
 use Rattle.sha256.specs.declared.Words.{Words}
 use Rattle.sha256.specs.declared.Hash.{Hash}
 use Rattle.sha256.specs.Compression.{blocks}
@@ -22,18 +22,9 @@ written_front {d} {text} w h =
     let k = w.is ∙ z in
     (ap (λ (b : Buffer). b.0) k, ap (λ (b : Buffer). b.1) k)
 
-drop_replicate : (n m : ℕ) → n ≤ m → drop {A = ℕ} n (replicate m 0) ≡ replicate (m - n) 0
-drop_replicate zero m h = let e : m - 0 ≡ m = omega arith in rw e
-drop_replicate (suc n) zero h = absurd (omega arith)
-drop_replicate (suc n) (suc m) h = let e : suc m - suc n ≡ m - n = omega arith in rw e (drop_replicate n m (omega arith))
-
 pub block_filled : {text d : List ℕ} {r : ℕ} → Wrote (replicate 64 0) 0 text d r → length text ≤ 64 → d ≡ zero_filled text
 unfolding zero_filled
-block_filled {text} w h = (written_front w h).0 ∙ ap (λ (l : List ℕ). text ++ l) (drop_replicate (length text) 64 h)
-
-take_zero : (l : List ℕ) → take 0 l ≡ []
-take_zero [] = refl
-take_zero (x ∷ l) = refl
+block_filled {text} w h = (written_front w h).0 ∙ ap (λ (l : List ℕ). text ++ l) (drop-replicate (length text) 64 0)
 
 -- fewer bytes than a block
 hashed_none : (h : Words) (l : List ℕ) → length l < 64 → hashed h l ≡ h
@@ -53,13 +44,12 @@ unfolding zero_filled
 filled_whole l k = let n : 64 - length l ≡ 0 = omega arith in rw n (append-nil l)
 
 -- the code's last part: from `done` to the end, and nothing behind it
-pub tail_block : (l q t : List ℕ) → t ≡ zero_filled (take (length l - length l / 64 * 64) (drop (length l / 64 * 64) l) ++ take 0 q)
-    → t ≡ zero_filled (behind_blocks l)
+pub tail_block : (l t : List ℕ) → t ≡ zero_filled (take (length l - length l / 64 * 64) (drop (length l / 64 * 64) l) ++ []) → t ≡ zero_filled (behind_blocks l)
 unfolding behind_blocks
-tail_block l q t e =
+tail_block l t e =
     let n : ℕ = length l / 64 * 64 in
     let a : take (length l - n) (drop n l) ≡ drop n l = take_all (length l - n) (drop n l) (omega (arith, length-drop n l)) in
-    e ∙ ap zero_filled (ap (λ (m : List ℕ). m ++ take 0 q) a ∙ ap (λ (m : List ℕ). drop n l ++ m) (take_zero q) ∙ append-nil (drop n l))
+    rw (a, append-nil (drop n l)) at e
 
 pub not_long : (s : Hash) (p : List ℕ) (t : Bool) → t ≡ is_too_long s (length p) → t ≡ false → (added_to s p ≡ with_piece s p) × (s.count + length p < 2 ^ 61)
 unfolding added_to is_too_long
@@ -116,12 +106,6 @@ rest_settled s p whole block rest h x k e f g i = i ∙ long_piece s p whole blo
 
 -- ---- the padding
 
-take_replicate : (n m : ℕ) → n ≤ m → take {A = ℕ} n (replicate m 0) ≡ replicate n 0
-take_replicate zero zero h = refl
-take_replicate zero (suc m) h = refl
-take_replicate (suc n) zero h = absurd (omega arith)
-take_replicate (suc n) (suc m) h = ap (λ (l : List ℕ). 0 ∷ l) (take_replicate n m (omega arith))
-
 bytes8_long : (n : ℕ) → length (long_bytes n) ≡ 8
 unfolding long_bytes word_bytes
 bytes8_long n = refl
@@ -132,17 +116,19 @@ pub record Padded (s : Hash) (d : List ℕ) (r : ℕ) : Type 0 where
   pub long : r ≡ length (take r d)
   pub is : take r d ≡ waiting s ++ padding s.count
 
-pub padded : (s : Hash) (d : List ℕ) (r : ℕ) → length s.pending ≡ 64
-    → Wrote (replicate 128 0) 0 (take (s.count % 64) s.pending ++ (128 ∷ []) ++ take ((119 - s.count % 64) % 64) (replicate 64 0) ++ long_bytes (8 * s.count)) d r
-    → Padded s d r
+-- by the four writers
+pub padded : (s : Hash) {d₁ d₂ d₃ d : List ℕ} {r₁ r₂ r₃ r : ℕ} → length s.pending ≡ 64
+    → Wrote (replicate 128 0) 0 (take (s.count % 64) s.pending) d₁ r₁ → Wrote d₁ r₁ (128 ∷ []) d₂ r₂
+    → Wrote d₂ r₂ (take ((119 - s.count % 64) % 64) (replicate 64 0)) d₃ r₃ → Wrote d₃ r₃ (long_bytes (8 * s.count)) d r → Padded s d r
 unfolding waiting padding zeros_behind
-padded s d r h w =
+padded s {d = d} {r = r} h w₁ w₂ w₃ w₄ =
+    let w = then (then (then w₁ w₂) w₃) w₄ in
     let k : ℕ = s.count % 64 in
     let z : ℕ = (119 - k) % 64 in
     let front : List ℕ = take k s.pending in
     let text : List ℕ = front ++ (128 ∷ []) ++ take z (replicate 64 0) ++ long_bytes (8 * s.count) in
-    let e : text ≡ front ++ ((128 ∷ []) ++ replicate z 0 ++ long_bytes (8 * s.count)) = rw (take_replicate z 64 (omega arith)) (regroup front (128 ∷ []) (replicate z 0) (long_bytes (8 * s.count))) in
-    let m : length text ≤ 128 = simp (length-append, length-take-le k s.pending (omega arith), take_replicate z 64 (omega arith), length-replicate, bytes8_long) (omega arith) in
+    let e : text ≡ front ++ ((128 ∷ []) ++ replicate z 0 ++ long_bytes (8 * s.count)) = rw (take-replicate {X = ℕ} z 64 0 (omega arith)) (regroup front (128 ∷ []) (replicate z 0) (long_bytes (8 * s.count))) in
+    let m : length text ≤ 128 = simp (length-append, length-take-le k s.pending (omega arith), take-replicate {X = ℕ} z 64 0 (omega arith), length-replicate, bytes8_long) (omega arith) in
     let f = written_front w m in
     let g : take r d ≡ text = rw (f.0, f.1) (take_at text (drop (length text) (replicate 128 0)) (length text) refl) in
     let l : length d ≡ 128 = kept w in

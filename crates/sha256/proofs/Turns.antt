@@ -1,12 +1,14 @@
 -- The turns and the ends of the loops over the words of a block, the schedule, the rounds and the blocks.
 -- Each law opens the definition once; the premises are what the loop's record has.
-use Rattle.std.proofs.Common.{◌≡◌, ℕ, zero, suc, ◌+◌, ◌-◌, ◌*◌, ◌/◌, ◌%◌, ◌<◌, ◌≤◌, List, [], ◌∷◌, ◌++◌, length, get_or, take, drop, set, sym, refl, ap, ◌∙◌, append-nil, add-one, arith, length-append, length-take-le, get_or-take, drop-drop, take-suc-set}
+use Rattle.std.proofs.Common.{◌≡◌, ℕ, zero, suc, ◌+◌, ◌-◌, ◌*◌, ◌/◌, ◌<◌, ◌≤◌, List, [], ◌∷◌, ◌++◌, length, get_or, take, drop, set, sym, refl, ap, ◌∙◌, append-nil, add-one, arith, length-append, length-drop, length-take-le, get_or-take, get_or-drop, take-suc-set, take_at}
+use Rattle.std.specs.Simd.{first_chunks}
 use lib.ListN.{get_or-append}
-use lib.Seq.{append_snoc}
+use lib.Seq.{append_snoc, drop-append_seam}
 use Rattle.scan.proofs.Step.{rest_more, rest_none}
 use Rattle.sha256.specs.declared.Words.{Words}
 use Rattle.sha256.specs.Constants.{constants}
 use Rattle.sha256.specs.Compression.{word_of, words_of, next_word, word_behind, schedule, round, rounds, compress, blocks}
+use Rattle.sha256.specs.Message.{hashed}
 
 -- ---- the words of a block
 
@@ -33,10 +35,29 @@ words_turn block w t v h l k e f =
     let x = words_four block (4 * t) (omega arith) in
     rw (n, add-one t, take-suc-set w t v (omega arith), append_snoc, f, ← x) e
 
-pub words_done : (block w : List ℕ) (t : ℕ) → t ≤ 16 → 16 ≤ t → length block ≡ 64 → take t w ++ words_of (drop (4 * t) block) ≡ words_of block → take 16 w ≡ words_of block
+-- a byte of a chunk of four, at its place in the block
+chunk_at : (k t : ℕ) (s : List ℕ) (j : ℕ) → t < k → j < 4 → get_or (get_or (first_chunks 4 k s) t []) j 0 ≡ get_or s (4 * t + j) 0
+chunk_at zero t s j h l = absurd (omega arith)
+chunk_at (suc k) zero s j h l = let e : 4 * 0 + j ≡ j = omega arith in rw e (get_or-take 4 s j 0 l)
+chunk_at (suc k) (suc t) s j h l =
+    let e : 4 + (4 * t + j) ≡ 4 * suc t + j = omega arith in
+    chunk_at k t (drop 4 s) j (omega arith) l ∙ get_or-drop 4 s (4 * t + j) 0 ∙ ap (λ (i : ℕ). get_or s i 0) e
+
+-- so its word is that of the four bytes there
+pub chunk_word : {v : ℕ} (block : List ℕ) (f : List (List ℕ)) (k t : ℕ) → f ≡ first_chunks 4 k block → t < k
+    → v ≡ word_of (get_or (get_or f t []) 0 0) (get_or (get_or f t []) 1 0) (get_or (get_or f t []) 2 0) (get_or (get_or f t []) 3 0)
+    → v ≡ word_of (get_or block (4 * t) 0) (get_or block (4 * t + 1) 0) (get_or block (4 * t + 2) 0) (get_or block (4 * t + 3) 0)
+chunk_word block f k t e h q =
+    let z : 4 * t + 0 ≡ 4 * t = omega arith in
+    let a = rw z at (chunk_at k t block 0 h (omega arith)) in
+    let b = chunk_at k t block 1 h (omega arith) in
+    let c = chunk_at k t block 2 h (omega arith) in
+    let d = chunk_at k t block 3 h (omega arith) in
+    q ∙ rw (e, a, b, c, d)
+
+pub words_done : (block w : List ℕ) (t : ℕ) → length block ≡ 64 → t ≡ 16 → take t w ++ words_of (drop (4 * t) block) ≡ words_of block → take 16 w ≡ words_of block
 unfolding words_of
-words_done block w t h k l e =
-    let n : t ≡ 16 = omega arith in
+words_done block w t l n e =
     let m : take 16 w ++ words_of (drop 64 block) ≡ words_of block = rw n at e in
     sym (append-nil (take 16 w)) ∙ (rw (rest_none block 64 (omega arith)) at m)
 
@@ -63,10 +84,6 @@ schedule_done w s t e h k q =
     let m : t ≡ e = omega arith in
     ap (λ (j : ℕ). take j w) (sym m) ∙ (rw n at q)
 
--- eight are to be made
-pub schedule_start : (w : List ℕ) (t : ℕ) → schedule (t + 8 - t) (take t w) ≡ schedule 8 (take t w)
-schedule_start w t = let e : t + 8 - t ≡ 8 = omega arith in rw e
-
 schedule_add : (n m : ℕ) (l : List ℕ) → schedule (n + m) l ≡ schedule m (schedule n l)
 unfolding schedule
 schedule_add zero m l = let e : 0 + m ≡ m = omega arith in rw e
@@ -82,24 +99,16 @@ schedule_keeps (suc n) l i h =
 
 -- ---- the rounds
 
--- the table of the constants has 64
-pub long : (k : List ℕ) → k ≡ constants → length k ≡ 64
-unfolding constants
-long k e = rw e
-
--- eight of them
-pub eight_done : (w : List ℕ) (t : ℕ) (v : Words) {a b c d e f g h : Words}
-    → a ≡ round v (get_or constants t 0) (get_or w t 0)
-    → b ≡ round a (get_or constants (t + 1) 0) (get_or w (t + 1) 0)
-    → c ≡ round b (get_or constants (t + 1 + 1) 0) (get_or w (t + 1 + 1) 0)
-    → d ≡ round c (get_or constants (t + 1 + 1 + 1) 0) (get_or w (t + 1 + 1 + 1) 0)
-    → e ≡ round d (get_or constants (t + 1 + 1 + 1 + 1) 0) (get_or w (t + 1 + 1 + 1 + 1) 0)
-    → f ≡ round e (get_or constants (t + 1 + 1 + 1 + 1 + 1) 0) (get_or w (t + 1 + 1 + 1 + 1 + 1) 0)
-    → g ≡ round f (get_or constants (t + 1 + 1 + 1 + 1 + 1 + 1) 0) (get_or w (t + 1 + 1 + 1 + 1 + 1 + 1) 0)
-    → h ≡ round g (get_or constants (t + 1 + 1 + 1 + 1 + 1 + 1 + 1) 0) (get_or w (t + 1 + 1 + 1 + 1 + 1 + 1 + 1) 0)
-    → h ≡ rounds w 8 t v
+-- one more; t rounds on, e is the end
+pub rounds_turn : (w : List ℕ) (e t : ℕ) (v x r : Words) → rounds w (e - t) t v ≡ r → t < e → x ≡ round v (get_or constants t 0) (get_or w t 0)
+    → rounds w (e - (t + 1)) (t + 1) x ≡ r
 unfolding rounds
-eight_done w t v p q r s x y z o = rw (o, z, y, x, s, r, q, p)
+rounds_turn w e t v x r q h f = let n : e - t ≡ suc (e - (t + 1)) = omega arith in rw f (rw n at q)
+
+-- none is left
+pub rounds_done : (w : List ℕ) (e t : ℕ) (v r : Words) → rounds w (e - t) t v ≡ r → e ≤ t → v ≡ r
+unfolding rounds
+rounds_done w e t v r q h = let n : e - t ≡ 0 = omega arith in rw n at q
 
 rounds_add : (w : List ℕ) (n m t : ℕ) (v : Words) → rounds w (n + m) t v ≡ rounds w m (t + n) (rounds w n t v)
 unfolding rounds
@@ -128,9 +137,6 @@ pub record Going (all : List ℕ) (r : Words) (w : List ℕ) (t : ℕ) (v : Word
   pub made : schedule (48 - t) (take (t + 16) w) ≡ all
   pub rest : rounds all (64 - t) t v ≡ r
 
-pub going_start : (w : List ℕ) (v : Words) → length w ≡ 64 → Going (schedule 48 (take 16 w)) (rounds (schedule 48 (take 16 w)) 64 0 v) w 0 v
-going_start w v h = record { full = h; made = refl; rest = refl }
-
 -- eight rounds over the words that are there
 going_rounds : (w all : List ℕ) (v : Words) {r x : Words} (t m n : ℕ) → m ≤ length w → schedule n (take m w) ≡ all → t + 8 ≤ m → m ≤ 64
     → rounds all (64 - t) t v ≡ r → x ≡ rounds w 8 t v → rounds all (64 - (t + 8)) (t + 8) x ≡ r
@@ -138,36 +144,42 @@ going_rounds w all v t m n h e k l q f =
     let s : 64 - t ≡ 8 + (64 - (t + 8)) = omega arith in
     rw (f, rounds_same w all m 8 t v (partly w all m n h e) k) (sym (rounds_add all 8 (64 - (t + 8)) t v) ∙ (rw s at q))
 
--- eight words and eight rounds
-pub going_turn : {all w u : List ℕ} {r v x : Words} (t : ℕ) → t < 48 → t % 8 ≡ 0 → Going all r w t v
-    → take (t + 16 + 8) u ≡ schedule 8 (take (t + 16) w) → length u ≡ 64 → x ≡ rounds u 8 t v → Going all r u (t + 8) x
-going_turn {all} {w} {u} {v = v} t h z g e l f =
-    let a : 48 - t ≡ 8 + (48 - (t + 8)) = omega (arith, h, z) in
+-- eight words and eight rounds, i of which were before
+pub going_turn : {all w u : List ℕ} {r v x : Words} (i : ℕ) → i < 6 → Going all r w (8 * i) v
+    → take (8 * i + 16 + 8) u ≡ schedule 8 (take (8 * i + 16) w) → length u ≡ 64 → x ≡ rounds u 8 (8 * i) v → Going all r u (8 * (i + 1)) x
+going_turn {all} {w} {u} {v = v} i h g e l f =
+    let t : ℕ = 8 * i in
+    let a : 48 - t ≡ 8 + (48 - (t + 8)) = omega arith in
     let b : t + 8 + 16 ≡ t + 16 + 8 = omega arith in
+    let n : 8 * (i + 1) ≡ t + 8 = omega arith in
     let made : schedule (48 - (t + 8)) (take (t + 8 + 16) u) ≡ all = rw (b, e) (sym (schedule_add 8 (48 - (t + 8)) (take (t + 16) w)) ∙ (rw a at g.made)) in
-    record { full = l; made = made; rest = going_rounds u all v t (t + 8 + 16) (48 - (t + 8)) (omega (arith, h, z, l)) made (omega arith) (omega (arith, h, z)) g.rest f }
+    rw n
+    (record {
+      full = l;
+      made = made;
+      rest = going_rounds u all v t (t + 8 + 16) (48 - (t + 8)) (omega arith) made (omega arith) (omega arith) g.rest f;
+    })
 
 -- the last sixteen
-pub going_done : {all w : List ℕ} {r v x y : Words} (t : ℕ) → t < 49 → 48 ≤ t → Going all r w t v → x ≡ rounds w 8 48 v → y ≡ rounds w 8 56 x → y ≡ r
+pub going_done : {all w : List ℕ} {r v x y : Words} (i : ℕ) → i ≡ 6 → Going all r w (8 * i) v → x ≡ rounds w 8 48 v → y ≡ rounds w 8 56 x → y ≡ r
 unfolding rounds schedule
-going_done {all} {w} {v = v} {x = x} t h k g e f =
-    let n : t ≡ 48 = omega arith in
-    let made : schedule 0 (take 64 w) ≡ all = rw n at g.made in
-    let rest = rw n at g.rest in
-    let one = going_rounds w all v 48 64 0 (omega (arith, g.full)) made (omega arith) (omega arith) rest e in
-    going_rounds w all x 56 64 0 (omega (arith, g.full)) made (omega arith) (omega arith) one f
+going_done {all} {w} {r} {v = v} {x = x} i n g e f =
+    let k : Going all r w 48 v = rw n at g in
+    let one = going_rounds w all v 48 64 0 (omega (arith, k.full)) k.made (omega arith) (omega arith) k.rest e in
+    going_rounds w all x 56 64 0 (omega (arith, k.full)) k.made (omega arith) (omega arith) one f
 
 -- ---- the blocks
 
-pub blocks_turn : (s : List ℕ) (i e : ℕ) (h r x : Words) → i ≤ length s → 64 ≤ length s - i → e ≡ i + 64 → blocks ((length s - i) / 64) h (drop i s) ≡ r
-    → x ≡ compress h (take (e - i) (drop i s)) → blocks ((length s - e) / 64) x (drop e s) ≡ r
-unfolding blocks
-blocks_turn s i e h r x l m k q f =
-    let n : (length s - i) / 64 ≡ suc ((length s - e) / 64) = omega arith in
-    let o : e - i ≡ 64 = omega arith in
-    let d : drop e s ≡ drop 64 (drop i s) = ap (λ (j : ℕ). drop j s) k ∙ sym (drop-drop 64 i s) in
-    rw (f, d, o) (rw n at q)
+-- a block of 64 bytes and the rest
+pub blocks_turn : (s x y : List ℕ) (h v r : Words) → hashed h s ≡ r → s ≡ x ++ y → length x ≡ 64 → v ≡ compress h x → hashed v y ≡ r
+unfolding hashed blocks
+blocks_turn s x y h v r q e l f =
+    let n : length s / 64 ≡ suc (length (drop 64 s) / 64) = omega (arith, ap length e, length-append x y, l, length-drop 64 s) in
+    let t : take 64 s ≡ x = ap (take 64) e ∙ take_at x y 64 l in
+    let d : drop 64 s ≡ y = ap (drop 64) e ∙ rw (← l) (drop-append_seam x y) in
+    rw (f, ← t, ← d) (rw n at q)
 
-pub blocks_done : (s m : List ℕ) (i : ℕ) (h r : Words) → length s - i < 64 → blocks ((length s - i) / 64) h m ≡ r → h ≡ r
-unfolding blocks
-blocks_done s m i h r l q = let n : (length s - i) / 64 ≡ 0 = omega arith in rw n at q
+-- no block is left
+pub blocks_done : (s : List ℕ) (h r : Words) → hashed h s ≡ r → length s < 64 → h ≡ r
+unfolding hashed blocks
+blocks_done s h r q l = let n : length s / 64 ≡ 0 = omega arith in rw n at q

@@ -5,13 +5,14 @@ use mathlib.Core.Path.{◌≡◌, refl, sym, ap, ◌∙◌}
 use mathlib.Core.Bool.{Bool, true, false}
 use mathlib.Core.List.{List}
 use native.Mathlib.Omega.{arith}
-use lib.ListN.{length, take, drop, replicate, length-drop}
-use lib.Seq.{take-take, length-take-le}
-use borrow.Author.Tests.{le-leb, lt-leb}
+use lib.ListN.{length, take, drop}
+use lib.Seq.{take-take}
+use lib.Dec.{leb}
+use borrow.Author.Tests.{le-leb, leb-true}
 use Rattle.scan.specs.Choice.{Answer, shown, refused}
+use Rattle.scan.proofs.Many.{pick_shown}
 use Rattle.buffer.specs.inner.Store.{Wrote}
 use Rattle.buffer.specs.Entry.{written, filled, writes, leaves}
-use Rattle.buffer.proofs.Places.{all_over}
 use Rattle.buffer.proofs.EntryLaws.{short, fitted}
 use Rattle.littleendian.specs.LittleEndian.{number_of}
 use Rattle.sha256.specs.declared.Words.{Words}
@@ -27,22 +28,21 @@ use Rattle.sha256bytes.proofs.StateLaws.{length_state}
 -- ---- the state of lent bytes
 
 -- its three parts, read by the code
-pub state_made : (b : List ℕ) {v : Words} {q p : List ℕ} {n r : ℕ} → 104 ≤ length b → v ≡ chain_of b → q ≡ take 8 (drop 32 b) → n ≡ number_of (take 8 q)
-    → Wrote (replicate 64 0) 0 (take 64 (drop 40 b)) p r → record { chain = v; pending = p; count = n } ≡ state_of b
+pub state_made : (b : List ℕ) {v : Words} {p : List ℕ} {n : ℕ} → v ≡ chain_of b → p ≡ take 64 (drop 40 b) → n ≡ number_of (take 8 (take 8 (drop 32 b)))
+    → record { chain = v; pending = p; count = n } ≡ state_of b
 unfolding state_of
-state_made b h e f g w =
-    let k : length (take 64 (drop 40 b)) ≡ 64 = length-take-le 64 (drop 40 b) (omega (arith, length-drop 40 b)) in
-    let p = all_over k w in
-    let n = g ∙ ap number_of (ap (take 8) f ∙ take-take 8 8 (drop 32 b) (omega arith)) in
-    λ i. record { chain = e i; pending = p i; count = n i }
+state_made b e f g =
+    let n = g ∙ ap number_of (take-take 8 8 (drop 32 b) (omega arith)) in
+    λ i. record { chain = e i; pending = f i; count = n i }
 
 pub lent : (b : List ℕ) {s : Hash} → 104 ≤ length b → s ≡ state_of b → lent_state b ≡ shown s
 unfolding lent_state
 lent b h e = rw (le-leb 104 (length b) h) (ap shown (sym e))
 
-lent_few : (b : List ℕ) → length b < 104 → lent_state b ≡ refused 11 104
+-- a state that was found has its bytes
+room : (b : List ℕ) {s : Hash} → shown s ≡ lent_state b → 104 ≤ length b
 unfolding lent_state
-lent_few b h = rw (lt-leb 104 (length b) h)
+room b {s} h = leb-true 104 (length b) (pick_shown (leb 104 (length b)) (shown (state_of b)) 11 104 s (sym h)).0
 
 -- ---- starting
 
@@ -60,14 +60,14 @@ module _ (b p : List ℕ) where
   abbrev pub Adds : Answer ℕ → List ℕ → Type 0
   Adds a d = (a ≡ writes bytes_of_state (add_in b p) b) × (d ≡ leaves bytes_of_state (add_in b p) b)
 
-  pub add_few : length b < 104 → Adds (refused 11 104) b
+  pub add_refused : {n q : ℕ} → refused n q ≡ lent_state b → Adds (refused n q) b
   unfolding add_in
-  add_few h = rw (lent_few b h) (refl, refl)
+  add_refused h = rw (sym h) (refl, refl)
 
-  module _ (h : 104 ≤ length b) {s : Hash} {t : Bool} (e : s ≡ state_of b) (f : t ≡ is_too_long s (length p)) where
+  module _ {s : Hash} {t : Bool} (h : shown s ≡ lent_state b) (f : t ≡ is_too_long s (length p)) where
     pub add_long : t ≡ true → Adds (refused 35 0) b
     unfolding add_in
-    add_long g = rw (lent b h e, ← f, g) (refl, refl)
+    add_long g = rw (sym h, ← f, g) (refl, refl)
 
     pub add_made : t ≡ false → {u : Hash} {d : List ℕ} {r : ℕ} → u ≡ added_to s p → Wrote b 0 (bytes_of_state u) d r → Adds (shown r) d
     unfolding add_in
@@ -75,7 +75,7 @@ module _ (b p : List ℕ) where
         let m = k ∙ (not_long s p t f g).0 in
         let n = sym (length_state (with_piece s p) (pending_added s p)) in
         let x : Wrote b 0 (bytes_of_state (with_piece s p)) d r = rw m at w in
-        rw (lent b h e, ← f, g) (fitted n h x)
+        rw (sym h, ← f, g) (fitted n (room b h) x)
 
 -- ---- finishing
 
@@ -83,14 +83,14 @@ module _ (b out : List ℕ) where
   abbrev pub Finishes : Answer ℕ → List ℕ → Type 0
   Finishes a d = (a ≡ writes (λ (l : List ℕ). l) (finish_in b) out) × (d ≡ leaves (λ (l : List ℕ). l) (finish_in b) out)
 
-  pub finish_few : length b < 104 → Finishes (refused 11 104) out
+  pub finish_refused : {n q : ℕ} → refused n q ≡ lent_state b → Finishes (refused n q) out
   unfolding finish_in
-  finish_few h = rw (lent_few b h) (refl, refl)
+  finish_refused h = rw (sym h) (refl, refl)
 
-  module _ (h : 104 ≤ length b) {s : Hash} (e : s ≡ state_of b) where
+  module _ {s : Hash} (h : shown s ≡ lent_state b) where
     told : {a : Answer (List ℕ)} → a ≡ finish_of s → finish_in b ≡ a
     unfolding finish_in
-    told f = rw (lent b h e) (sym f)
+    told f = rw (sym h) (sym f)
 
     pub finish_long : refused 35 0 ≡ finish_of s → Finishes (refused 35 0) out
     finish_long f = rw (told f) (refl, refl)

@@ -1,5 +1,5 @@
--- What the entries over a lent state refuse: 11 with 104 for a buffer that is shorter, 35 at 0 for a message that is too
--- long.
+-- What the entries over a lent state refuse: 11 with 104 for a buffer that is shorter, 35 at 0 for a message that is
+-- too long.
 -- Along their definitions, test by test.
 use Prim.Native.Nat.{ℕ, ◌<◌}
 use mathlib.Core.Path.{◌≡◌, refl}

@@ -8,6 +8,7 @@ ghost use Rattle.slotbytes.specs.SlotBytes.{slot_of, slots_in, slot_bytes, slots
 use slots::Slot;
 
 // The slot that the first 16 bytes are.
+#[tactic(auto, using(crate::proofs::Turns::slot_made))]
 fn slot_of(b: &[u8]) -> Slot
     ensures { result ≡ slot_of b.now }
 {
@@ -27,11 +28,8 @@ pub fn slots_in(b: &[u8]) -> [Slot; 64]
         spare: 0,
         len: 0,
     }; 64];
-    let mut i = 0;
-    while i < 64 {
-        let s = slot_of(scan::part(b, 16 * i, 16));
-        t[i] = s;
-        i += 1;
+    for (i, slot) in t.iter_mut().enumerate() {
+        *slot = slot_of(scan::part(b, 16 * i, 16));
     }
     t
 }
@@ -46,15 +44,12 @@ fn put_slot(out: &mut [u8], at: usize, s: Slot) -> usize
 }
 
 // All slots of a table, one after the other.
-pub fn put_slots(out: &mut [u8], t: [Slot; 64]) -> usize
-    ensures { Wrote out.old 0 (slots_bytes t) out.new result }
+pub fn put_slots(out: &mut [u8], t: &[Slot; 64]) -> usize
+    ensures { Wrote out.old 0 (slots_bytes t.now) out.new result }
 {
     let mut o = 0;
-    let mut i = 0;
-    while i < 64 {
-        let s = t[i];
-        o = put_slot(out, o, s);
-        i += 1;
+    for s in t {
+        o = put_slot(out, o, *s);
     }
     o
 }

@@ -28,25 +28,13 @@ pub fn set_slot(slots: &mut [Slot], i: usize, s: Slot)
 pub fn fill(slots: &mut [Slot], s: Slot)
     ensures { slots.new ≡ replicate (length slots.old) s }
 {
-    let mut i = 0;
-    while i < slots.len() {
-        slots[i] = s;
-        i += 1;
-    }
+    slots.fill(s);
 }
 
 // The slots of a table of 64, by value; of any other table, t.
+#[tactic(auto, using(crate::proofs::Facts::whole_read))]
 pub fn table_of(slots: &[Slot], t: [Slot; 64]) -> [Slot; 64]
     ensures { result ≡ whole slots.now t }
 {
-    if slots.len() != 64 {
-        return t;
-    }
-    let mut u = t;
-    let mut i = 0;
-    while i < slots.len() {
-        u[i] = slots[i];
-        i += 1;
-    }
-    u
+    slots.as_array().copied().unwrap_or(t)
 }

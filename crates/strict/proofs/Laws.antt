@@ -17,14 +17,11 @@ use Rattle.buffer.specs.inner.Store.{Wrote}
 use Rattle.buffer.specs.Entry.{writes, leaves}
 use Rattle.buffer.proofs.EntryLaws.{short, fitted}
 use Rattle.varint.specs.Uleb.{uleb}
-use Rattle.event.specs.declared.Refusal.{Refusal}
 use Rattle.event.specs.Event.{Tag, Event}
-use Rattle.notepack.specs.declared.Walk.{Walk}
-use Rattle.notepack.specs.declared.Walk.TheVariants as walk-by
 use Rattle.notepack.specs.Strict.{pack_elements, pack_tag, pack_tags, pack}
 use Rattle.notepack.specs.Unpack.{unpack}
 use Rattle.notepack.specs.inner.Again.{texts_again, event_again}
-use Rattle.notepack.specs.inner.Answers.{Walked, walk, walk_at}
+use Rattle.notepack.specs.inner.Answers.{Walked, walk_at}
 use Rattle.notepack.proofs.Piece.{piece_decides}
 use Rattle.notepack.proofs.Lengths.{tag_form}
 use Rattle.notepack.proofs.Walking.{walk_refuses}
@@ -45,12 +42,12 @@ module _ (s : List ℕ) (w : Walked) (g : Accepted s w) where
   strict_so n = sym (strict_shown ∙ rw (eq-eqb w.tally.len (length s) n))
 
   -- longer than the strict form
-  pub strict_not : (w.tally.len ≡ length s → ⊥) → shown false ≡ strict s
+  pub strict_not : (w.tally.len ≡ length s → ⊥) → shown (eqb w.tally.len (length s)) ≡ strict s
   strict_not n = sym (strict_shown ∙ rw (ne_eqb w.tally.len (length s) n))
 
-pub strict_refused : (s : List ℕ) (r : Answer Walked) (n q : ℕ) → r ≡ walk_at s → r ≡ refused n q → refused n q ≡ strict s
+pub strict_refused : (s : List ℕ) (n q : ℕ) → refused n q ≡ walk_at s → refused n q ≡ strict s
 unfolding strict
-strict_refused s r n q e k = rw (walk_refuses s n q (sym e ∙ k))
+strict_refused s n q e = rw (walk_refuses s n q (sym e))
 
 -- ---- the writer
 
@@ -89,13 +86,9 @@ module _ (s : List ℕ) (w : Walked) (g : Accepted s w) where
         → (shown n ≡ writes pack (unpack s) d) × (d' ≡ leaves pack (unpack s) d)
     write_fitted l v = let f = fitted g.len l v in (rw g.shows f.0, rw g.shows f.1)
 
--- the reader's refusal is told
-pub refusal_told : (s d : List ℕ) (f : Walk) (k : Refusal) → walk f ≡ walk_at s → f ≡ walk-by.Refused k → refused k.number k.place ≡ writes pack (unpack s) d
-refusal_told s d f k e g = rw (walk_refuses s k.number k.place (sym e ∙ ap walk g))
-
--- and the buffer is left as it was
-pub refusal_leaves : (s d : List ℕ) (f : Walk) (k : Refusal) → walk f ≡ walk_at s → f ≡ walk-by.Refused k → d ≡ leaves pack (unpack s) d
-refusal_leaves s d f k e g = rw (walk_refuses s k.number k.place (sym e ∙ ap walk g))
+-- the reader's refusal is told, and the buffer is left as it was
+pub refusal_told : (s d : List ℕ) (n q : ℕ) → refused n q ≡ walk_at s → (refused n q ≡ writes pack (unpack s) d) × (d ≡ leaves pack (unpack s) d)
+refusal_told s d n q e = let f = walk_refuses s n q (sym e) in (rw f, rw f)
 
 -- ---- the theorem
 

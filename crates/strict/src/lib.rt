@@ -5,7 +5,7 @@ ghost use Rattle.std.specs.Prelude.{◌≡◌};
 ghost use Rattle.scan.specs.Choice.{shown};
 ghost use Rattle.buffer.specs.inner.Store.{Wrote};
 ghost use Rattle.buffer.specs.Entry.{writes, leaves};
-ghost use Rattle.event.specs.inner.Told.{writing};
+ghost use Rattle.event.specs.inner.Told.{answer};
 ghost use Rattle.hexdigits.specs.Hex.{hexes};
 ghost use Rattle.notepack.specs.Strict.{pack_element, pack_elements, pack_tags, pack};
 ghost use Rattle.notepack.specs.Unpack.{text_of, unpack};
@@ -13,38 +13,16 @@ ghost use Rattle.notepack.specs.inner.Again.{texts_again, texts_end, tags_again,
 ghost use Rattle.notepack.specs.inner.Answers.{walk_at};
 ghost use Rattle.strict.specs.Strict.{strict};
 ghost use Rattle.strict.specs.inner.Copy.{packed_head, packed_pieces};
-ghost use Rattle.strict.specs.inner.Answers.{strict_read};
 
-use event::{Refusal, Writing};
-use notepack::{Head, Part, Tally, Walk};
-
-#[derive(Drop)]
-pub enum StrictRead {
-    Strict(bool),
-    Refused(Refusal),
-}
-
-// The place behind what was written, and the place behind what was read for it.
-#[derive(Drop)]
-struct Copied {
-    out: usize,
-    next: usize,
-}
+use event::{Reason, Refusal};
+use notepack::{Head, Part, Tally};
 
 // Whether the bytes are the strict form of their event, or the reader's refusal.
-pub fn is_strict(s: &[u8]) -> StrictRead
-    ensures { strict_read result ≡ strict s.now }
+pub fn is_strict(s: &[u8]) -> Result<bool, Refusal>
+    ensures { answer result ≡ strict s.now }
 {
-    let walked = notepack::walk_packed(s);
-    match walked {
-        Walk::Done(_, t) => {
-            if t.len == s.len() {
-                return StrictRead::Strict(!t.hollow);
-            }
-            StrictRead::Strict(false)
-        }
-        Walk::Refused(r) => StrictRead::Refused(r),
-    }
+    let (_, t) = notepack::walk_packed(s)?;
+    Ok(t.len == s.len() && !t.hollow)
 }
 
 // The strict element whose text these bytes are.
@@ -64,7 +42,7 @@ pub fn put_packed_text(out: &mut [u8], at: usize, t: &[u8]) -> usize
 fn put_raw(out: &mut [u8], at: usize, b: &[u8]) -> usize
     ensures { Wrote out.old at (pack_element (hexes b.now)) out.new result }
 {
-    if b.len() == 0 {
+    if b.is_empty() {
         return buffer::put_byte(out, at, 0);
     }
     let o = varint::put_varint(out, at, 2 * b.len() as u64 + 1);
@@ -72,6 +50,7 @@ fn put_raw(out: &mut [u8], at: usize, b: &[u8]) -> usize
 }
 
 // The strict element that has a part's text.
+#[tactic(auto, unfolding(notepack::specs::Unpack::text_of))]
 fn put_packed_part(out: &mut [u8], at: usize, s: &[u8], p: Part) -> usize
     ensures { Wrote out.old at (pack_element (text_of s.now p)) out.new result }
 {
@@ -82,21 +61,19 @@ fn put_packed_part(out: &mut [u8], at: usize, s: &[u8], p: Part) -> usize
     put_packed_text(out, at, bytes)
 }
 
-// count elements from a place on.
-fn copy_elements(out: &mut [u8], at: usize, s: &[u8], from: usize, count: u64) -> Copied
-    ensures wrote { Wrote out.old at (pack_elements (texts_again count s.now from)) out.new result.out }
-    ensures next_value { result.next ≡ texts_end count s.now from }
+// count elements from a place on: the place behind what was written, and the place behind what was read for it.
+fn copy_elements(out: &mut [u8], at: usize, s: &[u8], from: usize, count: u64) -> (usize, usize)
+    ensures wrote { Wrote out.old at (pack_elements (texts_again count s.now from)) out.new result.0 }
+    ensures next_value { result.1 ≡ texts_end count s.now from }
 {
     let mut o = at;
     let mut i = from;
-    let mut left = count;
-    while 0 < left {
-        let again = notepack::part_again(s, i);
-        o = put_packed_part(out, o, s, again.part);
-        i = again.next;
-        left -= 1;
+    for _ in 0..count {
+        let (part, next) = notepack::part_again(s, i);
+        o = put_packed_part(out, o, s, part);
+        i = next;
     }
-    Copied { out: o, next: i }
+    (o, i)
 }
 
 // count tags from a place on.
@@ -105,14 +82,10 @@ fn copy_tags(out: &mut [u8], at: usize, s: &[u8], from: usize, count: u64) -> us
 {
     let mut o = at;
     let mut i = from;
-    let mut left = count;
-    while 0 < left {
-        let again = notepack::count_again(s, i);
-        o = varint::put_varint(out, o, again.count);
-        let copied = copy_elements(out, o, s, again.next, again.count);
-        o = copied.out;
-        i = copied.next;
-        left -= 1;
+    for _ in 0..count {
+        let (n, first) = notepack::count_again(s, i);
+        o = varint::put_varint(out, o, n);
+        (o, i) = copy_elements(out, o, s, first, n);
     }
     o
 }
@@ -143,31 +116,24 @@ fn copy_packed(out: &mut [u8], s: &[u8], h: Head, t: Tally) -> usize
     requires { walk_at s.now ≡ shown (record { head = h; tally = t }) }
     ensures { Wrote out.old 0 (pack (event_again s.now h)) out.new result }
 {
-    if t.len == s.len() {
-        if !t.hollow {
-            return buffer::put_bytes(out, 0, s);
-        }
+    if t.len == s.len() && !t.hollow {
+        return buffer::put_bytes(out, 0, s);
     }
     put_packed(out, 0, s, h)
 }
 
 // The strict form of a packed event: the reader's refusals, then 11 with the length needed; else written from the
 // start.
-pub fn write_strict(s: &[u8], out: &mut [u8]) -> Writing
-    ensures result_value { writing result ≡ writes pack (unpack s.now) out.old }
+pub fn write_strict(s: &[u8], out: &mut [u8]) -> Result<usize, Refusal>
+    ensures result_value { answer result ≡ writes pack (unpack s.now) out.old }
     ensures out_after { out.new ≡ leaves pack (unpack s.now) out.old }
 {
-    let walked = notepack::walk_packed(s);
-    match walked {
-        Walk::Refused(r) => Writing::Refused(r),
-        Walk::Done(h, t) => {
-            if out.len() < t.len {
-                return Writing::Refused(Refusal {
-                    number: event::TOO_LITTLE_ROOM,
-                    place: t.len,
-                });
-            }
-            Writing::Written(copy_packed(out, s, h, t))
-        }
+    let (h, t) = notepack::walk_packed(s)?;
+    if out.len() < t.len {
+        return Err(Refusal {
+            reason: Reason::TooLittleRoom,
+            place: t.len,
+        });
     }
+    Ok(copy_packed(out, s, h, t))
 }

@@ -7,8 +7,10 @@ use mathlib.Core.List.{List, ◌∷◌, ◌++◌}
 use native.Mathlib.Omega.{arith}
 use lib.ListN.{length, get_or, drop, length-append}
 use borrow.Author.Tests.{lt-ltb, le-ltb}
+use Rattle.std.specs.Prelude.{Result, Ok, Err}
 use Rattle.scan.specs.Choice.{Answer, shown, refused}
 use Rattle.scan.specs.Place.{stands_at, run_at}
+use Rattle.scan.proofs.Many.{shown_same}
 use Rattle.scan.proofs.AllLaws.{all_places}
 use Rattle.scan.proofs.SpanLaws.{span_fits}
 use Rattle.scan.proofs.PlaceLaws.{stands_span}
@@ -16,16 +18,13 @@ use Rattle.buffer.specs.Entry.{written, filled, writes, leaves}
 use Rattle.base64text.specs.Base64.{in_alphabet, encoded, decoded, ends_whole}
 use Rattle.event.specs.Event.{Event}
 use Rattle.event.specs.declared.Refusal.{Refusal}
-use Rattle.notepack.specs.declared.HeadRead.{HeadRead}
-use Rattle.notepack.specs.declared.HeadRead.TheVariants as head-by
+use Rattle.event.specs.inner.Told.{answer, number_of}
 use Rattle.notepack.specs.declared.Head.{Head}
 use Rattle.notepack.specs.declared.Tally.{Tally}
-use Rattle.notepack.specs.declared.Walk.{Walk}
-use Rattle.notepack.specs.declared.Walk.TheVariants as walk-by
 use Rattle.notepack.specs.Strict.{pack}
 use Rattle.notepack.specs.Unpack.{unpack}
 use Rattle.notepack.specs.inner.Again.{event_again}
-use Rattle.notepack.specs.inner.Answers.{head_read, Walked, walk, walk_at}
+use Rattle.notepack.specs.inner.Answers.{Walked, walk, walk_at}
 use Rattle.notepack.proofs.Walking.{walk_refuses}
 use Rattle.notepack.proofs.Again.{Accepted, accepted as notepack-accepted}
 use Rattle.strict.specs.inner.Copy.{packed_pieces}
@@ -33,8 +32,8 @@ use Rattle.strict.proofs.Laws.{pack_written}
 use Rattle.versioned.specs.Versioned.{start_of}
 use Rattle.versioned.specs.Views.{numbers_given}
 use Rattle.versioned.specs.Moves.{accepted}
-use Rattle.versioned.specs.inner.Moved.{moved_place, moved}
-use Rattle.versioned.proofs.Starting.{versioned_starts}
+use Rattle.versioned.specs.inner.Moved.{moved}
+use Rattle.versioned.proofs.Starting.{clash, refused_as, versioned_starts}
 use Rattle.versioned.proofs.Accepted.{accepted_refused, accepted_shown}
 use Rattle.stringform.specs.StringForm.{prefix, front, string_form, event_string, held_bytes, read_string}
 
@@ -75,12 +74,12 @@ module _ (bare : Bool) (t : List ℕ) where
           rw (p, le-ltb (run_at in_alphabet t (length (prefix bare))) (length t) (omega (arith, e', q)), h', f)
 
 -- the bytes b were decoded, and the notepack reader was asked of them
-module _ (bare : Bool) (b : List ℕ) {c : List ℕ} (e : c ≡ b) (r : HeadRead) (h : head_read r ≡ numbers_given bare c) where
-  pub held_refused : (k : Refusal) → r ≡ head-by.Refused k → accepted bare b ≡ refused k.number k.place
-  held_refused k q = accepted_refused bare b (h ∙ ap (numbers_given bare) e) (ap head_read q)
+module _ (bare : Bool) (b : List ℕ) {c : List ℕ} (e : c ≡ b) where
+  pub held_refused : {n q : ℕ} → refused n q ≡ numbers_given bare c → accepted bare b ≡ refused n q
+  held_refused h = accepted_refused bare b (h ∙ ap (numbers_given bare) e) refl
 
-  pub held_shown : (k : Head) → r ≡ head-by.Found k → accepted bare b ≡ shown b
-  held_shown k q = accepted_shown bare b (h ∙ ap (numbers_given bare) e) (ap head_read q)
+  pub held_shown : {k : Head} → shown k ≡ numbers_given bare c → accepted bare b ≡ shown b
+  held_shown h = accepted_shown bare b (h ∙ ap (numbers_given bare) e) refl
 
 -- an answer that is a refusal, and the buffer as it was
 pub tells : {A : Type 0} (text : A → List ℕ) {a : Answer A} {n q : ℕ} (d : List ℕ) → a ≡ refused n q → (refused n q ≡ writes text a d) × (d ≡ leaves text a d)
@@ -89,9 +88,12 @@ tells text d e = rw e (refl, refl)
 -- ---- the writer
 
 -- a slice that was walked to its end shows an event
-pub walked_event : (s : List ℕ) → ((i : ℕ) → get_or s i 0 < 256) → (f : Walk) {h : Head} {t : Tally} → walk f ≡ walk_at s → f ≡ walk-by.Done h t
-    → Accepted s (record { head = h; tally = t })
-walked_event s y f e k = notepack-accepted s (all_places s y) _ _ e (ap walk k)
+pub walked_event : (s : List ℕ) → ((i : ℕ) → get_or s i 0 < 256) → (bare : Bool) (f : Result (Head × Tally) Refusal) {w : Head × Tally}
+    → walk f ≡ walk_at s → shown w ≡ moved bare (answer f) → Accepted s (record { head = w.0; tally = w.1 })
+walked_event s y bare (Ok v) {w} e k =
+    let q : v ≡ w = shown_same (sym k) in
+    notepack-accepted s (all_places s y) _ _ e (ap (λ (x : Head × Tally). walk (Ok x)) q)
+walked_event s y bare (Err r) e k = clash (sym k)
 
 -- at most one byte stands in front
 front_most : (bare : Bool) (l : List ℕ) → length (front bare ++ l) ≤ length l + 1
@@ -125,9 +127,10 @@ module _ (bare : Bool) (s : List ℕ) (w : Walked) (g : Accepted s w) where
   wrote_pieces d p = wrote_event d (ap (λ (l : List ℕ). front bare ++ l) (pack_written s w g)) p
 
 -- the notepack reader's refusal
-pub bare_refused : (bare : Bool) (s : List ℕ) {r : Answer Walked} {n q : ℕ} → r ≡ walk_at s → r ≡ refused n q
-    → ◌≡◌ {A = Answer Event} (moved bare (unpack s)) (refused n (moved_place bare n q))
-bare_refused bare s {n = n} {q = q} e k = ap (moved bare) (walk_refuses s n q (sym e ∙ k))
+pub bare_refused : (bare : Bool) (s : List ℕ) (f : Result (Head × Tally) Refusal) {n q : ℕ} → walk f ≡ walk_at s → refused n q ≡ moved bare (answer f)
+    → ◌≡◌ {A = Answer Event} (moved bare (unpack s)) (refused n q)
+bare_refused bare s (Ok v) e k = clash k
+bare_refused bare s (Err r) e k = ap (moved bare) (walk_refuses s (number_of r.reason) r.place (sym e)) ∙ refused_as (sym k)
 
 -- the bare bytes and what stands in front of them are the input
 pub front_whole : (bare : Bool) (s : List ℕ) {k : ℕ} → start_of bare s ≡ shown k → s ≡ front bare ++ drop k s

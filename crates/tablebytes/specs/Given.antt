@@ -1,6 +1,6 @@
 -- A run of offers of either form to a lent table (rules 12.6 and 17.7), as the entry for C has it: of each input the
--- caller says whether it is bare. It is a run of offers of bare bytes, of the same events, that leaves the same buffers:
--- so all that `Runs` says of a run holds of it. `proofs/Given` proves it. Assumes nothing.
+-- caller says whether it is bare. It is a run of offers of bare bytes, of the same events, that leaves the same
+-- buffers: so all that `Runs` says of a run holds of it. `proofs/Given` proves it. Assumes nothing.
 use Rattle.std.specs.Prelude.{ℕ, ◌≡◌, Bool, List, [], ◌∷◌}
 use Rattle.scan.specs.Choice.{shown}
 use Rattle.scan.specs.Bytes.{IsBytes}

@@ -1,6 +1,7 @@
 -- What an offer to known slots does is what the table's own definitions say of it.
 -- By the event that each slot holds, by the name that is looked for, and by the cases of the offer.
 use Prim.Native.Nat.{ℕ, ◌*◌, ◌≤◌, ◌<◌}
+use Rattle.std.specs.Prelude.{Option, Some, None}
 use mathlib.Core.Path.{◌≡◌, refl, sym, ap, ◌∙◌, subst}
 use mathlib.Core.Bool.{Bool, true, false}
 use mathlib.Core.List.{List}
@@ -19,8 +20,7 @@ use Rattle.notepack.specs.inner.Again.{event_again}
 use Rattle.notepack.specs.inner.Answers.{Walked, walk_at}
 use Rattle.notepack.proofs.Again.{Accepted, accepted}
 use Rattle.notepack.proofs.Walking.{walk_refuses}
-use Rattle.keys.specs.declared.KeyRead.{KeyRead}
-use Rattle.keys.specs.declared.KeyRead.TheVariants.{Keyed, Keyless}
+use Rattle.keys.specs.declared.KeyPlace.{KeyPlace}
 use Rattle.keys.specs.Key as key
 use Rattle.keys.specs.Key.{key_of}
 use Rattle.keys.specs.inner.Place.{key_at, key_there}
@@ -36,10 +36,6 @@ use Rattle.table.specs.Table.{entries_of}
 use Rattle.table.specs.Offer.{offered_event, Offer, offer_of, offer, Place, nowhere, slot, place_by, cells_with, cells_after}
 use Rattle.tableread.specs.declared.Stored.{Stored}
 use Rattle.tableread.specs.declared.Known.{Known}
-use Rattle.tableread.specs.declared.Lowest.{Lowest}
-use Rattle.tableread.specs.declared.Lowest.TheVariants as lowest
-use Rattle.tableread.specs.declared.Finding.{Finding}
-use Rattle.tableread.specs.declared.Finding.TheVariants as finding
 use Rattle.tableread.specs.inner.Prints.{print_of}
 use Rattle.tableread.specs.inner.Known.{name_there, stored_bytes, find_from, free_from}
 use Rattle.tableread.proofs.Knowing.{Stands}
@@ -48,7 +44,7 @@ use Rattle.tableread.proofs.Searching.{found_at, missing_none, free_at, free_non
 use Rattle.tableread.proofs.Within.{find_within, free_within}
 use Rattle.tableoffer.specs.declared.Plan.{Plan}
 use Rattle.tableoffer.specs.declared.Plan.TheVariants.{Put, Stays, Full}
-use Rattle.tableoffer.specs.inner.Decision.{decision_at, decision}
+use Rattle.tableoffer.specs.inner.Decision.{decision_at, decided}
 use Rattle.tableoffer.specs.inner.Plan.{beside_stored, new_in, plan_found, plan_for, decision_by, cells_by, walked_decision, walked_cells, good_decision, good_cells}
 
 -- what an offer comes to, with the entries and the event
@@ -57,7 +53,7 @@ offer_by l e a = and_then a λ r. shown (record { entries = l; event = e; outcom
 
 -- a plan is what an answer says, in the decision and in the cells
 pub record Means (cells b : List ℕ) (p : Plan) (a : Answer Offer) : Type 0 where
-  pub decides : decision_by p (length b) ≡ decision 64 a
+  pub decides : decision_by p (length b) ≡ decided a
   pub leaves : cells_by p b cells ≡ cells_after a cells
 
 -- an event that was walked over: its numbers, its id and its key as they stand in the bytes
@@ -78,13 +74,13 @@ module _ (cells : List ℕ) (room : length cells ≡ 65_536) (l : List Entry) (e
       let o : Offer = record { entries = l; event = e; outcome = r } in
       let w = ap (λ (z : List ℕ × ℕ). z.0) (puts_eq cells (1_024 * i) (pack e) (omega (arith, k, small, room))) in
       subst (λ (a : Answer Outcome). Means cells (pack e) (Put i r) (offer_by l e a)) (sym q)
-      (record { decides = ap (λ (x : Place). decision_at 64 x o) (sym p); leaves = w ∙ ap (λ (x : Place). cells_with x e cells) (sym p) })
+      (record { decides = ap (λ (x : Place). shown (decision_at x o)) (sym p); leaves = w ∙ ap (λ (x : Place). cells_with x e cells) (sym p) })
 
   stays_means : {r : Outcome} → offered l e ≡ shown r → place_by r l e ≡ nowhere → Means cells (pack e) (Stays r) (offer_by l e (offered l e))
   stays_means {r} q p =
       let o : Offer = record { entries = l; event = e; outcome = r } in
       subst (λ (a : Answer Outcome). Means cells (pack e) (Stays r) (offer_by l e a)) (sym q)
-      (record { decides = ap (λ (x : Place). decision_at 64 x o) (sym p); leaves = ap (λ (x : Place). cells_with x e cells) (sym p) })
+      (record { decides = ap (λ (x : Place). shown (decision_at x o)) (sym p); leaves = ap (λ (x : Place). cells_with x e cells) (sym p) })
 
   full_means : offered l e ≡ refused 23 0 → Means cells (pack e) Full (offer_by l e (offered l e))
   full_means q = subst (λ (a : Answer Outcome). Means cells (pack e) Full (offer_by l e a)) (sym q) (record { decides = refl; leaves = refl })
@@ -102,21 +98,21 @@ module _ (cells : List ℕ) (room : length cells ≡ 65_536) (l : List Entry) (e
     name_is : name_there s (key_at s h) ≡ name_of e
     name_is = ap (λ (i : List ℕ). name_by i (key_there s (key_at s h))) (sym g.id) ∙ ap (name_by e.id) g.key
 
-    new_means : (f : Lowest) → free_from 0 ks ≡ f → wanted l e ≡ New → Means cells (pack e) (new_in f) (offer_by l e (offered l e))
-    new_means (lowest.At i) q w =
+    new_means : (f : Option ℕ) → free_from 0 ks ≡ f → wanted l e ≡ New → Means cells (pack e) (new_in f) (offer_by l e (offered l e))
+    new_means (Some i) q w =
         let y = free_at cells u q in
         let k = free_within ks q in
         put_means (omega (arith, k, many)) (fitting w y.0) (ap slot (sym y.1))
-    new_means lowest.Nowhere q w = full_means (crowded w (free_none cells u q))
+    new_means None q w = full_means (crowded w (free_none cells u q))
 
-    beside_means : (z : KeyRead) → key_at s h ≡ z → (i : ℕ) (a : Stored) (d : Event) → i < 64 → Stands cells a d → i ≡ place_of (name_of e) l
+    beside_means : (z : Option KeyPlace) → key_at s h ≡ z → (i : ℕ) (a : Stored) (d : Event) → i < 64 → Stands cells a d → i ≡ place_of (name_of e) l
         → wanted l e ≡ beside (key_of e) d e → Means cells (pack e) (beside_stored cells i a s h.created_at z (pack e)) (offer_by l e (offered l e))
     unfolding beside_stored same_event
-    beside_means Keyless q i a d k y p w =
+    beside_means None q i a d k y p w =
         let m : key_of e ≡ key.keyless = sym g.key ∙ ap (key_there s) q in
         stays_means (fitting (w ∙ ap (λ (x : key.Keyed). beside x d e) m) refl) refl
-    beside_means (Keyed c) q i a d k y p w =
-        let m : key_of e ≡ key_there s (Keyed c) = sym g.key ∙ ap (key_there s) q in
+    beside_means (Some c) q i a d k y p w =
+        let m : key_of e ≡ key_there s (Some c) = sym g.key ∙ ap (key_there s) q in
         let n : keeps_by a.created_at h.created_at (take 32 (stored_bytes cells a)) (take 32 s) ≡ keeps d e = rw (← y.time, ← y.id, ← g.time, ← g.id) in
         let v = w ∙ ap (λ (x : key.Keyed). beside x d e) m in
         rw (n, y.strict) (by_tests (is_second (keeps d e)) (same_event d e) v)
@@ -126,14 +122,14 @@ module _ (cells : List ℕ) (room : length cells ≡ 65_536) (l : List Entry) (e
         by_tests false true v = stays_means (fitting v refl) refl
         by_tests false false v = stays_means (fitting v refl) refl
 
-    found_means : (f : Finding) → find_from cells s (key_at s h) (print_of (name_there s (key_at s h))) 0 ks ≡ f → is_ephemeral e.kind ≡ false
+    found_means : (f : Option (ℕ × Stored)) → find_from cells s (key_at s h) (print_of (name_there s (key_at s h))) 0 ks ≡ f → is_ephemeral e.kind ≡ false
         → Means cells (pack e) (plan_found cells ks s h (pack e) f) (offer_by l e (offered l e))
     unfolding wanted
-    found_means (finding.Found i a) q v =
+    found_means (Some (i, a)) q v =
         let y = found_at cells s (key_at s h) (print_of (name_there s (key_at s h))) (name_of e) (sym name_is) (ap print_of name_is) u q in
         let k = find_within cells s (key_at s h) (print_of (name_there s (key_at s h))) ks q in
         beside_means (key_at s h) refl i a y.0 (omega (arith, k, many)) y.2 y.3 (rw (v, y.1))
-    found_means finding.Missing q v =
+    found_means None q v =
         let y = missing_none cells s (key_at s h) (print_of (name_there s (key_at s h))) (name_of e) (sym name_is) (ap print_of name_is) u q in
         new_means (free_from 0 ks) refl (rw (v, y))
 
@@ -171,10 +167,10 @@ module _ (t : List Slot) (cells : List ℕ) (room : length cells ≡ 65_536) (ks
   short_event {e} q k = rw (q, le-leb (length (pack e)) 1_024 k)
 
   abbrev Decided : Answer Walked → Type 0
-  Decided r = (walked_decision cells ks s r ≡ decision 64 (offer t cells s)) × (walked_cells cells ks s r ≡ cells_after (offer t cells s) cells)
+  Decided r = (walked_decision cells ks s r ≡ decided (offer t cells s)) × (walked_cells cells ks s r ≡ cells_after (offer t cells s) cells)
 
-  told : {n q : ℕ} → offer t cells s ≡ refused n q → (decision 64 (refused n q) ≡ decision 64 (offer t cells s)) × (cells ≡ cells_after (offer t cells s) cells)
-  told q = (ap (decision 64) (sym q), ap (λ (a : Answer Offer). cells_after a cells) (sym q))
+  told : {n q : ℕ} → offer t cells s ≡ refused n q → (refused n q ≡ decided (offer t cells s)) × (cells ≡ cells_after (offer t cells s) cells)
+  told q = (ap decided (sym q), ap (λ (a : Answer Offer). cells_after a cells) (sym q))
 
   walked : (w : Walked) → Accepted s w → Decided (shown w)
   walked w g = go (ltb 1_024 w.tally.len) refl
@@ -191,11 +187,11 @@ module _ (t : List Slot) (cells : List ℕ) (room : length cells ≡ 65_536) (ks
           let q = offer_event (short_event g.shows small) in
           rw (k, pack_written s w g, q) (p.decides, p.leaves)
 
-  decided : (r : Answer Walked) → walk_at s ≡ r → Decided r
-  decided (shown w) e = walked w (accepted s bytes w (walk_at s) refl e)
-  decided (refused n q) e = told (offer_refused (no_event (walk_refuses s n q e)))
+  every_walk : (r : Answer Walked) → walk_at s ≡ r → Decided r
+  every_walk (shown w) e = walked w (accepted s bytes w (walk_at s) refl e)
+  every_walk (refused n q) e = told (offer_refused (no_event (walk_refuses s n q e)))
 
   -- THE offer to a table without a bad slot
-  pub good_means : (good_decision cells ks s ≡ decision 64 (offer t cells s)) × (good_cells cells ks s ≡ cells_after (offer t cells s) cells)
+  pub good_means : (good_decision cells ks s ≡ decided (offer t cells s)) × (good_cells cells ks s ≡ cells_after (offer t cells s) cells)
   unfolding good_decision good_cells
-  good_means = decided (walk_at s) refl
+  good_means = every_walk (walk_at s) refl

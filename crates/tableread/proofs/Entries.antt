@@ -2,15 +2,15 @@
 -- the lowest bad one. Slot by slot; a print that differs tells names apart.
 use Prim.Native.Nat.{ℕ, suc}
 use mathlib.Core.Path.{◌≡◌, refl, sym, ap}
+use Rattle.std.specs.Prelude.{Option, Some, None}
 use mathlib.Core.Bool.{Bool, true, false}
 use mathlib.Core.List.{List, [], ◌∷◌}
-use native.Mathlib.Omega.{arith}
 use lib.Dec.{eqb}
 use borrow.Author.Tests.{eq-eqb}
 use Rattle.scan.specs.Choice.{pick, Answer, shown, refused, and_then}
 use Rattle.scan.specs.Bytes.{IsBytes}
 use Rattle.event.specs.Event.{Event}
-use Rattle.keys.specs.declared.KeyRead.{KeyRead}
+use Rattle.keys.specs.declared.KeyPlace.{KeyPlace}
 use Rattle.slots.specs.declared.Slot.{Slot}
 use Rattle.archive.specs.Archive.{Name, name_of, same_name, Entry, free, held}
 use Rattle.archive.proofs.Lookup.{Same, same, other, decide}
@@ -18,15 +18,9 @@ use Rattle.table.specs.Table.{Holds, good, has_name, entries_from, slots_hold}
 use Rattle.tableread.specs.declared.Stored.{Stored}
 use Rattle.tableread.specs.declared.Known.{Known}
 use Rattle.tableread.specs.declared.Known.TheVariants.{Free, Good}
-use Rattle.tableread.specs.declared.Lowest.{Lowest}
-use Rattle.tableread.specs.declared.Lowest.TheVariants as lowest
 use Rattle.tableread.specs.inner.Prints.{print_of}
 use Rattle.tableread.specs.inner.Known.{name_there, stored_bytes, known_from, holds_name, some_holds, lowest_from}
 use Rattle.tableread.proofs.Knowing.{Stands, is_free, is_bad, is_good_lem, TellAll, none as tell_None, more as tell-more, all_tell}
-
--- two constructors that were told to be equal: `clash (cc)`
-pub clash : {A : Type 0} → ◌≡◌ {A = ℕ} 0 1 → A
-clash z = absurd (omega arith)
 
 -- the known slots and the entries, one by one
 pub data Alike (cells : List ℕ) : List Known → List Entry → Type 0 where
@@ -49,7 +43,7 @@ print_name m n = go (decide n m)
     go (other q) = rw q (no (eqb (print_of m) (print_of n)))
 
 -- the name n of s, which has this key and this print
-module _ (cells s : List ℕ) (key : KeyRead) (print : ℕ) (n : Name) (is : n ≡ name_there s key) (prints : print ≡ print_of n) where
+module _ (cells s : List ℕ) (key : Option KeyPlace) (print : ℕ) (n : Name) (is : n ≡ name_there s key) (prints : print ≡ print_of n) where
   pub holds_name_lem : {a : Stored} {e : Event} → Stands cells a e → holds_name cells s key print (Good a) ≡ same_name n (name_of e)
   unfolding holds_name
   holds_name_lem {a} {e} g = rw (← is, g.name, g.print, prints) (print_name (name_of e) n)
@@ -64,13 +58,13 @@ module _ (cells s : List ℕ) (key : KeyRead) (print : ℕ) (n : Name) (is : n �
 -- ---- the lowest bad slot
 
 -- what the definitions say of known slots and of what they hold
-data Agree (cells : List ℕ) (ks : List Known) : Lowest → Answer (List Entry) → Type 0 where
-  refuses : {i : ℕ} → Agree cells ks (lowest.At i) (refused 34 i)
-  lists : {s : List Entry} → Alike cells ks s → Agree cells ks lowest.Nowhere (shown s)
+data Agree (cells : List ℕ) (ks : List Known) : Option ℕ → Answer (List Entry) → Type 0 where
+  refuses : {i : ℕ} → Agree cells ks (Some i) (refused 34 i)
+  lists : {s : List Entry} → Alike cells ks s → Agree cells ks None (shown s)
 
 module _ (cells : List ℕ) where
   -- a slot in front of the others
-  behind : {k : Known} {x : Entry} {ks : List Known} {r : Lowest} {b : Answer (List Entry)} → ((l : List Entry) → Alike cells ks l → Alike cells (k ∷ ks) (x ∷ l))
+  behind : {k : Known} {x : Entry} {ks : List Known} {r : Option ℕ} {b : Answer (List Entry)} → ((l : List Entry) → Alike cells ks l → Alike cells (k ∷ ks) (x ∷ l))
       → Agree cells ks r b → Agree cells (k ∷ ks) r (and_then b λ s. shown (x ∷ s))
   behind f refuses = refuses
   behind f (lists {s} g) = lists (f s g)
@@ -84,24 +78,24 @@ module _ (cells : List ℕ) where
       rw (some_holds_lem cells (stored_bytes cells a) a.key a.print (name_of e) (sym g.name) g.print u)
       (by_twin (has_name (name_of e) hs) (agree (suc i) u))
     where
-      by_twin : (t : Bool) {r : Lowest} {b : Answer (List Entry)} → Agree cells ks r b
-          → Agree cells (Good a ∷ ks) (pick t (lowest.At i) r) (pick t (refused 34 i) (and_then b λ s. shown (held e ∷ s)))
+      by_twin : (t : Bool) {r : Option ℕ} {b : Answer (List Entry)} → Agree cells ks r b
+          → Agree cells (Good a ∷ ks) (pick t (Some i) r) (pick t (refused 34 i) (and_then b λ s. shown (held e ∷ s)))
       by_twin true v = refuses
       by_twin false v = behind (λ l. holds_one {l = l} g) v
 
-  at_refused : {ks : List Known} {r : Lowest} {b : Answer (List Entry)} {i : ℕ} → Agree cells ks r b → r ≡ lowest.At i → b ≡ refused 34 i
+  at_refused : {ks : List Known} {r : Option ℕ} {b : Answer (List Entry)} {i : ℕ} → Agree cells ks r b → r ≡ Some i → b ≡ refused 34 i
   at_refused refuses e = cc
-  at_refused (lists g) e = clash (cc)
+  at_refused (lists g) e = absurd (cc)
 
-  nowhere_shown : {ks : List Known} {r : Lowest} {b : Answer (List Entry)} → Agree cells ks r b → r ≡ lowest.Nowhere → (s : List Entry) × (b ≡ shown s) × Alike cells ks s
-  nowhere_shown refuses e = clash (cc)
+  nowhere_shown : {ks : List Known} {r : Option ℕ} {b : Answer (List Entry)} → Agree cells ks r b → r ≡ None → (s : List Entry) × (b ≡ shown s) × Alike cells ks s
+  nowhere_shown refuses e = absurd (cc)
   nowhere_shown (lists {s} g) e = (s, refl, g)
 
-  pub lowest_bad_is : IsBytes cells → (t : List Slot) {i : ℕ} → lowest_from cells 0 (known_from cells 0 t) ≡ lowest.At i → entries_from 0 (slots_hold t cells) ≡ refused 34 i
+  pub lowest_bad_is : IsBytes cells → (t : List Slot) {i : ℕ} → lowest_from cells 0 (known_from cells 0 t) ≡ Some i → entries_from 0 (slots_hold t cells) ≡ refused 34 i
   unfolding slots_hold
   lowest_bad_is all t e = at_refused (agree 0 (all_tell cells all 0 t)) e
 
-  pub lowest_none : IsBytes cells → (t : List Slot) → lowest_from cells 0 (known_from cells 0 t) ≡ lowest.Nowhere
+  pub lowest_none : IsBytes cells → (t : List Slot) → lowest_from cells 0 (known_from cells 0 t) ≡ None
       → (s : List Entry) × (entries_from 0 (slots_hold t cells) ≡ shown s) × Alike cells (known_from cells 0 t) s
   unfolding slots_hold
   lowest_none all t e = nowhere_shown (agree 0 (all_tell cells all 0 t)) e

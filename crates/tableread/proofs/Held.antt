@@ -20,7 +20,7 @@ use Rattle.tableread.specs.declared.Known.{Known}
 use Rattle.tableread.specs.declared.Known.TheVariants.{Free, Bad, Good}
 use Rattle.tableread.specs.inner.Known.{stored_at, known_walked, known_bytes, known_at}
 use Rattle.tableread.proofs.Knowing.{Stands, Tells, is_free, is_bad, is_good_lem, known_tells}
-use Rattle.tableread.proofs.Entries.{clash, Alike, ends, frees, holds_one}
+use Rattle.tableread.proofs.Entries.{Alike, ends, frees, holds_one}
 
 -- ---- where the event of a slot stands
 
@@ -44,37 +44,37 @@ known_placed cells i s =
     (λ _. pick_by (Placed (cell_start i) s.len) (ltb 1_024 s.len) (λ _. no_good) (λ _. let b = take s.len (drop (cell_start i) cells) in bytes_placed (cell_start i) s.len b (walk_at b)))
 
 placed_at : {at len : ℕ} {k : Known} {a : Stored} → Placed at len k → k ≡ Good a → (a.at ≡ at) × (a.len ≡ len)
-placed_at no_event e = clash (cc)
-placed_at no_good e = clash (cc)
+placed_at no_event e = absurd (cc)
+placed_at no_good e = absurd (cc)
 placed_at {a = a} (event {a = b} p q) e = let f : b ≡ a = cc in (ap (λ (x : Stored). x.at) (sym f) ∙ p, ap (λ (x : Stored). x.len) (sym f) ∙ q)
 
 -- ---- what is known and what is held
 
 module _ {cells : List ℕ} where
   tells_good : {k : Known} {h : Holds} {a : Stored} → Tells cells k h → k ≡ Good a → (e : Event) × (h ≡ good e) × Stands cells a e
-  tells_good is_free q = clash (cc)
-  tells_good is_bad q = clash (cc)
+  tells_good is_free q = absurd (cc)
+  tells_good is_bad q = absurd (cc)
   tells_good {a = a} (is_good_lem {a = b} {e} g) q = let f : b ≡ a = cc in (e, refl, subst (λ (x : Stored). Stands cells x e) f g)
 
   tells_free : {k : Known} {h : Holds} → Tells cells k h → k ≡ Free → h ≡ nothing
   tells_free is_free q = refl
-  tells_free is_bad q = clash (cc)
-  tells_free (is_good_lem g) q = clash (cc)
+  tells_free is_bad q = absurd (cc)
+  tells_free (is_good_lem g) q = absurd (cc)
 
   tells_bad : {k : Known} {h : Holds} → Tells cells k h → k ≡ Bad → h ≡ bad
-  tells_bad is_free q = clash (cc)
+  tells_bad is_free q = absurd (cc)
   tells_bad is_bad q = refl
-  tells_bad (is_good_lem g) q = clash (cc)
+  tells_bad (is_good_lem g) q = absurd (cc)
 
   nothing_told : {k : Known} {h : Holds} → Tells cells k h → h ≡ nothing → k ≡ Free
   nothing_told is_free q = refl
-  nothing_told is_bad q = clash (cc)
-  nothing_told (is_good_lem g) q = clash (cc)
+  nothing_told is_bad q = absurd (cc)
+  nothing_told (is_good_lem g) q = absurd (cc)
 
   bad_told : {k : Known} {h : Holds} → Tells cells k h → h ≡ bad → k ≡ Bad
-  bad_told is_free q = clash (cc)
+  bad_told is_free q = absurd (cc)
   bad_told is_bad q = refl
-  bad_told (is_good_lem g) q = clash (cc)
+  bad_told (is_good_lem g) q = absurd (cc)
 
   -- ---- a slot by its number
 

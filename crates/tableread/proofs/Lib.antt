@@ -5,3 +5,4 @@ pub mod Entries
 pub mod Searching
 pub mod Held
 pub mod Within
+pub mod Whole

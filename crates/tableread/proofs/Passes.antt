@@ -1,115 +1,108 @@
--- The turns of the loops over what the slots hold: the definition from the start is the definition from here.
--- The premises of a law are what its loop knows.
-use Prim.Native.Nat.{ℕ, suc, ◌+◌, ◌≤◌, ◌<◌}
-use mathlib.Core.Path.{◌≡◌, refl, sym, ◌∙◌}
-use mathlib.Core.Bool.{Bool, true, false}
+-- The turns of the loops over what the slots hold: what the definition says from a slot on, by what that slot holds;
+-- and what the library's `any` and `position` say.
+use Rattle.std.specs.Prelude.{Option, Some, None}
+use Rattle.std.specs.List.{list_any, position_or_len}
+use Prim.Native.Nat.{ℕ, suc, ◌+◌, ◌-◌, ◌≤◌, ◌<◌}
+use mathlib.Core.Path.{◌≡◌, refl, sym, ap, ◌∙◌}
+use mathlib.Core.Bool.{Bool, true, false, cond, ◌||◌}
 use mathlib.Core.List.{List, [], ◌∷◌}
 use native.Mathlib.Omega.{arith}
-use native.Mathlib.Numerals.{add-one}
-use lib.ListN.{length, get_or, drop, drop_of_length-le}
-use lib.Seq.{drop-cons}
-use Rattle.keys.specs.declared.KeyRead.{KeyRead}
+use Rattle.std.proofs.Common.{add-one, add-zero}
+use mathlib.Core.Logic.{dite}
+use native.Mathlib.Decide.{dec_lt}
+use borrow.Author.Tests.{lt-ltb, le-ltb}
+use lib.Dec.{ltb}
+use lib.ListN.{length, get_or, take, drop, length-drop, drop_of_length-le}
+use lib.Seq.{drop-cons, take_all}
+use Rattle.scan.specs.Choice.{pick}
+use Rattle.keys.specs.declared.KeyPlace.{KeyPlace}
 use Rattle.tableread.specs.declared.Stored.{Stored}
 use Rattle.tableread.specs.declared.Known.{Known}
 use Rattle.tableread.specs.declared.Known.TheVariants.{Free, Bad, Good}
-use Rattle.tableread.specs.declared.Lowest.TheVariants as lowest
-use Rattle.tableread.specs.declared.Finding.TheVariants as finding
 use Rattle.tableread.specs.inner.Known.{stored_bytes, holds_name, some_holds, lowest_from, find_from, free_from}
 
-module _ (ks : List Known) (size : length ks ≡ 64) where
-  -- the slot at i and those behind it; none at the end
-  here : (i : ℕ) → i < 64 → {k : Known} → get_or ks i Free ≡ k → drop i ks ≡ k ∷ drop (suc i) ks
-  here i l e = rw (drop-cons ks i Free (omega (arith, size)), e)
+module _ (ks : List Known) (i : ℕ) where
+  -- slot i and those behind it
+  here : i < length ks → {k : Known} → get_or ks i Free ≡ k → drop i ks ≡ k ∷ drop (i + 1) ks
+  here l e = rw (add-one i, drop-cons ks i Free l, e)
 
-  gone : (i : ℕ) → 64 ≤ i → drop i ks ≡ []
-  gone i l = let h : length ks ≤ i = omega (arith, size) in drop_of_length-le ks h
-
-  -- ---- the lowest free slot
-
-  module _ (i : ℕ) (inv : free_from 0 ks ≡ free_from i (drop i ks)) where
-    pub free_found : i < 64 → get_or ks i Free ≡ Free → lowest.At i ≡ free_from 0 ks
-    unfolding free_from
-    free_found l e = sym (inv ∙ rw (here i l e))
-
-    pub free_again : i < 64 → (get_or ks i Free ≡ Free → ⊥) → free_from 0 ks ≡ free_from (i + 1) (drop (i + 1) ks)
-    unfolding free_from
-    free_again l n = inv ∙ rw (add-one i, here i l refl) (passed (get_or ks i Free) n)
-      where
-        passed : (k : Known) → (k ≡ Free → ⊥) → free_from i (k ∷ drop (suc i) ks) ≡ free_from (suc i) (drop (suc i) ks)
-        passed Free n = absurd (n refl)
-        passed Bad n = refl
-        passed (Good a) n = refl
-
-    pub free_left : 64 ≤ i → lowest.Nowhere ≡ free_from 0 ks
-    unfolding free_from
-    free_left l = sym (inv ∙ rw (gone i l))
+  pub behind : take (length ks - (i + 1)) (drop (i + 1) ks) ≡ drop (i + 1) ks
+  behind = take_all (length ks - (i + 1)) (drop (i + 1) ks) (omega (arith, length-drop (i + 1) ks))
 
   -- ---- the slot with a name
 
-  module _ (cells s : List ℕ) (key : KeyRead) (print i : ℕ) (inv : find_from cells s key print 0 ks ≡ find_from cells s key print i (drop i ks)) where
-    pub find_found : {a : Stored} {b : Bool} → i < 64 → get_or ks i Free ≡ Good a → b ≡ holds_name cells s key print (get_or ks i Free) → b ≡ true
-        → finding.Found i a ≡ find_from cells s key print 0 ks
+  module _ (cells s : List ℕ) (key : Option KeyPlace) (print : ℕ) where
+    pub find_good : {a : Stored} → i < length ks → get_or ks i Free ≡ Good a
+        → find_from cells s key print i (drop i ks) ≡ pick (holds_name cells s key print (Good a)) (Some (i, a)) (find_from cells s key print (i + 1) (drop (i + 1) ks))
     unfolding find_from
-    find_found l e h t = let f = sym (rw e at h) ∙ t in sym (inv ∙ rw (here i l e, f))
+    find_good l e = rw (here l e, add-one i)
 
-    pub find_again : {b : Bool} → i < 64 → b ≡ holds_name cells s key print (get_or ks i Free) → b ≡ false
-        → find_from cells s key print 0 ks ≡ find_from cells s key print (i + 1) (drop (i + 1) ks)
+    pub find_other : i < length ks → ((a : Stored) → get_or ks i Free ≡ Good a → ⊥) → find_from cells s key print i (drop i ks) ≡ find_from cells s key print (i + 1) (drop (i + 1) ks)
     unfolding find_from
-    find_again l h t = inv ∙ rw (add-one i, here i l refl) (passed (get_or ks i Free) (sym h ∙ t))
+    find_other l n = rw (here l refl, add-one i) (passed (get_or ks i Free) n)
       where
-        passed : (k : Known) → holds_name cells s key print k ≡ false
+        passed : (k : Known) → ((a : Stored) → k ≡ Good a → ⊥)
             → find_from cells s key print i (k ∷ drop (suc i) ks) ≡ find_from cells s key print (suc i) (drop (suc i) ks)
         passed Free n = refl
         passed Bad n = refl
-        passed (Good a) n = rw n
+        passed (Good a) n = absurd (n a refl)
 
-    -- a slot that holds a name is not free or bad
-    pub find_good : {b : Bool} → ((a : Stored) → get_or ks i Free ≡ Good a → ⊥) → b ≡ holds_name cells s key print (get_or ks i Free) → b ≡ false
-    unfolding holds_name
-    find_good n h = h ∙ none (get_or ks i Free) n
-      where
-        none : (k : Known) → ((a : Stored) → k ≡ Good a → ⊥) → holds_name cells s key print k ≡ false
-        none Free n = refl
-        none Bad n = refl
-        none (Good a) n = absurd (n a refl)
-
-    pub find_left : 64 ≤ i → finding.Missing ≡ find_from cells s key print 0 ks
+    pub find_end : length ks ≤ i → find_from cells s key print i (drop i ks) ≡ None
     unfolding find_from
-    find_left l = sym (inv ∙ rw (gone i l))
+    find_end l = rw (drop_of_length-le ks l)
 
   -- ---- the lowest bad slot
 
-  module _ (cells : List ℕ) (i : ℕ) (inv : lowest_from cells 0 ks ≡ lowest_from cells i (drop i ks)) where
-    pub bad_found : i < 64 → get_or ks i Free ≡ Bad → lowest.At i ≡ lowest_from cells 0 ks
+  module _ (cells : List ℕ) where
+    pub lowest_free : i < length ks → get_or ks i Free ≡ Free → lowest_from cells i (drop i ks) ≡ lowest_from cells (i + 1) (drop (i + 1) ks)
     unfolding lowest_from
-    bad_found l e = sym (inv ∙ rw (here i l e))
+    lowest_free l e = rw (here l e, add-one i)
 
-    pub bad_free : i < 64 → get_or ks i Free ≡ Free → lowest_from cells 0 ks ≡ lowest_from cells (i + 1) (drop (i + 1) ks)
+    pub lowest_here : i < length ks → get_or ks i Free ≡ Bad → lowest_from cells i (drop i ks) ≡ Some i
     unfolding lowest_from
-    bad_free l e = inv ∙ rw (add-one i, here i l e)
+    lowest_here l e = rw (here l e)
 
-    pub bad_left : 64 ≤ i → lowest.Nowhere ≡ lowest_from cells 0 ks
+    pub lowest_good : {a : Stored} → i < length ks → get_or ks i Free ≡ Good a
+        → lowest_from cells i (drop i ks)
+        ≡ pick (some_holds cells (stored_bytes cells a) a.key a.print (drop (i + 1) ks)) (Some i) (lowest_from cells (i + 1) (drop (i + 1) ks))
     unfolding lowest_from
-    bad_left l = sym (inv ∙ rw (gone i l))
+    lowest_good l e = rw (here l e, add-one i)
 
-    -- slot i holds an event, whose name is looked for from j on
-    module _ (a : Stored) (s : List ℕ) (j : ℕ) (e : get_or ks i Free ≡ Good a) (p : s ≡ stored_bytes cells a)
-        (same : some_holds cells s a.key a.print (drop (i + 1) ks) ≡ some_holds cells s a.key a.print (drop j ks)) where
-      pub twin_again : {b : Bool} → j < 64 → b ≡ holds_name cells s a.key a.print (get_or ks j Free) → b ≡ false
-          → some_holds cells s a.key a.print (drop (i + 1) ks) ≡ some_holds cells s a.key a.print (drop (j + 1) ks)
-      unfolding some_holds
-      twin_again l h f = let n = sym h ∙ f in same ∙ rw (add-one j, here j l refl, n)
+    pub lowest_end : length ks ≤ i → lowest_from cells i (drop i ks) ≡ None
+    unfolding lowest_from
+    lowest_end l = rw (drop_of_length-le ks l)
 
-      pub twin_found : {b : Bool} → i < 64 → j < 64 → b ≡ holds_name cells s a.key a.print (get_or ks j Free) → b ≡ true
-          → lowest.At i ≡ lowest_from cells 0 ks
-      unfolding lowest_from some_holds
-      twin_found l m h t =
-          let n = sym h ∙ t in
-          let k : some_holds cells s a.key a.print (drop (suc i) ks) ≡ true = rw (← add-one i) (same ∙ rw (here j m refl, n)) in
-          sym (inv ∙ rw (here i l e, ← p, k))
+-- ---- whether one slot holds a name, and the lowest free slot
 
-      pub twin_none : i < 64 → 64 ≤ j → lowest_from cells 0 ks ≡ lowest_from cells (i + 1) (drop (i + 1) ks)
-      unfolding lowest_from some_holds
-      twin_none l m =
-          let k : some_holds cells s a.key a.print (drop (suc i) ks) ≡ false = rw (← add-one i) (same ∙ rw (gone j m)) in
-          inv ∙ rw (add-one i, here i l e, ← p, k)
+pub some_any : (cells s : List ℕ) (key : Option KeyPlace) (print : ℕ) (ks : List Known) → list_any (holds_name cells s key print) ks ≡ some_holds cells s key print ks
+unfolding some_holds
+some_any cells s key print [] = refl
+some_any cells s key print (k ∷ ks) = ap (λ (t : Bool). holds_name cells s key print k || t) (some_any cells s key print ks) ∙ either (holds_name cells s key print k) (some_holds cells s key print ks)
+  where
+    either : (x y : Bool) → (x || y) ≡ pick x true y
+    either true y = refl
+    either false y = refl
+
+abbrev pub is_free : Known → Bool
+is_free Free = true
+is_free Bad = false
+is_free (Good a) = false
+
+-- one slot further
+further : (i p n : ℕ) → cond {A = Option ℕ} (ltb (1 + p) (suc n)) (Some (i + (1 + p))) None ≡ cond (ltb p n) (Some (suc i + p)) None
+further i p n =
+    let e : i + (1 + p) ≡ suc i + p = omega arith in
+    dite (dec_lt p n) (λ l. rw (lt-ltb p n l, lt-ltb (1 + p) (suc n) (omega (arith, l)), e))
+    (λ l. let h : n ≤ p = omega (arith, l) in rw (le-ltb p n h, le-ltb (1 + p) (suc n) (omega (arith, h))))
+
+free_position : (i : ℕ) (ks : List Known) → cond (ltb (position_or_len is_free ks) (length ks)) (Some (i + position_or_len is_free ks)) None ≡ free_from i ks
+unfolding free_from
+free_position i [] = refl
+free_position i (Free ∷ ks) = rw (lt-ltb 0 (suc (length ks)) (omega arith), add-zero i)
+free_position i (Bad ∷ ks) = further i (position_or_len is_free ks) (length ks) ∙ free_position (suc i) ks
+free_position i (Good a ∷ ks) = further i (position_or_len is_free ks) (length ks) ∙ free_position (suc i) ks
+
+pub free_first : (ks : List Known) → cond (ltb (position_or_len is_free ks) (length ks)) (Some (position_or_len is_free ks)) None ≡ free_from 0 ks
+free_first ks =
+    let e : 0 + position_or_len is_free ks ≡ position_or_len is_free ks = omega arith in
+    sym (ap (λ (k : ℕ). cond (ltb (position_or_len is_free ks) (length ks)) (Some k) None) e) ∙ free_position 0 ks

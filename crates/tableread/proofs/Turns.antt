@@ -1,40 +1,16 @@
--- The turns of the loops of this crate: the definition from the start is the definition from here.
+-- The turns of `know_all`: what is stored so far is what the definition begins with.
 -- The premises of a law are what its loop knows.
-use Prim.Native.Nat.{ℕ, zero, suc, ◌+◌, ◌/◌, ◌%◌, ◌≤◌, ◌<◌}
+use Prim.Native.Nat.{ℕ, zero, suc, ◌+◌, ◌≤◌, ◌<◌}
 use mathlib.Core.Path.{◌≡◌, refl, sym, ap, ◌∙◌}
 use mathlib.Core.List.{List, [], ◌∷◌}
 use native.Mathlib.Omega.{arith}
 use native.Mathlib.Numerals.{add-one}
-use lib.ListN.{length, get_or, set, take, drop, length-set}
+use lib.ListN.{length, get_or, set, take, length-set}
 use lib.Seq.{take_all, take-suc, take-suc-set}
-use Rattle.scan.proofs.Step.{rest_none, rest_more}
-use Rattle.hexdigits.specs.Hex.{digit_of, hexes}
 use Rattle.slots.specs.declared.Slot.{Slot}
 use Rattle.tableread.specs.declared.Known.{Known}
 use Rattle.tableread.specs.declared.Known.TheVariants.{Free}
-use Rattle.tableread.specs.inner.Prints.{mixed, folded}
 use Rattle.tableread.specs.inner.Known.{known_at, known_from}
-
--- ---- prints
-
-module _ (h : ℕ) (s : List ℕ) (r i : ℕ) where
-  pub mix_again : {m : ℕ} → folded h s ≡ folded r (drop i s) → i < length s → m ≡ mixed r (get_or s i 0) → folded h s ≡ folded m (drop (i + 1) s)
-  mix_again v l e = v ∙ rw (rest_more s i l, e)
-
-  pub mix_left : folded h s ≡ folded r (drop i s) → length s ≤ i → r ≡ folded h s
-  mix_left v l = sym (v ∙ rw (rest_none s i l))
-
-  pub hex_again : {d e m n : ℕ} → folded h (hexes s) ≡ folded r (hexes (drop i s)) → i < length s → get_or s i 0 < 256
-      → d ≡ digit_of (get_or s i 0 / 16 % 16) → m ≡ mixed r d → e ≡ digit_of (get_or s i 0 % 16) → n ≡ mixed m e
-      → folded h (hexes s) ≡ folded n (hexes (drop (i + 1) s))
-  hex_again v l b p q u w =
-      let k : get_or s i 0 / 16 % 16 ≡ get_or s i 0 / 16 = omega arith in
-      v ∙ rw (rest_more s i l, w, u, q, p, k)
-
-  pub hex_left : folded h (hexes s) ≡ folded r (hexes (drop i s)) → length s ≤ i → r ≡ folded h (hexes s)
-  hex_left v l = sym (v ∙ rw (rest_none s i l))
-
--- ---- what the slots hold
 
 module _ (cells : List ℕ) where
   pub known_length : (i : ℕ) (t : List Slot) → length (known_from cells i t) ≡ length t

@@ -33,6 +33,11 @@ module _ (n : ℕ) where
   unfolding within
   over h = simp (le-leb 0xD800 n (omega arith), lt-leb n 0xDFFF h)
 
+  -- no scalar value is a surrogate
+  no_surrogate : Scalar n → within 0xD800 0xDFFF n ≡ false
+  no_surrogate (below b) = under b
+  no_surrogate (above b m) = over b
+
   -- one byte
   pub encode_one : n < 0x80 → encode n ≡ n ∷ []
   unfolding encode
@@ -44,14 +49,14 @@ module _ (n : ℕ) where
   encode_two h l = simp (le-ltb n 0x80 h, lt-ltb n 0x800 l)
 
   -- a surrogate has none
-  pub encode_surrogate : 0x800 ≤ n → within 0xD800 0xDFFF n ≡ true → encode n ≡ []
+  pub encode_surrogate : 0xD800 ≤ n → n ≤ 0xDFFF → encode n ≡ []
   unfolding encode
-  encode_surrogate h t = simp (le-ltb n 0x80 (omega arith), le-ltb n 0x800 h, t)
+  encode_surrogate h l = simp (le-ltb n 0x80 (omega arith), le-ltb n 0x800 (omega arith), surrogate h l)
 
   -- three bytes
-  pub encode_three : 0x800 ≤ n → within 0xD800 0xDFFF n ≡ false → n < 0x10000 → encode n ≡ (0xE0 + n / 4096) ∷ tail_of (n / 64) ∷ tail_of n ∷ []
+  pub encode_three : Scalar n → 0x800 ≤ n → n < 0x10000 → encode n ≡ (0xE0 + n / 4096) ∷ tail_of (n / 64) ∷ tail_of n ∷ []
   unfolding encode
-  encode_three h f l = simp (le-ltb n 0x80 (omega arith), le-ltb n 0x800 h, f, lt-ltb n 0x10000 l)
+  encode_three g h l = simp (le-ltb n 0x80 (omega arith), le-ltb n 0x800 h, no_surrogate g, lt-ltb n 0x10000 l)
 
   -- four bytes
   pub encode_four : 0x10000 ≤ n → n < 0x110000 → encode n ≡ (0xF0 + n / 262144) ∷ tail_of (n / 4096) ∷ tail_of (n / 64) ∷ tail_of n ∷ []
@@ -63,6 +68,8 @@ module _ (n : ℕ) where
   unfolding encode
   encode_past h =
       simp (le-ltb n 0x80 (omega arith), le-ltb n 0x800 (omega arith), over (omega arith), le-ltb n 0x10000 (omega arith), le-ltb n 0x110000 h)
+
+pub ruleset rows = (encode_one, encode_two, encode_surrogate, encode_three, encode_four, encode_past, below, above)
 
 -- ---- a scalar value's bytes are one character
 
@@ -96,11 +103,6 @@ module _ (n : ℕ) where
       let e : 0xF0 + n / 262144 ≡ 0xF4 = omega (arith, r) in
       rw e (four_F4 (octet {b = tail_of (n / 4096)} (omega arith) (omega (arith, r))) (tail (n / 64)) (tail n))))
 
-  -- no scalar value is a surrogate
-  no_surrogate : Scalar n → within 0xD800 0xDFFF n ≡ false
-  no_surrogate (below b) = under n b
-  no_surrogate (above b m) = over n b
-
   -- no scalar value is past 10FFFF
   most : Scalar n → n < 0x110000
   most (below b) = omega arith
@@ -115,7 +117,7 @@ encode_char {n} g =
     (λ l. rw (encode_two n (omega (arith, q₁)) l) (two (octet {b = 0xC0 + n / 64} (omega (arith, q₁)) (omega arith)) (tail n)))
     (λ q₂.
     dite (dec_lt n 0x10000)
-    (λ l. rw (encode_three n (omega (arith, q₂)) (no_surrogate n g) l) (three n g (omega (arith, q₂)) l))
+    (λ l. rw (encode_three n g (omega (arith, q₂)) l) (three n g (omega (arith, q₂)) l))
     (λ q₃. rw (encode_four n (omega (arith, q₃)) (most n g)) (four n (omega (arith, q₃)) (most n g)))))
 
 -- the bytes of a scalar value are a text
@@ -131,7 +133,7 @@ pub encode_none : (n : ℕ) → (Scalar n → ⊥) → encode n ≡ []
 encode_none n f =
     dite (dec_lt n 0xD800) (λ l. absurd (f (below l)))
     (λ q.
-    dite (dec_lt n 0xE000) (λ l. encode_surrogate n (omega (arith, q)) (surrogate n (omega (arith, q)) (omega arith)))
+    dite (dec_lt n 0xE000) (λ l. encode_surrogate n (omega (arith, q)) (omega arith))
     (λ r.
     dite (dec_lt n 0x110000) (λ l. absurd (f (above (omega (arith, r)) (omega arith)))) (λ t. encode_past n (omega (arith, t)))))
 
@@ -145,7 +147,7 @@ decode_encode {n} g =
     (λ q₁.
     dite (dec_lt n 0x800) (λ l. rw (encode_two n (omega (arith, q₁)) l) (omega arith))
     (λ q₂.
-    dite (dec_lt n 0x10000) (λ l. rw (encode_three n (omega (arith, q₂)) (no_surrogate n g) l) (omega (arith, div-div-eq-div-mul n 64 64)))
+    dite (dec_lt n 0x10000) (λ l. rw (encode_three n g (omega (arith, q₂)) l) (omega (arith, div-div-eq-div-mul n 64 64)))
     (λ q₃.
     rw (encode_four n (omega (arith, q₃)) (most n g)) (omega (arith, most n g, div-div-eq-div-mul n 64 64, div-div-eq-div-mul n 4096 64)))))
 
@@ -179,7 +181,7 @@ module _ (a b c d : ℕ) where
       let m : n / 64 ≡ (a - 0xE0) * 64 + (b - 0x80) = omega arith in
       let f : tail_of (n / 64) ≡ b = omega arith in
       let k : tail_of n ≡ c = omega arith in
-      encode_three n h (no_surrogate n g) (omega arith) ∙ rw (e, f, k)
+      encode_three n g h (omega arith) ∙ rw (e, f, k)
 
   four_back : 0xF0 ≤ a → a ≤ 0xF4 → 0x80 ≤ b → b ≤ 0xBF → Tail c → Tail d
       → (let n = (a - 0xF0) * 262144 + (b - 0x80) * 4096 + (c - 0x80) * 64 + (d - 0x80) in 0x10000 ≤ n → n < 0x110000 → encode n ≡ a ∷ b ∷ c ∷ d ∷ [])

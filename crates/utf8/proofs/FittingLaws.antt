@@ -1,8 +1,8 @@
 -- What the loops of the fast pass learn: of blocks, that every window fits; of ASCII, that no byte is above 7F.
 -- By place: a window more, two runs of windows in a row, and where all bytes are ASCII.
-use Prim.Native.Nat.{ℕ, suc, ◌+◌, ◌-◌, ◌/◌, ◌<◌, ◌≤◌}
-use mathlib.Core.Path.{◌≡◌, refl, sym, ap, ◌∙◌}
-use mathlib.Core.Bool.{Bool, true, false, ◌&&◌, ◌||◌}
+use Prim.Native.Nat.{ℕ, suc, ◌+◌, ◌-◌, ◌<◌, ◌≤◌}
+use mathlib.Core.Path.{◌≡◌, ap, ◌∙◌}
+use mathlib.Core.Bool.{true}
 use mathlib.Core.List.{List, [], ◌∷◌}
 use mathlib.Core.Logic.{dite}
 use native.Mathlib.Numerals.{unary_clauses}
@@ -10,52 +10,11 @@ use native.Mathlib.Omega.{arith}
 use native.Mathlib.Decide.{dec_lt}
 use lib.ListN.{length, get_or, drop, take}
 use lib.Seq.{get_or-take, get_or-drop}
-use lib.Dec.{ltb, leb, eqb}
-use borrow.Author.Tests.{eq-eqb, eqb-false, leb-false, ltb-false}
-use Rattle.scan.proofs.Step.{byte_none, false_true}
+use Rattle.scan.proofs.Step.{byte_none}
 use Rattle.utf8.specs.Utf8.{octet, one, Utf8, char}
 use Rattle.utf8.specs.inner.Width.{is_utf8}
 use Rattle.utf8.specs.inner.Windows.{Most, Fits, Fitting, padded}
 use Rattle.utf8.proofs.Laws.{is_utf8_lem}
-
--- ---- one window, by the tests on it
-
-neither : (x y : Bool) → (x || y) ≡ false → (x ≡ false) × (y ≡ false)
-neither true y e = absurd (false_true (sym e))
-neither false y e = (refl, e)
-
-unless : (x y : Bool) → (x && y) ≡ false → x ≡ true → y ≡ false
-unless true y e t = e
-unless false y e t = absurd (false_true t)
-
-module _ (a b c d : ℕ) (level : d / 128 ≡ d / 192 + c / 192 + b / 224 + a / 240) (never : (leb 0xF5 d || eqb (d / 2) 0x60) ≡ false) where
-  fits : (c ≡ 0xE0 → 0xA0 ≤ d) → (c ≡ 0xED → d ≤ 0x9F) → (c ≡ 0xF0 → 0x90 ≤ d) → (c ≡ 0xF4 → d ≤ 0x8F) → Fits a b c d
-  fits p q r t =
-      let n = neither (leb 0xF5 d) (eqb (d / 2) 0x60) never in
-      record {
-        level = level;
-        long = eqb-false (d / 2) 0x60 n.1;
-        low = leb-false 0xF5 d n.0;
-        behind_e0 = p;
-        behindED = q;
-        behind_f0 = r;
-        behind_f4 = t;
-      }
-
-  -- behind a tail, or a first byte of one or two
-  pub fits_low : c < 0xE0 → Fits a b c d
-  fits_low h = fits (λ e. absurd (omega arith)) (λ e. absurd (omega arith)) (λ e. absurd (omega arith)) (λ e. absurd (omega arith))
-
-  -- behind a first byte of three or four
-  pub fits_second : (eqb c 0xE0 && ltb d 0xA0 || eqb c 0xED && leb 0xA0 d || eqb c 0xF0 && ltb d 0x90 || eqb c 0xF4 && leb 0x90 d) ≡ false → Fits a b c d
-  fits_second e =
-      let u = neither _ (eqb c 0xF4 && leb 0x90 d) e in
-      let v = neither _ (eqb c 0xF0 && ltb d 0x90) u.0 in
-      let w = neither (eqb c 0xE0 && ltb d 0xA0) (eqb c 0xED && leb 0xA0 d) v.0 in
-      fits (λ x. ltb-false d 0xA0 (unless (eqb c 0xE0) (ltb d 0xA0) w.0 (eq-eqb c 0xE0 x)))
-      (λ x. omega (arith, leb-false 0xA0 d (unless (eqb c 0xED) (leb 0xA0 d) w.1 (eq-eqb c 0xED x))))
-      (λ x. ltb-false d 0x90 (unless (eqb c 0xF0) (ltb d 0x90) v.1 (eq-eqb c 0xF0 x)))
-      (λ x. omega (arith, leb-false 0x90 d (unless (eqb c 0xF4) (leb 0x90 d) u.1 (eq-eqb c 0xF4 x))))
 
 -- ---- windows
 
@@ -130,10 +89,6 @@ most_ends s m a b e g h f p k q = record {
       (λ o. omega (arith, byte_none s i (omega (arith, o)))));
 }
 
--- none is above a number below 80
-pub most_low : {l : List ℕ} {n : ℕ} → Most l n → n < 0x80 → Most l 0x7F
-most_low m h = record { most = λ i. omega (arith, m.most i) }
-
 -- such a text is well-formed
 ascii : (l : List ℕ) → Most l 0x7F → Utf8 l
 ascii [] m = Utf8.none
@@ -143,21 +98,3 @@ ascii (b ∷ l) m =
 
 pub most_utf8 : {l : List ℕ} → Most l 0x7F → is_utf8 l ≡ true
 most_utf8 {l} m = (is_utf8_lem l).1 (ascii l m)
-
--- ---- the highest byte, seen so far
-
-pub record Seen (l : List ℕ) (i n : ℕ) : Type 0 where
-  pub seen : (j : ℕ) → j < i → get_or l j 0 ≤ n
-
-pub seen_none : (l : List ℕ) → Seen l 0 0
-seen_none l = record { seen = λ j h. absurd (omega arith) }
-
--- a byte more: it is above all before it, or not
-pub seen_more : {l : List ℕ} {i m : ℕ} (n : ℕ) → Seen l i m → m ≤ n → get_or l i 0 ≤ n → Seen l (i + 1) n
-seen_more {l} {i} {m} n f p q = record {
-  seen = λ j h. dite (dec_lt j i) (λ g. omega (arith, f.seen j g)) (λ k. let e : j ≡ i = omega (arith, k) in rw e q);
-}
-
--- all is seen
-pub seen_all : {l : List ℕ} {i n : ℕ} → Seen l i n → length l ≤ i → Most l n
-seen_all {l} {i} f h = record { most = λ j. dite (dec_lt j i) (λ g. f.seen j g) (λ k. omega (arith, byte_none l j (omega (arith, k)))) }

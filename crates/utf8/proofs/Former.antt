@@ -1,6 +1,7 @@
--- The width as the check had it before its cases were the rows of RFC 3629: by bounds of the first byte, and by the range
--- of the second behind it. `former_width` shows that it is the same on all numbers.
--- By the first byte: each row's law of `RowLaws` on one side, the former tests on the other; between the rows both are 0.
+-- The width as the check had it before its cases were the rows of RFC 3629: by bounds of the first byte, and by the
+-- range of the second behind it. `former_width` shows that it is the same on all numbers.
+-- By the first byte: each row's law of `RowLaws` on one side, the former tests on the other; between the rows both are
+-- 0.
 use Prim.Native.Nat.{ℕ, ◌<◌, ◌≤◌}
 use mathlib.Core.Path.{◌≡◌, refl, sym, ◌∙◌}
 use mathlib.Core.Bool.{Bool, true, false, ◌&&◌}

@@ -26,6 +26,11 @@ pub past : (low high b : ℕ) → low ≤ b → high < b → within low high b �
 unfolding within
 past low high b p q = simp (le-leb low b p, lt-leb b high q)
 
+-- nor does one before it
+under : (low high b : ℕ) → b < low → within low high b ≡ false
+unfolding within
+under low high b p = simp (lt-leb low b p)
+
 -- a byte that passes the test is of the range
 to_range : (low high b : ℕ) → within low high b ≡ true → Octet low high b
 unfolding within
@@ -107,6 +112,40 @@ module _ (a b c d : ℕ) where
   pub at_F4 : width_of 0xF4 b c d ≡ pick (within 0x80 0x8F b && is_tail c && is_tail d) 4 0
   unfolding width_of within
   at_F4 = refl
+
+  -- no row begins with 80 to C1
+  pub at_low : 0x80 ≤ a → a < 0xC2 → width_of a b c d ≡ 0
+  unfolding width_of
+  at_low p q =
+      simp (
+        past 0x00 0x7F a (omega arith) (omega arith),
+        under 0xC2 0xDF a (omega arith),
+        ne_eqb a 0xE0 (omega arith),
+        under 0xE1 0xEC a (omega arith),
+        ne_eqb a 0xED (omega arith),
+        under 0xEE 0xEF a (omega arith),
+        ne_eqb a 0xF0 (omega arith),
+        under 0xF1 0xF3 a (omega arith),
+        ne_eqb a 0xF4 (omega arith),
+      )
+
+  -- nor with F5 or more
+  pub at_high : 0xF5 ≤ a → width_of a b c d ≡ 0
+  unfolding width_of
+  at_high p =
+      simp (
+        past 0x00 0x7F a (omega arith) (omega arith),
+        past 0xC2 0xDF a (omega arith) (omega arith),
+        ne_eqb a 0xE0 (omega arith),
+        past 0xE1 0xEC a (omega arith) (omega arith),
+        ne_eqb a 0xED (omega arith),
+        past 0xEE 0xEF a (omega arith) (omega arith),
+        ne_eqb a 0xF0 (omega arith),
+        past 0xF1 0xF3 a (omega arith) (omega arith),
+        ne_eqb a 0xF4 (omega arith),
+      )
+
+pub ruleset rows = (at_one, at_two, at_E0, at_E1, at_ED, at_EE, at_F0, at_F1, at_F4, at_low, at_high, octet)
 
 -- ---- accepts: each row of the grammar has its width
 

@@ -1,4 +1,3 @@
-pub mod Block
 pub mod Windows
 pub mod Width
 pub mod Scalar

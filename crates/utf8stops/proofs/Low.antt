@@ -15,7 +15,7 @@ use Rattle.scan.proofs.Step.{false_true}
 use Rattle.utf8.proofs.WidthLaws.{width_ascii}
 use Rattle.utf8stops.specs.Stops.{stop_at}
 use Rattle.utf8stops.specs.inner.Pass.{Ascii}
-use Rattle.utf8stops.proofs.StopLaws.{stop_step}
+use Rattle.utf8stops.proofs.StopLaws.{stop_step, stop_within}
 
 -- n bytes of ASCII are passed in one step
 pub stop_ascii : (n : ℕ) (d : List ℕ) (at : ℕ) → Ascii d at n → stop_at d at ≡ stop_at d (at + n)
@@ -30,6 +30,8 @@ stop_ascii (suc n) d at a =
   where
     later : (i : ℕ) → i < n → get_or d (at + 1 + i) 0 < 0x80
     later i h = let e : at + 1 + i ≡ at + suc i = omega arith in rw e (a.each (suc i) (omega arith))
+
+pub ruleset steps = (stop_ascii, stop_within)
 
 -- ---- the test of eight bytes
 

@@ -40,3 +40,5 @@ walked_more d at p w v e n =
 
 pub walked_stop : (d : List ℕ) (at p w : ℕ) → Walked d at p → w ≡ width_at d p → w ≡ 0 → p ≡ stop_at d at
 walked_stop d at p w v e z = sym (v.same ∙ stop_here d p (sym e ∙ z))
+
+pub ruleset walks = (walked_none, walked_more, walked_stop, told_later)

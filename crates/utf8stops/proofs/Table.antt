@@ -69,3 +69,5 @@ table_length d t =
     let m = length-drop (words d) t in
     omega (arith, (room_bounds d t e).1, n, m, length-append (stop_list (words d) d 0) (drop (words d) t)))
     (λ e. refl)
+
+pub ruleset room = (room_bounds, left_room, left_none)

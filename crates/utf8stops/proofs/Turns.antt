@@ -104,3 +104,5 @@ fill_done d t₀ t i e f =
     take_zero : (l : List ℕ) → take 0 l ≡ []
     take_zero [] = refl
     take_zero (x ∷ l) = refl
+
+pub ruleset turns = (fill_none, fill_length, fill_more)

@@ -1,6 +1,6 @@
 -- Where well-formed text stops, for every text that starts at a place: found once; and the table of those that start at
--- a multiple of 8. `Texts.ends_decides` shows that the stop of a start decides each end, `Table.table_entry` what stands
--- in the table. Assumes nothing.
+-- a multiple of 8. `Texts.ends_decides` shows that the stop of a start decides each end, `Table.table_entry` what
+-- stands in the table. Assumes nothing.
 use Rattle.std.specs.Prelude.{ℕ, zero, suc, ◌+◌, ◌-◌, ◌*◌, ◌/◌, Bool, false, not, ◌&&◌, ◌||◌, List, [], ◌∷◌, ◌++◌, length, drop, leb, eqb}
 use Rattle.scan.specs.Choice.{pick}
 use Rattle.scan.specs.Place.{byte_at}

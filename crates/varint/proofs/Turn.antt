@@ -15,10 +15,11 @@ use mir.Val.{Fits}
 use borrow.Author.Tests.{lt-ltb, le-ltb, le-leb, lt-leb, ne_eqb, eqb-false}
 use Rattle.scan.specs.Choice.{pick, Answer, refused, Read, read}
 use Rattle.scan.proofs.Step.{rest_none, rest_more}
-use Rattle.varint.specs.declared.VarintRead.{VarintRead}
-use Rattle.varint.specs.declared.VarintRead.TheVariants.{Refused}
 use Rattle.varint.specs.Varint.{Spelled, number, padded, over, cut, carry, spelled, answered, varint_at}
-use Rattle.varint.specs.inner.Answers.{varint_read}
+use Rattle.std.specs.Prelude.{Result, Err}
+use Rattle.event.specs.declared.Refusal.{Refusal}
+use Rattle.event.specs.declared.Reason.TheVariants.{Truncated, VarintPadded, VarintUnterminated, VarintOverflow}
+use Rattle.event.specs.inner.Told.{read_answer}
 
 -- ---- the number stays small
 
@@ -44,6 +45,10 @@ held_next {c = c} {left = left} h p = go left p h.room
     go (suc k) p r =
         let w : c * 128 * 128 ^ k ≤ 2 ^ 63 = omega (arith, rw (pow-succ' 128 k) at r) in
         rw sub-one (w, omega (arith, mul-le-mul_left (c * 128) (one-le-pow k 128 (omega arith))))
+
+-- before the tenth byte some are left
+pub more_left : {k : ℕ} → k < 9 → 0 < 9 - k
+more_left h = omega arith
 
 -- seven bits more stay below the next scale
 held_sum : {v c left d : ℕ} → Held v c left → d < 128 → v + c * d < c * 128
@@ -78,7 +83,7 @@ module _ {v c left d : ℕ} where
 pub held_scale : {v c left : ℕ} → Held v c left → 0 < left → Fits w64 (c * 128)
 held_scale h p = omega (arith, (held_next h p).1)
 
-pub ruleset held = (held_start, seven, held_again, held_add, held_mul, held_scale, held_add_bit, held_mul_bit)
+pub ruleset held = (more_left, held_start, seven, held_again, held_add, held_mul, held_scale, held_add_bit, held_mul_bit)
 
 -- ---- the answer at the start, from where the loop stands
 
@@ -144,7 +149,7 @@ turn_start s start h k =
     (answered_carry start (get_or s start 0 - 128) (spelled 8 (drop (start + 1) s)))
 
 -- no byte at all is truncated
-pub turn_none : (s : List ℕ) (start : ℕ) (r : VarintRead) → length s ≤ start → r ≡ Refused (record { number = 2; place = start }) → varint_read r ≡ varint_at s start
+pub turn_none : (s : List ℕ) (start : ℕ) (r : Result (ℕ × ℕ) Refusal) → length s ≤ start → r ≡ Err (record { reason = Truncated; place = start }) → read_answer r ≡ varint_at s start
 unfolding varint_at
 turn_none s start r h e = rw (le-ltb start (length s) h, e)
 
@@ -165,14 +170,14 @@ module _ (s : List ℕ) (start v c i left : ℕ) where
       sym (e ∙ rw (rest_more s i h, spelled_step left (get_or s i 0) (drop (i + 1) s) p, lt-ltb (get_or s i 0) 128 k, ne_eqb (get_or s i 0) 0 z))
 
   -- a 0 is not needed
-  pub turn_padded : (r : VarintRead) → Gathered s start v c i left → 0 < left → i < length s → get_or s i 0 ≡ 0
-      → r ≡ Refused (record { number = 24; place = start }) → varint_read r ≡ varint_at s start
+  pub turn_padded : (r : Result (ℕ × ℕ) Refusal) → Gathered s start v c i left → 0 < left → i < length s → get_or s i 0 ≡ 0
+      → r ≡ Err (record { reason = VarintPadded; place = start }) → read_answer r ≡ varint_at s start
   unfolding onward
   turn_padded r e p h z q = rw q (sym (e ∙ rw (rest_more s i h, spelled_step left (get_or s i 0) (drop (i + 1) s) p, z)))
 
   -- the end of the input before the last byte is unterminated
-  pub turn_cut : (r : VarintRead) → Gathered s start v c i left → length s ≤ i
-      → r ≡ Refused (record { number = 4; place = start }) → varint_read r ≡ varint_at s start
+  pub turn_cut : (r : Result (ℕ × ℕ) Refusal) → Gathered s start v c i left → length s ≤ i
+      → r ≡ Err (record { reason = VarintUnterminated; place = start }) → read_answer r ≡ varint_at s start
   unfolding onward spelled
   turn_cut r e h k = rw k (sym (e ∙ rw (rest_none s i h)))
 
@@ -183,20 +188,27 @@ module _ (s : List ℕ) (start v c i left : ℕ) where
   turn_tenth e p h z k = sym (e ∙ rw (rest_more s i h, spelled_end left (get_or s i 0) (drop (i + 1) s) p, le-leb (get_or s i 0) 1 k, ne_eqb (get_or s i 0) 0 z))
 
   -- 00 is not needed
-  pub tenth_padded : (r : VarintRead) → Gathered s start v c i left → left ≤ 0 → i < length s → get_or s i 0 ≡ 0
-      → r ≡ Refused (record { number = 24; place = start }) → varint_read r ≡ varint_at s start
+  pub tenth_padded : (r : Result (ℕ × ℕ) Refusal) → Gathered s start v c i left → left ≤ 0 → i < length s → get_or s i 0 ≡ 0
+      → r ≡ Err (record { reason = VarintPadded; place = start }) → read_answer r ≡ varint_at s start
   unfolding onward
   tenth_padded r e p h z q = rw q (sym (e ∙ rw (rest_more s i h, spelled_end left (get_or s i 0) (drop (i + 1) s) p, z)))
 
   -- any other is an overflow
-  pub turn_over : (r : VarintRead) → Gathered s start v c i left → left ≤ 0 → i < length s → 1 < get_or s i 0
-      → r ≡ Refused (record { number = 3; place = start }) → varint_read r ≡ varint_at s start
+  pub turn_over : (r : Result (ℕ × ℕ) Refusal) → Gathered s start v c i left → left ≤ 0 → i < length s → 1 < get_or s i 0
+      → r ≡ Err (record { reason = VarintOverflow; place = start }) → read_answer r ≡ varint_at s start
   unfolding onward
   turn_over r e p h k q = rw q (sym (e ∙ rw (rest_more s i h, spelled_end left (get_or s i 0) (drop (i + 1) s) p, lt-leb (get_or s i 0) 1 k)))
 
 -- two bytes with the top bit set
 pub turn_two : (s : List ℕ) (start : ℕ) → start < length s → 128 ≤ get_or s start 0 → start + 1 < length s → 128 ≤ get_or s (start + 1) 0
-    → Gathered s start (get_or s start 0 - 128 + 128 * (get_or s (start + 1) 0 - 128)) 16_384 (start + 1 + 1) 7
-turn_two s start a b c d = turn_again s start (get_or s start 0 - 128) 128 (start + 1) 8 (turn_start s start a b) (omega arith) c d
+    → Gathered s start (get_or s start 0 - 128 + 128 * (get_or s (start + 1) 0 - 128)) 16_384 (start + 2) 7
+turn_two s start a b c d =
+    let e : start + 1 + 1 ≡ start + 2 = omega arith in
+    rw e at (turn_again s start (get_or s start 0 - 128) 128 (start + 1) 8 (turn_start s start a b) (omega arith) c d)
 
-pub ruleset turns = (turn_start, turn_none, turn_again, turn_last, turn_padded, turn_cut, turn_tenth, tenth_padded, turn_over, one_byte)
+-- behind the loop's last turn the tenth byte is at hand
+pub at_tenth : {v c : ℕ} (s : List ℕ) (start k : ℕ) → k ≡ 9 → Gathered s start v c (start + k) (9 - k) → Held v c (9 - k)
+    → Gathered s start v c (start + 9) 0 × Held v c 0
+at_tenth s start k e g h = (rw e at g, rw e at h)
+
+pub ruleset turns = (more_left, turn_start, turn_none, turn_again, turn_last, turn_padded, turn_cut, turn_tenth, tenth_padded, turn_over, one_byte)

@@ -4,7 +4,9 @@ use Prim.Native.Nat.{ℕ, zero, suc, ◌+◌, ◌*◌, ◌-◌, ◌/◌, ◌%◌
 use mathlib.Core.Path.{◌≡◌, refl, sym, ap, ◌∙◌}
 use mathlib.Core.List.{List, [], ◌∷◌}
 use mathlib.Core.Logic.{dite}
-use native.Mathlib.Nat.{pow-succ'}
+use native.Mathlib.Nat.{pow-succ', one-le-pow}
+use Rattle.std.proofs.lemmas.Nat.{pow-add}
+use Rattle.std.proofs.Math.Pow.{pow_mono}
 use native.Mathlib.Omega.{arith}
 use native.Mathlib.Decide.{dec_lt}
 use lib.ListN.{length}
@@ -47,6 +49,23 @@ length_last n h = ap length (uleb_last n h)
 -- one byte more than the rest for any other
 pub length_more : (n : ℕ) → 128 ≤ n → length (uleb n) ≡ length (uleb (n / 128)) + 1
 length_more n h = ap length (uleb_more n h) ∙ omega arith
+
+length_groups : (q r n : ℕ) → r < 7 → 2 ^ (r + 7 * q) ≤ n → n < 2 * 2 ^ (r + 7 * q) → length (uleb n) ≡ q + 1
+length_groups zero r n s l h =
+    let e : r + 7 * 0 ≡ r = omega arith in
+    let m : 2 ^ r ≤ 64 = pow_mono {i = r} {j = 6} (omega (arith, s)) in
+    length_last n (omega (arith, rw e at h, m))
+length_groups (suc q) r n s l h =
+    let e : r + 7 * suc q ≡ 7 + (r + 7 * q) = omega arith in
+    let p : 2 ^ (r + 7 * suc q) ≡ 128 * 2 ^ (r + 7 * q) = ap (λ (k : ℕ). 2 ^ k) e ∙ pow-add 2 7 (r + 7 * q) in
+    let o = one-le-pow (r + 7 * q) 2 (omega arith) in
+    omega (arith, length_more n (omega (arith, l, p, o)), length_groups q r (n / 128) s (omega (arith, l, p)) (omega (arith, h, p)))
+
+-- from a power of two on, and below the next, a number has one byte for each seven bits that are begun
+pub length_bits : (k n : ℕ) → 2 ^ k ≤ n → n < 2 * 2 ^ k → length (uleb n) ≡ k / 7 + 1
+length_bits k n l h =
+    let e : k % 7 + 7 * (k / 7) ≡ k = omega arith in
+    length_groups (k / 7) (k % 7) n (omega arith) (rw e l) (rw e h)
 
 -- ---- every spelling
 

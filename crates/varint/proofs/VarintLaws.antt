@@ -23,7 +23,7 @@ use Rattle.varint.proofs.SpelledLaws.{spelled_digits, Taken, taken, taken_padded
 
 -- ---- at a place: what is accepted
 
--- a varint that stands in front of any bytes is read, and the cursor is behind it
+-- a varint that stands in front of any bytes is read, and told with the place behind it
 pub accepts_list : {n : ℕ} {l : List ℕ} (s : List ℕ) (at : ℕ) (r : List ℕ) → Spells n l → drop at s ≡ l ++ r → varint_at s at ≡ read n (at + length l)
 unfolding varint_at
 accepts_list {l = l} s at r h e =
@@ -31,7 +31,7 @@ accepts_list {l = l} s at r h e =
     let k = ap length e in
     rw (lt-ltb at (length s) (omega (arith, spells_one h, length-append l r, length-drop at s)), e, d)
 
--- a varint that is the span is read, and the cursor is at its end
+-- a varint that is the span is read, and told with the span's end
 pub accepts : {n : ℕ} {l s : List ℕ} {at c : ℕ} → Spells n l → Span s at l c → varint_at s at ≡ read n c
 accepts {l = l} {s = s} {at = at} {c = c} h p = rw (span_length p) (accepts_list s at (drop c s) h (from_span p))
 
@@ -92,7 +92,7 @@ taking s at {r} e = go (outcome s at) e
 pub consumes_some : (s : List ℕ) (at : ℕ) {r : Read ℕ} → varint_at s at ≡ shown r → (at < r.next) × (r.next ≤ at + 10) × (r.next ≤ length s)
 consumes_some s at e = let t = taking s at e in omega (arith, t, span_length t.1, span_fits t.1)
 
--- what is read of bytes is a varint that stands there, and the cursor is at its end
+-- what is read of bytes is a varint that stands there, and the place told is its end
 pub consumes : (s : List ℕ) (at : ℕ) {r : Read ℕ} → IsBytes s → varint_at s at ≡ shown r
     → (l : List ℕ) × Spells r.value l × Span s at l r.next
 consumes s at y e = let t = taking s at e in (t.0, t.4 (span_all y t.1), t.1)

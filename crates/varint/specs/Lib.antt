@@ -1,3 +1,2 @@
 pub mod Uleb
 pub mod Varint
-pub mod inner

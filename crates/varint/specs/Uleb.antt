@@ -2,8 +2,8 @@
 use Rattle.std.specs.Prelude.{ℕ, zero, suc, ◌+◌, ◌*◌, ◌/◌, ◌%◌, ◌<◌, ◌^◌, List, [], ◌∷◌, ltb}
 use Rattle.scan.specs.Choice.{pick}
 
--- seven bits a byte, the lowest first; the top bit is set on every byte but the last, and what follows such a byte is not
--- zero
+-- seven bits a byte, the lowest first; the top bit is set on every byte but the last, and what follows such a byte is
+-- not zero
 pub data Uleb : ℕ → List ℕ → Type 0 where
   last : {b : ℕ} → b < 128 → Uleb b (b ∷ [])
   more : {b n : ℕ} {l : List ℕ} → b < 128 → 0 < n → Uleb n l → Uleb (b + 128 * n) ((128 + b) ∷ l)

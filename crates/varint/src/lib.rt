@@ -1,119 +1,97 @@
-// Varints: ULEB128 in one to ten bytes, as short as can be, read at a cursor and written.
+// Varints: ULEB128 in one to ten bytes, as short as can be, read at a place and written.
 #![tactic(auto)]
 
 ghost use Rattle.std.specs.Prelude.{◌≤◌, ◌≡◌, length};
 ghost use Rattle.buffer.specs.inner.Store.{Wrote};
 ghost use Rattle.varint.specs.Uleb.{uleb};
 ghost use Rattle.varint.specs.Varint.{varint_at};
-ghost use Rattle.varint.specs.inner.Answers.{varint_read};
+ghost use Rattle.event.specs.inner.Told.{read_answer};
 
-use event::Refusal;
+use event::{Reason, Refusal};
 
-// A place in the input. A cursor past the end reads as the end.
-#[derive(Drop)]
-pub struct Cursor {
-    pub at: usize,
-}
-
-// A number with the cursor behind it, or the refusal with the varint's place.
-#[derive(Drop)]
-pub enum VarintRead {
-    Value(u64, Cursor),
-    Refused(Refusal),
-}
-
-fn refuse(number: u8, place: usize) -> VarintRead
-    ensures { result ≡ VarintRead.Refused (record { number = number; place = place }) }
+// The varint at a place, and the place behind it; or the refusal with the varint's place. Most are one byte, which is
+// told at once.
+pub fn varint(s: &[u8], at: usize) -> Result<(u64, usize), Refusal>
+    ensures { read_answer result ≡ varint_at s.now at }
 {
-    VarintRead::Refused(Refusal { number, place })
+    if at < s.len() && s[at] < 128 {
+        return Ok((s[at] as u64, at + 1));
+    }
+    long_varint(s, at)
 }
 
-impl Cursor {
-    // The varint at the cursor. Most are one byte, which is told at once.
-    pub fn varint(self, s: &[u8]) -> VarintRead
-        ensures { varint_read result ≡ varint_at s.now self.at }
-    {
-        let at = self.at;
-        if at < s.len() {
-            if s[at] < 128 {
-                return VarintRead::Value(s[at] as u64, Cursor { at: at + 1 });
-            }
-        }
-        self.long_varint(s)
-    }
-
-    // The same, byte by byte: for a number that is seldom below 128. A last byte of 0 behind others is not needed.
-    pub fn long_varint(self, s: &[u8]) -> VarintRead
-        ensures { varint_read result ≡ varint_at s.now self.at }
-    {
-        let start = self.at;
-        if s.len() <= start {
-            return refuse(event::TRUNCATED, start);
-        }
-        let first = s[start] as u64;
-        if first < 128 {
-            return VarintRead::Value(first, Cursor { at: start + 1 });
-        }
-        let mut i: usize = start + 1;
-        if s.len() <= i {
-            return refuse(event::VARINT_UNTERMINATED, start);
-        }
-        let second = s[i] as u64;
-        if second < 128 {
-            if second == 0 {
-                return refuse(event::VARINT_PADDED, start);
-            }
-            return VarintRead::Value(first - 128 + 128 * second, Cursor { at: i + 1 });
-        }
-        i += 1;
-        let mut value: u64 = first - 128 + 128 * (second - 128);
-        let mut scale: u64 = 16384;
-        let mut left: usize = 7;
-        while 0 < left {
-            if s.len() <= i {
-                return refuse(event::VARINT_UNTERMINATED, start);
-            }
-            let b = s[i] as u64;
-            if b == 0 {
-                return refuse(event::VARINT_PADDED, start);
-            }
-            if b < 128 {
-                return VarintRead::Value(value + scale * b, Cursor { at: i + 1 });
-            }
-            value += scale * (b - 128);
-            scale *= 128;
-            i += 1;
-            left -= 1;
-        }
-        if s.len() <= i {
-            return refuse(event::VARINT_UNTERMINATED, start);
-        }
-        let tenth = s[i] as u64;
-        if tenth == 0 {
-            return refuse(event::VARINT_PADDED, start);
-        }
-        if tenth <= 1 {
-            return VarintRead::Value(value + scale * tenth, Cursor { at: i + 1 });
-        }
-        refuse(event::VARINT_OVERFLOW, start)
-    }
+// A refusal with its reason and its place: seven returns say it in one line each.
+fn refused(reason: Reason, place: usize) -> Result<(u64, usize), Refusal>
+    ensures { result ≡ Err (record { reason = reason; place = place }) }
+{
+    Err(Refusal { reason, place })
 }
 
-// The number of bytes of the shortest spelling.
+// The same, byte by byte: for a number that is seldom below 128. A last byte of 0 behind others is not needed.
+pub fn long_varint(s: &[u8], at: usize) -> Result<(u64, usize), Refusal>
+    ensures { read_answer result ≡ varint_at s.now at }
+{
+    if s.len() <= at {
+        return refused(Reason::Truncated, at);
+    }
+    let first = s[at] as u64;
+    if first < 128 {
+        return Ok((first, at + 1));
+    }
+    if s.len() <= at + 1 {
+        return refused(Reason::VarintUnterminated, at);
+    }
+    let second = s[at + 1] as u64;
+    if second < 128 {
+        if second == 0 {
+            return refused(Reason::VarintPadded, at);
+        }
+        return Ok((first - 128 + 128 * second, at + 2));
+    }
+    let mut value: u64 = first - 128 + 128 * (second - 128);
+    let mut scale: u64 = 16384;
+    // the third byte to the ninth
+    for k in 2..9 {
+        let i = at + k;
+        if s.len() <= i {
+            return refused(Reason::VarintUnterminated, at);
+        }
+        let b = s[i] as u64;
+        if b == 0 {
+            return refused(Reason::VarintPadded, at);
+        }
+        if b < 128 {
+            return Ok((value + scale * b, i + 1));
+        }
+        value += scale * (b - 128);
+        scale *= 128;
+    }
+    if s.len() <= at + 9 {
+        return refused(Reason::VarintUnterminated, at);
+    }
+    let tenth = s[at + 9] as u64;
+    if tenth == 0 {
+        return refused(Reason::VarintPadded, at);
+    }
+    if tenth <= 1 {
+        return Ok((value + scale * tenth, at + 10));
+    }
+    refused(Reason::VarintOverflow, at)
+}
+
+// The number of bytes of the shortest spelling: one for each seven bits that are begun, and one for 0.
+#[tactic(auto, using(crate::proofs::UlebLaws::length_bits, crate::proofs::UlebLaws::length_last))]
 pub fn varint_len(n: u64) -> usize
     ensures value { result ≡ length (uleb n) }
     ensures upper_bound { result ≤ 10 }
 {
-    let mut k: usize = 1;
-    let mut rest = n;
-    while rest >= 128 {
-        k += 1;
-        rest /= 128;
+    match n.checked_ilog2() {
+        Some(k) => k as usize / 7 + 1,
+        None => 1,
     }
-    k
 }
 
-// The shortest spelling, written.
+// The shortest spelling, written. The number is divided, and no place counted.
 pub fn put_varint(out: &mut [u8], at: usize, n: u64) -> usize
     ensures { Wrote out.old at (uleb n) out.new result }
 {

@@ -112,14 +112,18 @@ module _ (bare : Bool) where
       told_value {P = P} {a = a} (value {a = b} h) q = let f : b ≡ a = cc in rw (sym f) h
       told_value (refusal o h) q = clash q
 
-      pub head_fits : {h : Head} → numbers_of (drop k s) ≡ shown h → (h.content.at + k ≤ length s) × (h.tags_at + k ≤ length s)
+      unmoved : {A : Type 0} {a : A} {x : Answer A} → shown a ≡ moved bare x → x ≡ shown a
+      unmoved {x = shown b} q = sym q
+      unmoved {x = refused n p} q = clash (sym q)
+
+      pub head_fits : {h : Head} → shown h ≡ moved bare (numbers_of (drop k s)) → (h.content.at + k ≤ length s) × (h.tags_at + k ≤ length s)
       head_fits q =
-          let i = told_value (numbers_tells (drop k s)) q in
+          let i = told_value (numbers_tells (drop k s)) (unmoved q) in
           let l = start_fits bare s e in
           (omega (arith, i.0, l), omega (arith, i.1, l))
 
-      pub part_fits : (i j : ℕ) {p : Part} → element_of i j (drop k s) ≡ shown p → p.at + k ≤ length s
-      part_fits i j q = let h = told_value (element_of_tells (drop k s) i j) q in omega (arith, h, start_fits bare s e)
+      pub part_fits : (i j : ℕ) {p : Part} → shown p ≡ moved bare (element_of i j (drop k s)) → p.at + k ≤ length s
+      part_fits i j q = let h = told_value (element_of_tells (drop k s) i j) (unmoved q) in omega (arith, h, start_fits bare s e)
 
 -- the content is that of the numbers
 pub content_given_lem : (bare : Bool) (s : List ℕ) → content_given bare s ≡ and_then (numbers_given bare s) (λ (h : Head). shown h.content)

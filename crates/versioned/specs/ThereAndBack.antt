@@ -32,8 +32,8 @@ abbrev pub BackAndThere : Type 0
 BackAndThere =
     (s : List ℕ) (e : Event) → given false unpack s ≡ shown e → (d d₂ : List ℕ) → length s ≤ suc (length d) → length s ≤ length d₂ → ReturnsVersioned s d d₂
 
--- What was moved to the versioned form is accepted there, and shows the same event: no move makes what is too long to be
--- read.
+-- What was moved to the versioned form is accepted there, and shows the same event: no move makes what is too long to
+-- be read.
 abbrev pub MovedIsRead : Type 0
 MovedIsRead = (s d : List ℕ) (n : ℕ) → versions s d ≡ shown n → (e : Event) × (unpack s ≡ shown e) × (given false unpack (with_version s) ≡ shown e)
 

@@ -2,10 +2,8 @@
 // after both were offered.
 #![tactic(auto)]
 
-use event::Writing;
 use slots::Slot;
 use std::io;
-use std::io::Read;
 
 // Bytes as hex, as many as have room.
 fn say_hex(rt: &impl Print, bytes: &[u8]) -> io::Result<()> {
@@ -33,19 +31,11 @@ fn kept<'a>(rt: &impl Print, label: &[u8], s: &'a [u8], t: &'a [u8]) -> io::Resu
     content(rt, label, rivals::choose(s, t))
 }
 
-// How many bytes a move wrote.
-fn moved(w: Writing) -> usize {
-    match w {
-        Writing::Written(n) => n,
-        Writing::Refused(_) => 0,
-    }
-}
-
 // What is seen of the versioned form of a record: its content, an element, and the first byte of what is kept beside a
 // bare one, which is handed back as it was lent.
 fn other_form(rt: &impl Print, label: &[u8], s: &[u8], t: &[u8]) -> io::Result<()> {
     let mut form = [0u8; 65537];
-    let n = moved(versioned::to_versioned(s, &mut form));
+    let n = versioned::to_versioned(s, &mut form).unwrap_or(0);
     let v = scan::part(&form, 0, n);
     rt.write_all(label)?;
     rt.write_all(versioned::content(v, false))?;
@@ -59,6 +49,11 @@ fn other_form(rt: &impl Print, label: &[u8], s: &[u8], t: &[u8]) -> io::Result<(
     rt.write_all(b"\n")
 }
 
+// A table after an offer: as it was where the offer is refused.
+fn after(t: [Slot; 64], cells: &mut [u8], s: &[u8]) -> [Slot; 64] {
+    lenttable::offer_in(t, cells, s).slots
+}
+
 // The content of what slot 0 of a table holds after two records were offered to it.
 fn tabled(rt: &impl Print, label: &[u8], s: &[u8], t: &[u8]) -> io::Result<()> {
     let mut cells = [0u8; 65536];
@@ -67,30 +62,15 @@ fn tabled(rt: &impl Print, label: &[u8], s: &[u8], t: &[u8]) -> io::Result<()> {
         spare: 0,
         len: 0,
     };
-    let first = lenttable::offer_in([free; 64], &mut cells, s);
-    let once = first.slots;
-    let second = lenttable::offer_in(once, &mut cells, t);
-    let twice = second.slots;
+    let once = after([free; 64], &mut cells, s);
+    let twice = after(once, &mut cells, t);
     content(rt, label, tableslot::slot_event(twice, &cells, 0))
-}
-
-// Reads until the buffer is full or the input ends, and hands back how many bytes stand in it.
-fn read_full(input: &mut impl Read, out: &mut [u8]) -> io::Result<usize> {
-    let mut n = 0;
-    while n < out.len() {
-        let k = input.read(&mut out[n..])?;
-        if k == 0 {
-            break;
-        }
-        n += k;
-    }
-    Ok(n)
 }
 
 // A read or a write that fails ends the program with the error.
 fn main(rt: HostRuntime) -> io::Result<()> {
     let mut input = [0u8; 65537];
-    let n = read_full(&mut rt.stdin(), &mut input)?;
+    let n = fullread::read_full(&mut rt.stdin(), &mut input)?;
     let half = n / 2;
     let first = scan::part(&input, 0, half);
     let second = scan::part(&input, half, half);

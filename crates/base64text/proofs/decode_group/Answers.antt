@@ -9,14 +9,14 @@ pub returns-then-t-lt2 : goal.returns-then-t-lt2
 returns-then-t-lt2 c = rw (few_decoded _ c.if-t-lt2.true) nothing
 
 pub returns-then-t-eq2 : goal.returns-then-t-eq2
-returns-then-t-eq2 c = rw (two_decoded _ c.bits_in-a.ensures c.bits_in-b.ensures c.if-t-eq2.true) c.put_byte-o.ensures
+returns-then-t-eq2 c = rw (two_decoded _ c.six_bits-a.ensures c.six_bits-b.ensures c.if-t-eq2.true) c.put_byte-o.ensures
 
 pub returns-then-t-eq3 : goal.returns-then-t-eq3
 returns-then-t-eq3 c =
-    rw (three_decoded _ c.bits_in-a.ensures c.bits_in-b.ensures c.bits_in-c.ensures c.if-t-eq3.true)
+    rw (three_decoded _ c.six_bits-a.ensures c.six_bits-b.ensures c.six_bits-c.ensures c.if-t-eq3.true)
     (then c.put_byte-o.ensures c.put_byte-p.ensures)
 
 pub returns : goal.returns
 returns c =
-    rw (four_decoded c.args.t.now c.bits_in-a.ensures c.bits_in-b.ensures c.bits_in-c.ensures (omega arith) c.bits_in-d.ensures)
+    rw (four_decoded c.args.t.now c.six_bits-a.ensures c.six_bits-b.ensures c.six_bits-c.ensures (omega arith) c.six_bits-d.ensures)
     (then (then c.put_byte-o.ensures c.put_byte-p.ensures) c.put_byte.ensures)

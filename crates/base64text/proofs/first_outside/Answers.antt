@@ -1,21 +1,25 @@
-use mathlib.Core.Path.{refl, sym}
-use Rattle.scan.proofs.PlaceLaws.{run_again, run_left, run_broke}
+-- `first_outside` counts the bytes from the place on that are of the alphabet: `run_counted`.
+use Rattle.std.proofs.Common.{◌∙◌, ap, drop, ◌+◌, ℕ, rules}
+use Rattle.std.proofs.lemmas.Iterator.{YieldsList-from_slice}
+use Rattle.std.proofs.lemmas.Iterator.Search.{YieldsList-from_take_while}
+use Rattle.std.proofs.lemmas.Iterator.Consumers.{YieldsList-at, count_from_yields_List}
+use Rattle.std.proofs.lemmas.List.Folds.{length-prefix_len}
+use borrow.Author.Tests.{tests}
+use Rattle.scan.specs.Place.{run_at}
+use Rattle.scan.proofs.Step.{rest_whole}
+use Rattle.scan.proofs.PlaceLaws.{run_counted}
 use Rattle.base64text.specs.Base64.{in_alphabet}
-use Rattle.base64text.proofs.Alphabet.{counts_in, counts_out}
+use Rattle.base64text.proofs.Alphabet.{inside_zero}
 use Rattle.base64text.proofs.first_outside.Goals as goal
 
-pub loop-i-init : goal.loop-i-init
-loop-i-init c = refl
-
-pub returns-then-is_outside-ne0 : goal.returns-then-is_outside-ne0
-returns-then-is_outside-ne0 c =
-    let q = c.loop-i in
-    run_broke in_alphabet _ _ q.i _ q.invariant c.loop-i-test.true (sym (counts_out _ c.is_outside.ensures.value c.if-is_outside-ne0.true)) refl
-
-pub loop-i-preserved : goal.loop-i-preserved
-loop-i-preserved c =
-    let q = c.loop-i in
-    run_again in_alphabet _ _ q.i _ q.invariant c.loop-i-test.true (sym (counts_in _ c.is_outside.ensures.value c.if-is_outside-ne0.false)) refl
-
 pub returns : goal.returns
-returns c = run_left in_alphabet _ _ _ c.loop-i.invariant c.loop-i-test.false
+unfolding run_at
+returns c =
+    let a = c.args in
+    let s = drop a.at a.t.now in
+    let road = YieldsList-at c.take_while.ensures.source (YieldsList-from_slice s (c.iter.ensures.rest ∙ rest_whole a.t.now a.at)) in
+    ap (λ (k : ℕ). a.at + k)
+    (count_from_yields_List c.take_while.result _ c.count.ensures.ran
+    (YieldsList-from_take_while _ in_alphabet road c.take_while.ensures.closure c.take_while.ensures.done (λ x b q k. search (rules, tests, inside_zero)))
+    ∙ length-prefix_len in_alphabet s)
+    ∙ run_counted in_alphabet s a.at

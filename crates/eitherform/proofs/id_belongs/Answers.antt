@@ -3,17 +3,14 @@
 use mathlib.Core.Path.{sym, ap, ◌∙◌}
 use Rattle.identity.specs.Identity.{belongs}
 use Rattle.identity.proofs.Telling.{belongs_tells}
-use Rattle.versioned.specs.inner.Answers.{start_read}
+use Rattle.event.proofs.Handed.{handed_on}
 use Rattle.eitherform.proofs.Asking.{none_told, some_told}
 use Rattle.eitherform.proofs.id_belongs.Goals as goal
 
-pub returns-in-Refused : goal.returns-in-Refused
-returns-in-Refused c =
-    let a = c.args in
-    none_told belongs a.bare a.s.now (sym c.start-first.ensures ∙ ap start_read c.in-Refused.is)
+pub returns-in_err-k : goal.returns-in_err-k
+returns-in_err-k c = rw (handed_on _ c.from_residual.ensures) (none_told belongs c.args.bare c.args.s.now (sym c.in_err-k.ensures))
 
-pub returns-in-At : goal.returns-in-At
-returns-in-At c =
+pub returns : goal.returns
+returns c =
     let a = c.args in
-    let e = sym c.start-first.ensures ∙ ap start_read c.in-At.is in
-    c.moved_id.ensures ∙ some_told belongs a.bare a.s.now belongs_tells e c.from.ensures c.id_belongs.ensures
+    c.moved_answer.ensures ∙ some_told belongs a.bare a.s.now belongs_tells (sym c.in_ok-k.ensures) c.from.ensures c.id_belongs.ensures

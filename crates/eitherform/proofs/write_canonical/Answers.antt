@@ -9,8 +9,8 @@ use Rattle.event.specs.Event.{Event}
 use Rattle.notepack.specs.Unpack.{unpack}
 use Rattle.notepack.proofs.Telling.{unpack_tells}
 use Rattle.canonical.specs.Canonical.{canonical}
-use Rattle.versioned.specs.inner.Answers.{start_read}
 use Rattle.versioned.proofs.Moving.{writes_passes}
+use Rattle.event.proofs.Handed.{handed_on}
 use Rattle.eitherform.proofs.Asking.{none_written, none_left, some_written, some_left}
 use Rattle.eitherform.proofs.write_canonical.Goals as goal
 
@@ -20,22 +20,22 @@ told d x = writes canonical x d
 abbrev left : List ℕ → Answer Event → List ℕ
 left d x = leaves canonical x d
 
-pub returns-in-Refused : goal.returns-in-Refused
-returns-in-Refused c =
+pub returns-in_err-k : goal.returns-in_err-k
+returns-in_err-k c =
     let a = c.args in
-    let e = sym c.start-first.ensures ∙ ap start_read c.in-Refused.is in
-    record {
+    let e = sym c.in_err-k.ensures in
+    rw (handed_on _ c.from_residual.ensures) (record {
       result_value = none_written unpack a.bare a.s.now (told a.out.now) (writes_passes canonical a.out.now) e;
       out_after = none_left unpack a.bare a.s.now (left a.out.now) a.out.now (λ n p. refl) e;
-    }
+    })
 
-pub returns-in-At : goal.returns-in-At
-returns-in-At c =
+pub returns : goal.returns
+returns c =
     let a = c.args in
-    let e = sym c.start-first.ensures ∙ ap start_read c.in-At.is in
+    let e = sym c.in_ok-k.ensures in
     let r = c.from.ensures in
     let done = c.write_canonical.ensures in
     record {
-      result_value = c.moved_writing.ensures ∙ some_written unpack a.bare a.s.now unpack_tells e r (told a.out.now) (writes_passes canonical a.out.now) done.result_value;
+      result_value = c.moved_answer.ensures ∙ some_written unpack a.bare a.s.now unpack_tells e r (told a.out.now) (writes_passes canonical a.out.now) done.result_value;
       out_after = some_left unpack a.bare a.s.now unpack_tells e r (left a.out.now) a.out.now (λ n p. refl) done.out_after;
     }

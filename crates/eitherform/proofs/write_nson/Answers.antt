@@ -10,7 +10,7 @@ use Rattle.notepack.specs.Unpack.{unpack}
 use Rattle.notepack.proofs.Telling.{unpack_tells}
 use Rattle.nson.specs.Nson.{nson}
 use Rattle.nson.specs.Entries.{carried}
-use Rattle.versioned.specs.inner.Answers.{start_read}
+use Rattle.event.proofs.Handed.{handed_on}
 use Rattle.eitherform.proofs.Asking.{none_written, none_left, some_written, some_left, nson_passes}
 use Rattle.eitherform.proofs.write_nson.Goals as goal
 
@@ -20,22 +20,22 @@ told d x = writes nson (carried x) d
 abbrev left : List ℕ → Answer Event → List ℕ
 left d x = leaves nson (carried x) d
 
-pub returns-in-Refused : goal.returns-in-Refused
-returns-in-Refused c =
+pub returns-in_err-k : goal.returns-in_err-k
+returns-in_err-k c =
     let a = c.args in
-    let e = sym c.start-first.ensures ∙ ap start_read c.in-Refused.is in
-    record {
+    let e = sym c.in_err-k.ensures in
+    rw (handed_on _ c.from_residual.ensures) (record {
       result_value = none_written unpack a.bare a.s.now (told a.out.now) (nson_passes a.out.now) e;
       out_after = none_left unpack a.bare a.s.now (left a.out.now) a.out.now (λ n p. refl) e;
-    }
+    })
 
-pub returns-in-At : goal.returns-in-At
-returns-in-At c =
+pub returns : goal.returns
+returns c =
     let a = c.args in
-    let e = sym c.start-first.ensures ∙ ap start_read c.in-At.is in
+    let e = sym c.in_ok-k.ensures in
     let r = c.from.ensures in
     let done = c.write_nson.ensures in
     record {
-      result_value = c.moved_writing.ensures ∙ some_written unpack a.bare a.s.now unpack_tells e r (told a.out.now) (nson_passes a.out.now) done.result_value;
+      result_value = c.moved_answer.ensures ∙ some_written unpack a.bare a.s.now unpack_tells e r (told a.out.now) (nson_passes a.out.now) done.result_value;
       out_after = some_left unpack a.bare a.s.now unpack_tells e r (left a.out.now) a.out.now (λ n p. refl) done.out_after;
     }

@@ -7,34 +7,24 @@ use Rattle.notepack.specs.inner.Again.{texts_end}
 use Rattle.elements.proofs.Again.{some_again, ends_two, room_left}
 use Rattle.elements.proofs.list_tag.Goals as goal
 
-pub overflow_sub-behind : goal.overflow_sub-behind
-overflow_sub-behind c = omega (arith, c.lower_of-before.ensures)
-
-pub overflow_sub-behind-2 : goal.overflow_sub-behind-2
-overflow_sub-behind-2 c = omega (arith, c.lower_of-shown.ensures)
-
-pub overflow_sub-result : goal.overflow_sub-result
-overflow_sub-result c = omega (arith, c.lower_of-before.ensures)
-
-pub overflow_sub-result-2 : goal.overflow_sub-result-2
-overflow_sub-result-2 c = omega (arith, c.lower_of-shown.ensures)
-
 pub returns : goal.returns
 returns c =
-    let a = c.args in
-    let put = c.put_rows-copied.ensures in
+    let s = c.args.s.now in
+    let count = c.args.count in
+    let from = c.args.from in
+    let g = c.args.listing in
+    let put = c.put_rows-end.ensures in
     let first = c.texts_end-first.ensures in
-    let x = c.lower_of-before.ensures in
-    let y = c.lower_of-shown.ensures in
-    let s = a.s.now in
-    let n = c.lower_of-before.result in
-    let m = c.lower_of-shown.result in
-    let rest = a.count - n - m in
-    let all : n + (m + rest) ≡ a.count = omega (arith, x, y) in
+    let x = c.min-before.ensures in
+    let y = c.min-shown.ensures in
+    let n = c.min-before.result in
+    let m = c.min-shown.result in
+    let rest = count - n - m in
+    let all : n + (m + rest) ≡ count = omega (arith, x, y) in
     record {
-      wrote = rw (some_again s a.tag a.room a.skip a.count a.from x y, ← first) put.wrote;
+      wrote = rw (some_again s c.args.tag g.room g.skip count from x y, ← first) put.wrote;
       next_value =
-          c.texts_end-next.ensures ∙ rw (put.next_value, first, ends_two s m rest (texts_end n s a.from), ends_two s n (m + rest) a.from, all);
+          c.texts_end.ensures ∙ rw (put.next_value, first, ends_two s m rest (texts_end n s from), ends_two s n (m + rest) from, all);
       skip_value = omega (arith, x);
-      room_value = room_left a.room a.skip a.count x y;
+      room_value = room_left g.room g.skip count x y;
     }

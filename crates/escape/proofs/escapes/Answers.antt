@@ -1,12 +1,11 @@
-use native.Mathlib.Omega.{arith}
-use Rattle.escape.proofs.BlockLaws.{count_more, count_all}
+use Rattle.std.proofs.Common.{arith}
+use Rattle.escape.proofs.BlockLaws.{at_most_one, count_more, count_all}
 use Rattle.escape.proofs.escapes.Goals as goal
 
-pub loop-i-init : goal.loop-i-init
-loop-i-init c = (omega arith, omega arith, omega arith)
-
-pub loop-i-preserved : goal.loop-i-preserved
-loop-i-preserved c = (omega arith, omega arith, count_more _ _ _ _ _ c.loop-i.invariant.2 c.loop-i-test.true c.is_escaped.ensures c.one_if-n.ensures.value)
+pub loop-b-preserved : goal.loop-b-preserved
+loop-b-preserved c =
+    let e = c.from-n.ensures in
+    (omega (arith, e, at_most_one c.is_escaped.result), count_more _ _ _ _ _ c.loop-b.invariant.1 (omega arith) c.is_escaped.ensures e)
 
 pub returns : goal.returns
-returns c = search count_all
+returns c = count_all _ _ _ _ _ c.loop-b.invariant.1 (omega arith) (omega arith)

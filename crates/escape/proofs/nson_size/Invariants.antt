@@ -1,14 +1,15 @@
 -- `nson_size` adds block by block. The invariant: each sum and what is left make the whole.
--- Each turn is `length_block` and `controls_block`; a text in NSON is at most twice as long, so no sum wraps.
-use Prim.Native.Nat.{◌+◌, ◌-◌, ◌≤◌}
-use mathlib.Core.Path.{◌≡◌}
-use lib.ListN.{length, drop}
+-- Each turn is `grown` and `controls_block`; a text in NSON is at most twice as long, so no sum wraps.
+use Rattle.std.proofs.Common.{◌≡◌, ◌+◌, ◌≤◌, length}
+use Rattle.std.specs.Slice.Iter.{chunks_rest, chunks_size}
 use Rattle.escape.specs.Escape.{nson_byte, escaped}
 use Rattle.escape.specs.inner.Controls.{controls}
 use Rattle.escape.proofs.nson_size.Given as goal
 
-abbrev pub invariant-loop-i : goal.invariant-loop-i
-invariant-loop-i l = (l.i ≤ length l.s) × (l.n + length (escaped nson_byte (drop l.i l.s)) ≡ length (escaped nson_byte l.s)) × (l.m + controls (drop l.i l.s) ≡ controls l.s) × (l.m ≤ l.i)
-
-abbrev pub decreases-loop-i : goal.decreases-loop-i
-decreases-loop-i l = length l.s - l.i
+abbrev pub invariant-loop-block : goal.invariant-loop-block
+invariant-loop-block l = record {
+  size : chunks_size l.block-iterator ≡ 128;
+  len : l.len + length (escaped nson_byte (chunks_rest l.block-iterator)) ≡ length (escaped nson_byte l.s) + length (chunks_rest l.block-iterator);
+  controls : l.controls + controls (chunks_rest l.block-iterator) ≡ controls l.s;
+  controls_fit : l.controls + length (chunks_rest l.block-iterator) ≤ length l.s;
+}

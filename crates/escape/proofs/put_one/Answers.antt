@@ -10,7 +10,7 @@ returns-then-is_escaped c =
     let letter = rw c.escape_letter.ensures at c.put_byte.ensures in
     rw (byte_two _ b c.is_escaped.ensures c.if-is_escaped.true) (then c.put_byte-o.ensures letter)
 
-pub returns : goal.returns
-returns c =
+pub returns-else-is_escaped : goal.returns-else-is_escaped
+returns-else-is_escaped c =
     let b = c.args.b in
-    rw (byte_one _ b c.is_escaped.ensures c.if-is_escaped.false) c.put_byte-2.ensures
+    rw (byte_one _ b c.is_escaped.ensures c.if-is_escaped.false) c.put_byte-else-is_escaped.ensures

@@ -7,4 +7,4 @@ use Rattle.escape.proofs.put_rest.Goals as goal
 pub returns-then-escapes-eq0 : goal.returns-then-escapes-eq0
 returns-then-escapes-eq0 c =
     let a = c.args in
-    rw (grows_not a.all a.s.now (omega (arith, c.escapes.ensures, c.if-escapes-eq0.true))) c.put_bytes.ensures
+    rw (grows_not a.k a.s.now (omega (arith, c.escapes.ensures, c.if-escapes-eq0.true))) c.put_bytes.ensures

@@ -1,5 +1,5 @@
--- Whether NSON can carry a text, decided by a count; `QuotedLaws.nson_text_lem` shows that `nson_text` is `All Carried`.
--- Assumes nothing.
+-- Whether NSON can carry a text, decided by a count; `QuotedLaws.nson_text_lem` shows that `nson_text` is
+-- `All Carried`. Assumes nothing.
 use Rattle.std.specs.Prelude.{ℕ, ◌+◌, Bool, List, [], ◌∷◌, ltb, eqb}
 use Rattle.scan.specs.Choice.{pick}
 

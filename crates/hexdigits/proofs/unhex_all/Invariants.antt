@@ -1,15 +1,13 @@
--- `unhex_all` goes in blocks of 64 digits. The invariant: what is left to write are the bytes of t from i on, and the
--- place is `at + i / 2`.
--- A turn is `unhex_block_on` and the block written; the rest is written pair by pair.
-use Prim.Native.Nat.{◌+◌, ◌*◌, ◌-◌, ◌≤◌}
-use mathlib.Core.Path.{◌≡◌}
-use lib.ListN.{length, drop}
+-- `unhex_all` goes in blocks of 64 digits. The invariant: what is left to write are the bytes of the digits that are
+-- left, and there is room for them.
+-- A turn is `block_written`.
+use Rattle.std.proofs.Common.{◌+◌, ◌/◌, ◌≤◌, length}
 use Rattle.buffer.proofs.Laws.{Left}
 use Rattle.hexdigits.specs.Hex.{unhex}
 use Rattle.hexdigits.proofs.unhex_all.Given as goal
 
-abbrev pub invariant-loop-i : goal.invariant-loop-i
-invariant-loop-i l = (l.i ≤ length l.t) × (2 * l.o ≡ 2 * l.at + l.i) × (length l.out ≡ length l.initial.out) × Left l.initial.out l.at (unhex l.t) l.out l.o (unhex (drop l.i l.t))
+abbrev pub invariant-loop-block : goal.invariant-loop-block
+invariant-loop-block l = (l.o + length l.left / 2 ≤ length l.out) × Left l.initial.out l.at (unhex l.t) l.out l.o (unhex l.left)
 
-abbrev pub decreases-loop-i : goal.decreases-loop-i
-decreases-loop-i l = length l.t - l.i
+abbrev pub decreases-loop-block : goal.decreases-loop-block
+decreases-loop-block l = length l.left

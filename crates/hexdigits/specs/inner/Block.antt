@@ -1,5 +1,5 @@
--- What the private loops promise: how many bytes of a block are no digits; the values of digits, and the bytes of
--- values. Assumes nothing.
+-- What the private loops promise: what a byte that is no digit counts; the values of digits, and the bytes of values.
+-- Assumes nothing.
 use Rattle.std.specs.Prelude.{ℕ, ◌+◌, ◌*◌, ◌%◌, List, [], ◌∷◌, ltb}
 use Rattle.scan.specs.Choice.{pick}
 use Rattle.hexdigits.specs.Hex.{value_of}
@@ -7,10 +7,6 @@ use Rattle.hexdigits.specs.Hex.{value_of}
 -- 1 for a byte that is no digit
 unfoldable pub is_other : ℕ → ℕ
 is_other b = pick (ltb (value_of b) 16) 0 1
-
-unfoldable pub others_of : List ℕ → ℕ
-others_of [] = 0
-others_of (b ∷ l) = is_other b + others_of l
 
 -- the value of each byte as a digit
 unfoldable pub values_of : List ℕ → List ℕ

@@ -8,10 +8,17 @@ use Rattle.hexdigits.specs.Hex.{unhex}
 use Rattle.notepack.specs.Strict.{pack_element}
 use Rattle.jsontext.specs.Token.{space_at}
 use Rattle.jsontext.specs.Text.{string_at}
+use Rattle.jsonstring.specs.declared.Text.{Text}
+use Rattle.jsonstring.specs.declared.Text.TheVariants as text
 use Rattle.jsonevent.specs.Field.{text_of}
 use Rattle.jsonfields.specs.declared.Spot.{Spot}
 use Rattle.jsonfields.specs.inner.Spots.{spelled_of}
 use Rattle.jsonobject.specs.declared.Fields.{Fields}
+
+-- the text of a string that was read: a plain one is its own
+abbrev pub said : List ℕ → Text → List ℕ
+said s (text.Plain p) = take p.count (drop p.from s)
+said s (text.Other p) = text_of s p
 
 -- behind the byte at a place and white space; the end stays
 unfoldable pub behind_at : List ℕ → ℕ → ℕ

@@ -2,13 +2,10 @@
 -- A byte adds at most 1, so the sum is at most 32 and fits a byte.
 use Prim.Native.Nat.{◌+◌, ◌-◌, ◌≤◌}
 use mathlib.Core.Path.{◌≡◌}
-use lib.ListN.{length, get_or, drop}
+use lib.ListN.{get_or, drop}
 use Rattle.scan.specs.inner.Blocks.{neighbours}
 use Rattle.jsonstring.specs.inner.Loose.{clash_of}
 use Rattle.jsonstring.proofs.clashes.Given as goal
 
 abbrev pub invariant-loop-i : goal.invariant-loop-i
-invariant-loop-i l = (1 ≤ l.i) × (l.i ≤ length l.block) × (l.n ≤ l.i - 1) × (l.n + neighbours clash_of (get_or l.block (l.i - 1) 0) (drop l.i l.block) ≡ neighbours clash_of (get_or l.block 0 0) (drop 1 l.block))
-
-abbrev pub decreases-loop-i : goal.decreases-loop-i
-decreases-loop-i l = length l.block - l.i
+invariant-loop-i l = (l.n ≤ l.i - 1) × (l.n + neighbours clash_of (get_or l.block (l.i - 1) 0) (drop l.i l.block) ≡ neighbours clash_of (get_or l.block 0 0) (drop 1 l.block))

@@ -6,13 +6,13 @@ use Rattle.jsonstring.specs.inner.Loose.{LooseTo}
 use Rattle.jsonstring.proofs.loose_end.Given as goal
 
 abbrev pub invariant-loop-i-2 : goal.invariant-loop-i-2
-invariant-loop-i-2 l = (1 ≤ l.i) × (l.end ≤ length l.s) × LooseTo l.s l.from l.i
+invariant-loop-i-2 l = (l.end ≤ length l.s) × LooseTo l.s l.from l.i
 
 abbrev pub decreases-loop-i-2 : goal.decreases-loop-i-2
 decreases-loop-i-2 l = length l.s - l.i
 
 abbrev pub invariant-loop-i : goal.invariant-loop-i
-invariant-loop-i l = (1 ≤ l.i) × LooseTo l.s l.from l.i
+invariant-loop-i l = LooseTo l.s l.from l.i
 
 abbrev pub decreases-loop-i : goal.decreases-loop-i
 decreases-loop-i l = length l.s - l.i

@@ -1,21 +1,17 @@
 use native.Mathlib.Omega.{arith}
 use Rattle.jsonstring.specs.inner.Loose.{nothing}
-use Rattle.jsonstring.proofs.ClashLaws.{quoting_start, quoting_block}
+use Rattle.jsonstring.proofs.ClashLaws.{quoting_start, quoting_next}
 use Rattle.jsonstring.proofs.pass_quoted.Goals as goal
 
-pub returns-then-s-i-eq92 : goal.returns-then-s-i-eq92
-returns-then-s-i-eq92 c = nothing
+pub returns-then-at-eq0 : goal.returns-then-at-eq0
+returns-then-at-eq0 c = nothing
 
-pub loop-i-init : goal.loop-i-init
-loop-i-init c = (omega arith, omega arith, quoting_start _ _ c.if-s-i-eq92.false)
+pub loop-block-init : goal.loop-block-init
+loop-block-init c = (omega arith, omega arith, quoting_start _ _ c.if-s-at-eq92.false)
 
-pub loop-i-preserved : goal.loop-i-preserved
-loop-i-preserved c =
-    let inv = c.loop-i.invariant in
-    (omega arith, omega arith, quoting_block _ _ inv.2 (omega arith) (omega arith) (omega arith) c.clashes.ensures c.if-clashes-ne0.false)
-
-pub returns-then-s-i-eq92-2 : goal.returns-then-s-i-eq92-2
-returns-then-s-i-eq92-2 c = c.loop-i.invariant.2.cut c.if-s-i-eq92-2.true
-
-pub returns : goal.returns
-returns c = c.loop-i.invariant.2.whole c.if-s-i-eq92-2.false
+pub loop-block-preserved : goal.loop-block-preserved
+loop-block-preserved c =
+    let inv = c.loop-block.invariant in
+    let k = c.in-Some.ensures.cases in
+    let r = quoting_next _ _ inv.2 inv.0 inv.1 k.enough k.same c.clashes.ensures (omega arith) in
+    (omega arith, r.0, r.1)

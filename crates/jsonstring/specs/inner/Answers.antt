@@ -1,19 +1,18 @@
--- What each case of the code's answers means. Assumes nothing.
+-- The meaning of a string that is told to be plain or not. Assumes nothing.
+use Rattle.std.specs.Prelude.{ℕ, Result, Ok, Err}
 use Rattle.scan.specs.Choice.{Answer, Read, read}
+use Rattle.event.specs.declared.Refusal.{Refusal}
 use Rattle.event.specs.inner.Told.{told}
 use Rattle.jsontext.specs.declared.Spelled.{Spelled}
-use Rattle.jsonstring.specs.declared.StringRead.{StringRead}
-use Rattle.jsonstring.specs.declared.StringRead.TheVariants as string
-use Rattle.jsonstring.specs.declared.TextRead.{TextRead}
-use Rattle.jsonstring.specs.declared.TextRead.TheVariants as text-by
+use Rattle.jsonstring.specs.declared.Text.{Text}
+use Rattle.jsonstring.specs.declared.Text.TheVariants as text
 
--- a string as spelled between its quotes, or refused
-abbrev pub string_read : StringRead → Answer (Read Spelled)
-string_read (string.Text p c) = read p c.at
-string_read (string.Refused r) = told r
+-- the string as spelled between its quotes
+abbrev pub spelled_of : Text → Spelled
+spelled_of (text.Plain p) = p
+spelled_of (text.Other p) = p
 
--- the same of one that is told to be plain or not
-abbrev pub text_read : TextRead → Answer (Read Spelled)
-text_read (text-by.Plain p c) = read p c.at
-text_read (text-by.Other p c) = read p c.at
-text_read (text-by.Refused r) = told r
+-- the string that was read, or the refusal
+abbrev pub text_read : Result (Text × ℕ) Refusal → Answer (Read Spelled)
+text_read (Ok x) = read (spelled_of x.0) x.1
+text_read (Err r) = told r

@@ -1,20 +1,15 @@
 -- Plain ASCII in a string: what a block counts, how far it goes, which strings are short and plain. Assumes nothing.
-use Rattle.std.specs.Prelude.{ℕ, ◌+◌, ◌/◌, ◌≤◌, ◌<◌, min, ◌≡◌, Bool, true, false, List, length, get_or, take, drop, ltb, leb, eqb}
+use Rattle.std.specs.Prelude.{ℕ, ◌+◌, ◌≤◌, ◌<◌, min, ◌≡◌, Bool, true, false, List, length, get_or, take, drop, ltb, leb, eqb}
 use Rattle.scan.specs.Choice.{pick}
 use Rattle.scan.specs.Place.{byte_at}
-use Rattle.scan.specs.inner.Blocks.{is_one, control_count, before_stop}
-use Rattle.jsontext.specs.declared.Spelled.{Spelled}
+use Rattle.scan.specs.inner.Blocks.{before_stop}
 use Rattle.jsontext.specs.inner.Escape.{unescape}
-use Rattle.jsonstring.specs.declared.TextRead.{TextRead}
-use Rattle.jsonstring.specs.declared.TextRead.TheVariants as text-by
+use Rattle.jsonstring.specs.declared.Text.{Text}
+use Rattle.jsonstring.specs.declared.Text.TheVariants as text
 
 -- a control byte, a quote, a backslash or a byte above ASCII
 unfoldable pub is_special : ℕ → Bool
 is_special b = pick (ltb b 0x20) true (pick (eqb b 0x22) true (pick (eqb b 0x5C) true (leb 0x80 b)))
-
--- 0 for a byte that is not special
-unfoldable pub special_of : ℕ → ℕ
-special_of b = control_count b + is_one b 0x22 + is_one b 0x5C + b / 128
 
 -- from place a to place b no byte is special
 pub record PlainTo (s : List ℕ) (a b : ℕ) : Type 0 where
@@ -31,8 +26,6 @@ unfoldable pub is_short_plain : List ℕ → ℕ → Bool
 is_short_plain s at = pick (eqb (byte_at s at) 0x22) (eqb (byte_at s (plain_end s (at + 1))) 0x22) false
 
 -- exactly those strings are told to be plain, and each is its own text
-pub data PlainText (s : List ℕ) (at : ℕ) : TextRead → Type 0 where
-  plain : {p : Spelled} {c : _} → is_short_plain s at ≡ true → unescape (take p.count (drop p.from s)) ≡ take p.count (drop p.from s)
-      → PlainText s at (text-by.Plain p c)
-  other : {p : Spelled} {c : _} → is_short_plain s at ≡ false → PlainText s at (text-by.Other p c)
-  refused : {r : _} → is_short_plain s at ≡ false → PlainText s at (text-by.Refused r)
+abbrev pub PlainText : List ℕ → ℕ → Text → Type 0
+PlainText s at (text.Plain p) = (is_short_plain s at ≡ true) × (unescape (take p.count (drop p.from s)) ≡ take p.count (drop p.from s))
+PlainText s at (text.Other p) = is_short_plain s at ≡ false

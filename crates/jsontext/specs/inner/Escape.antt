@@ -1,7 +1,7 @@
 -- Escapes at a place, and the text that a spelled string stands for: decisions. Laws tie them to the grammar: what
--- `escape_at` finds at a backslash is a character of the grammar (`EscapeLaws.escape_at_lem`), and each of the grammar's
--- escapes is found (`escape_letter_lem`, `escape_unicode`, `escape_pair`); of what the grammar spells `unescape` gives the
--- text (`Meaning.unescape_chars`). Assumes nothing.
+-- `escape_at` finds at a backslash is a character of the grammar (`EscapeLaws.escape_at_lem`), and each of the
+-- grammar's escapes is found (`escape_letter_lem`, `escape_unicode`, `escape_pair`); of what the grammar spells
+-- `unescape` gives the text (`Meaning.unescape_chars`). Assumes nothing.
 use Rattle.std.specs.Prelude.{ℕ, zero, suc, ◌+◌, ◌*◌, ◌-◌, List, [], ◌∷◌, ◌++◌, ltb, eqb}
 use Rattle.scan.specs.Choice.{pick}
 use Rattle.scan.specs.Place.{byte_at, within}

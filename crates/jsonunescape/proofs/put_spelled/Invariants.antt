@@ -1,6 +1,5 @@
 -- `put_spelled` writes the text. The invariant: what is left to write is the text from here on.
--- A turn writes a run, by `unescape_run`, and what an escape stands for: by `letter_text` where it is a letter's, and
--- else by `turn_text`.
+-- A turn writes a run, by `unescape_run`, and what an escape stands for, by `turn_text`.
 use Prim.Native.Nat.{◌-◌}
 use lib.ListN.{length, drop}
 use Rattle.buffer.proofs.Laws.{Left}

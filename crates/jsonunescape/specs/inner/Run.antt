@@ -1,9 +1,8 @@
--- A run, the bytes up to the next backslash, and what the loops over it promise one another. Assumes nothing.
-use Rattle.std.specs.Prelude.{ℕ, ◌+◌, ◌-◌, ◌≤◌, ◌≡◌, Bool, true, false, List, length, take, drop, eqb}
+-- A run, the bytes up to the next backslash. Assumes nothing.
+use Rattle.std.specs.Prelude.{ℕ, ◌+◌, Bool, true, false, List, eqb}
 use Rattle.scan.specs.Choice.{pick}
 use Rattle.scan.specs.Place.{run_at}
 use Rattle.scan.specs.inner.Blocks.{is_one, control_count}
-use Rattle.buffer.specs.inner.Store.{Wrote}
 
 -- a byte that is no backslash
 unfoldable pub no_backslash : ℕ → Bool
@@ -19,10 +18,3 @@ is_slash b = is_one b 0x5C
 -- 0 for a byte that is neither a control byte nor a quote nor a backslash
 unfoldable pub stop_of : ℕ → ℕ
 stop_of b = control_count b + is_one b 0x22 + is_slash b
-
--- the bytes of t from place a to place b are of one run; writing them to d at `at` made d', and o is the place behind
-pub record Ran (t : List ℕ) (a b : ℕ) (d : List ℕ) (at : ℕ) (d' : List ℕ) (o : ℕ) : Type 0 where
-  pub onward : a ≤ b
-  pub inside : b ≤ length t
-  pub goes : backslash_at t a ≡ backslash_at t b
-  pub wrote : Wrote d at (take (b - a) (drop a t)) d' o

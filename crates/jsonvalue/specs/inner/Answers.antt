@@ -1,10 +1,10 @@
--- What each case of the code's answer means. Assumes nothing.
+-- The meaning of the code's answer. Assumes nothing.
+use Rattle.std.specs.Prelude.{ℕ, Result, Ok, Err}
+use Rattle.event.specs.declared.Refusal.{Refusal}
 use Rattle.event.specs.inner.Told.{told}
 use Rattle.jsontext.specs.Token.{Skipped, past}
-use Rattle.jsonvalue.specs.declared.Skip.{Skip}
-use Rattle.jsonvalue.specs.declared.Skip.TheVariants as skip
 
--- read over, or refused
-abbrev pub skip_read : Skip → Skipped
-skip_read (skip.Past c) = past c.at
-skip_read (skip.Refused r) = told r
+-- the place behind what was read over, or the refusal
+abbrev pub skipped : Result ℕ Refusal → Skipped
+skipped (Ok next) = past next
+skipped (Err r) = told r

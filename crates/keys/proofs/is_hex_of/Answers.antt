@@ -1,61 +1,31 @@
-use mathlib.Core.Path.{refl, sym, ◌∙◌}
-use native.Mathlib.Omega.{arith}
-use Rattle.keys.proofs.Loops.{hex_again, hex_short, hex_first, hex_second, hex_left, hex_whole}
+use Rattle.std.proofs.Common.{sym, ◌∙◌}
+use borrow.Author.Tests.{eq-eqb, ne_eqb}
+use Rattle.scan.proofs.Step.{rest_whole}
+use Rattle.keys.proofs.Loops.{hex_short, hex_turn, hex_end}
+use Rattle.keys.proofs.is_hex_of.Goals.{then-high-digit_of-via-then-high-digit_of, then-high-digit_of-via-else-high-digit_of+then-low-digit_of}
 use Rattle.keys.proofs.is_hex_of.Goals as goal
 
-pub loop-i-init : goal.loop-i-init
-loop-i-init c = (omega arith, omega arith, refl)
+pub returns-in_default : goal.returns-in_default
+returns-in_default c =
+    let q = c.loop-b in
+    sym (q.invariant ∙ hex_short c.args.a.now q.rest.now q.b-index c.loop-b-test.true c.in_default.len_below)
 
-pub returns-then-t-j-lt2 : goal.returns-then-t-j-lt2
-returns-then-t-j-lt2 c =
-    let turn = c in
-    let q = turn.loop-i in
-    let x = turn.args in
-    hex_short x.a.now x.t.now q.i q.j q.invariant.2 turn.loop-i-test.true c.if-t-j-lt2.true
+pub returns-then-high-digit_of : goal.returns-then-high-digit_of
+returns-then-high-digit_of c =
+    let q = c.loop-b in
+    let turn = q.invariant ∙ hex_turn c.args.a.now q.rest.now q.b-index c.loop-b-test.true (c.type_inv.a q.b-index).fits c.in-len2-up.len_at_least in
+    elim c.then-high-digit_of.branch [
+      | then-high-digit_of-via-then-high-digit_of w ↦ sym (turn ∙ rw (← c.digit_of.ensures, ne_eqb _ _ (λ e. w.if-high-digit_of.true (sym e))))
+      | then-high-digit_of-via-else-high-digit_of+then-low-digit_of w ↦
+          sym (turn ∙ rw (← c.digit_of.ensures, ← w.digit_of-else-high-digit_of.ensures, eq-eqb _ _ (sym w.if-high-digit_of.false), ne_eqb _ _ (λ e. w.if-low-digit_of.true (sym e))))
+    ]
 
-pub returns-then-digit_of-t : goal.returns-then-digit_of-t
-returns-then-digit_of-t c =
-    let high = c in
-    let room = high in
-    let q = room.loop-i in
-    let known = room in
-    let x = known.args in
-    let byte = known.shared_slice_known-1.given q.i in
-    hex_first x.a.now x.t.now q.i q.j q.invariant.2 room.loop-i-test.true room.if-t-j-lt2.false (λ e. c.if-digit_of-t.true (high.digit_of.ensures ∙ e)) (omega (arith, byte))
-
-pub returns-then-digit_of-t-2 : goal.returns-then-digit_of-t-2
-returns-then-digit_of-t-2 c =
-    let low = c in
-    let agreed = low in
-    let high = agreed in
-    let room = high in
-    let q = room.loop-i in
-    let known = room in
-    let x = known.args in
-    let byte = known.shared_slice_known-1.given q.i in
-    hex_second x.a.now x.t.now q.i q.j q.invariant.2 room.loop-i-test.true room.if-t-j-lt2.false (sym high.digit_of.ensures ∙ agreed.if-digit_of-t.false) (λ e. c.if-digit_of-t-2.true (low.digit_of-in-loop-i.ensures ∙ e)) (omega (arith, byte))
-
-pub loop-i-preserved : goal.loop-i-preserved
-loop-i-preserved c =
-    let low = c in
-    let agreed = low in
-    let high = agreed in
-    let room = high in
-    let q = room.loop-i in
-    let known = room in
-    let x = known.args in
-    let byte = known.shared_slice_known-1.given q.i in
-    let e = hex_again x.a.now x.t.now q.i q.j q.invariant.2 room.loop-i-test.true room.if-t-j-lt2.false (sym high.digit_of.ensures ∙ agreed.if-digit_of-t.false) (sym low.digit_of-in-loop-i.ensures ∙ c.if-digit_of-t-2.false) (omega (arith, byte)) in
-    (omega arith, omega arith, e)
-
-pub returns-then-j-t : goal.returns-then-j-t
-returns-then-j-t c =
-    let q = c.loop-i in
-    let x = c.args in
-    hex_left x.a.now x.t.now q.i q.j q.invariant.2 c.loop-i-test.false c.if-j-t.true
+pub loop-b-preserved : goal.loop-b-preserved
+loop-b-preserved c =
+    let q = c.loop-b in
+    let turn = q.invariant ∙ hex_turn c.args.a.now q.rest.now q.b-index c.loop-b-test.true (c.type_inv.a q.b-index).fits c.in-len2-up.len_at_least in
+    turn
+    ∙ rw (← c.digit_of.ensures, ← c.digit_of-else-high-digit_of.ensures, eq-eqb _ _ (sym c.if-high-digit_of.false), eq-eqb _ _ (sym c.if-low-digit_of.false), rest_whole q.rest.now 2)
 
 pub returns : goal.returns
-returns c =
-    let q = c.loop-i in
-    let x = c.args in
-    hex_whole x.a.now x.t.now q.i q.j q.invariant.2 c.loop-i-test.false c.if-j-t.false
+returns c = let q = c.loop-b in sym (q.invariant ∙ hex_end c.args.a.now q.rest.now q.b-index c.loop-b-test.false ∙ sym c.is_empty.ensures)

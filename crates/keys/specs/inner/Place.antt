@@ -1,6 +1,6 @@
 -- Where the key of a packed event stands: its kind, and the part that has its label. Total over any places;
 -- `proofs/Keys` shows that on an accepted input it is the event's key. Assumes nothing.
-use Rattle.std.specs.Prelude.{ℕ, zero, suc, Bool, false, List, take, drop, ltb}
+use Rattle.std.specs.Prelude.{ℕ, zero, suc, Bool, false, Option, Some, None, List, take, drop, ltb}
 use Rattle.scan.specs.Ascii.{ascii}
 use Rattle.scan.specs.Choice.{pick}
 use Rattle.scan.specs.Compare.{same_bytes}
@@ -8,8 +8,7 @@ use Rattle.notepack.specs.declared.Head.{Head}
 use Rattle.notepack.specs.declared.Part.{Part}
 use Rattle.notepack.specs.Unpack.{part_of, bytes_of, text_of}
 use Rattle.notepack.specs.inner.Again.{part_again, count_again, texts_end}
-use Rattle.keys.specs.declared.KeyRead.{KeyRead}
-use Rattle.keys.specs.declared.KeyRead.TheVariants.{Keyed, Keyless}
+use Rattle.keys.specs.declared.KeyPlace.{KeyPlace}
 use Rattle.keys.specs.Key as key
 use Rattle.keys.specs.Key.{is_replaceable, is_labelled}
 
@@ -34,12 +33,12 @@ label_at (suc n) s at =
     (label_at n s (texts_end (count_again s at).value s (count_again s at).next))
 
 -- the key of a packed event of which h is read; a replaceable kind's label is empty
-unfoldable pub key_at : List ℕ → Head → KeyRead
+unfoldable pub key_at : List ℕ → Head → Option KeyPlace
 key_at s h =
-    pick (is_replaceable h.kind) (Keyed (record { kind = h.kind; label = empty_part }))
-    (pick (is_labelled h.kind) (Keyed (record { kind = h.kind; label = label_at h.tag_count s h.tags_at })) Keyless)
+    pick (is_replaceable h.kind) (Some (record { kind = h.kind; label = empty_part }))
+    (pick (is_labelled h.kind) (Some (record { kind = h.kind; label = label_at h.tag_count s h.tags_at })) None)
 
 -- the key that stands there
-abbrev pub key_there : List ℕ → KeyRead → key.Keyed
-key_there s (Keyed k) = key.keyed (record { pubkey = take 32 (drop 32 s); kind = k.kind; text = text_of s k.label })
-key_there s Keyless = key.keyless
+abbrev pub key_there : List ℕ → Option KeyPlace → key.Keyed
+key_there s (Some k) = key.keyed (record { pubkey = take 32 (drop 32 s); kind = k.kind; text = text_of s k.label })
+key_there s None = key.keyless

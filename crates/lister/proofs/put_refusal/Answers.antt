@@ -6,4 +6,6 @@ use Rattle.lister.proofs.put_refusal.Goals as goal
 
 pub returns : goal.returns
 unfolding refusal_text
-returns c = then (then (then (then c.put_bytes-a.ensures c.put_decimal-b.ensures) c.put_bytes-c.ensures) c.put_decimal-d.ensures) c.put_bytes.ensures
+returns c =
+    rw (← c.number.ensures)
+    (then (then (then (then c.put_bytes-a.ensures c.put_decimal-b.ensures) c.put_bytes-c.ensures) c.put_decimal-d.ensures) c.put_bytes.ensures)

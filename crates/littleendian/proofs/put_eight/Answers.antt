@@ -1,7 +1,6 @@
--- `put_eight` writes the bytes that `low_first` has, one after the other.
-use Rattle.littleendian.specs.LittleEndian.{low_first}
+-- `put_eight` writes the bytes that `low_first` has, one after the other: `low_le`.
+use Rattle.littleendian.proofs.Laws.{low_le}
 use Rattle.littleendian.proofs.put_eight.Goals as goal
 
 pub returns : goal.returns
-unfolding low_first
-returns c = c.put_bytes.ensures
+returns c = rw (c.to_le_bytes.ensures, low_le) at c.put_bytes.ensures

@@ -1,19 +1,17 @@
-use Rattle.buffer.proofs.Laws.{start, one, done, also, same}
+use Rattle.std.proofs.Common.{◌≡◌, ◌-◌, arith}
+use Rattle.buffer.proofs.Laws.{start, one, done, also}
 use Rattle.littleendian.proofs.Laws.{low_more, low_none}
 use Rattle.littleendian.proofs.put_number.Goals as goal
 
-pub loop-left-init : goal.loop-left-init
-loop-left-init c = start
+pub loop-init : goal.loop-init
+loop-init c = let e : c.args.n - 0 ≡ c.args.n = omega arith in rw e start
 
-pub loop-left-preserved : goal.loop-left-preserved
-loop-left-preserved c =
-    let q = c.loop-left in
-    one (also (low_more q.left q.rest c.loop-left-test.true) q.invariant) c.put_byte-o.ensures
-
-pub shape_of-out : goal.shape_of-out
-shape_of-out c = same c.loop-left.invariant
+pub loop-preserved : goal.loop-preserved
+loop-preserved c =
+    let q = c.loop in
+    one (also (low_more c.args.n q.counter q.rest (omega arith)) q.invariant) c.put_byte-o.ensures
 
 pub returns : goal.returns
 returns c =
-    let q = c.loop-left in
-    done (also (low_none q.left q.rest c.loop-left-test.false) q.invariant)
+    let q = c.loop in
+    done (also (low_none c.args.n q.counter q.rest (omega arith)) q.invariant)

@@ -7,7 +7,7 @@ use Rattle.varint.specs.Uleb.{uleb}
 use Rattle.notepack.specs.declared.Part.{Part}
 use Rattle.notepack.specs.declared.Head.{Head}
 use Rattle.notepack.specs.declared.Tally.{Tally}
-use Rattle.notepack.specs.Strict.{pack_element, pack_elements, pack_tag, pack_tags, pack}
+use Rattle.notepack.specs.Strict.{pack_elements, pack_tag, pack_tags, pack}
 use Rattle.notepack.specs.Unpack.{text_of, Packed, event_of}
 
 -- raw and of length 0: its word 01 is as long as the strict 00, but another
@@ -27,9 +27,6 @@ abbrev pub more : Tally → ℕ → Bool → Tally
 more t n hollow = record { len = t.len + n; hollow = either t.hollow hollow }
 
 -- elements, a tag and tags as they are passed over: the tally with theirs, and the place behind them
-abbrev pub pass_element : List ℕ → Tally → Read Part → Answer (Read Tally)
-pass_element s t e = read (more t (length (pack_element (text_of s e.value))) (is_hollow e.value)) e.next
-
 abbrev pub pass_elements : List ℕ → Tally → Read (List Part) → Answer (Read Tally)
 pass_elements s t es = read (more t (length (pack_elements (map (text_of s) es.value))) (hollow_in es.value)) es.next
 

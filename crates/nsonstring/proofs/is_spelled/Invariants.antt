@@ -7,7 +7,10 @@ use Rattle.nsonstring.proofs.Runs.{Before}
 use Rattle.nsonstring.proofs.is_spelled.Given as goal
 
 abbrev pub invariant-loop-i : goal.invariant-loop-i
-invariant-loop-i l = (l.i ≤ length l.t) × Before l.t l.i
+invariant-loop-i l = record {
+  inside : l.i ≤ length l.t;
+  before : Before l.t l.i;
+}
 
 abbrev pub decreases-loop-i : goal.decreases-loop-i
 decreases-loop-i l = length l.t - l.i

@@ -3,17 +3,25 @@ use Rattle.std.specs.Prelude.{ℕ, ◌+◌, List, length, leb, eqb}
 use Rattle.scan.specs.Choice.{pick, Answer, shown, refused, Read, read, and_then}
 use Rattle.varint.specs.Uleb.{uleb}
 use Rattle.notepack.specs.Strict.{pack_tags, pack}
-use Rattle.nson.specs.Nson.{Counts}
+use Rattle.nson.specs.Nson.{content_label, Counts}
 use Rattle.nson.specs.inner.Places.{around_kind, before_tags}
-use Rattle.nson.specs.Read.{Body, head_at, counts_at, body_read_at, event_read}
+use Rattle.nson.specs.Read.{Body, piece_at, head_at, counts_at, body_read_at, event_read}
 use Rattle.nsoncounts.specs.declared.Sizes.{Sizes}
-use Rattle.nsoncounts.specs.inner.Counted.{sizes_of}
+use Rattle.nsoncounts.specs.inner.Counted.{text_size_at, sizes_of}
 use Rattle.nsonwalk.specs.declared.BodySizes.{BodySizes}
 use Rattle.nsonwalk.specs.declared.NsonWalked.{NsonWalked}
 
--- a read, with the length of its value's strict form put to a total
-abbrev pub gathered : {A : Type 0} → (A → List ℕ) → ℕ → Answer (Read A) → Answer (Read ℕ)
-gathered f total r = and_then r λ x. read (total + length (f x.value)) x.next
+-- a read whose value is turned into another
+abbrev pub turned : {A B : Type 0} → (A → B) → Answer (Read A) → Answer (Read B)
+turned f r = and_then r λ x. read (f x.value) x.next
+
+-- a read, with the length of its value's strict form in place of the value
+unfoldable pub sized : {A : Type 0} → (A → List ℕ) → Answer (Read A) → Answer (Read ℕ)
+sized f r = turned (λ x. length (f x)) r
+
+-- the label and the content, with the length of its text in its place
+unfoldable pub content_size_at : ℕ → List ℕ → ℕ → Answer (Read ℕ)
+content_size_at n s at = and_then (piece_at 13 content_label s at) λ a. text_size_at n s a
 
 -- ---- bounds (proofs/Laws derives each)
 
@@ -23,10 +31,6 @@ element_most = 65_545
 
 abbrev pub tag_most : ℕ
 tag_most = 16_713_985
-
--- the place behind the counts of 255 tags of 255 items
-abbrev pub counts_most : ℕ
-counts_most = 260_938
 
 -- the place of the first tag
 abbrev pub tags_place_most : ℕ

@@ -1,22 +1,21 @@
--- The meaning of the code's answers, case by case. Assumes nothing.
-use Rattle.std.specs.Prelude.{ℕ, ℤ}
+-- The number of a version, and the meaning of the code's answers. Assumes nothing.
+use Rattle.std.specs.Prelude.{ℕ, ℤ, Result, Ok, Err}
 use Rattle.scan.specs.Choice.{Answer, shown}
+use Rattle.moment.specs.declared.Millis.{Millis}
 use Rattle.event.specs.inner.Told.{told}
-use Rattle.pointfields.specs.declared.VersionRead.{VersionRead}
-use Rattle.pointfields.specs.declared.VersionRead.TheVariants as version-by
-use Rattle.pointfields.specs.declared.WordRead.{WordRead}
-use Rattle.pointfields.specs.declared.WordRead.TheVariants as word-by
-use Rattle.pointfields.specs.declared.TimeRead.{TimeRead}
-use Rattle.pointfields.specs.declared.TimeRead.TheVariants as time-by
+use Rattle.event.specs.declared.Refusal.{Refusal}
+use Rattle.pointfields.specs.declared.FormVersion.{FormVersion}
+use Rattle.pointfields.specs.declared.FormVersion.TheVariants.{V0, V1}
 
-abbrev pub version_read : VersionRead → Answer ℕ
-version_read (version-by.Version v) = shown v
-version_read (version-by.Refused r) = told r
+-- the number that a header has for a version
+abbrev pub number_of : FormVersion → ℕ
+number_of V0 = 0
+number_of V1 = 1
 
-abbrev pub word_read : WordRead → Answer ℕ
-word_read (word-by.Word w) = shown w
-word_read (word-by.Refused r) = told r
+abbrev pub version_read : Result FormVersion Refusal → Answer ℕ
+version_read (Ok v) = shown (number_of v)
+version_read (Err r) = told r
 
-abbrev pub time_read : TimeRead → Answer ℤ
-time_read (time-by.Time m) = shown m.0
-time_read (time-by.Refused r) = told r
+abbrev pub time_read : Result Millis Refusal → Answer ℤ
+time_read (Ok m) = shown m.0
+time_read (Err r) = told r

@@ -6,7 +6,7 @@ use Rattle.notepack.specs.declared.Part.{Part}
 use Rattle.notepack.specs.Views.{nth}
 use Rattle.pointer.specs.Pointer.{entries_in, pointed_text, pointed_text_at, tag_table_at, pointed_tag_at, kind_at, time_at, tags_table_at, form_at}
 use Rattle.pointer.specs.Named.{part_named}
-use Rattle.pointread.specs.declared.Outline.{Outline}
+use Rattle.pointread.specs.inner.Answers.{Fields}
 
 -- the table of a tag all of whose texts are good
 unfoldable pub pointed_tag : ℕ → List ℕ → ℕ → Answer Part
@@ -30,13 +30,13 @@ unfoldable pub tags_fault : ℕ → List ℕ → ℕ → ℕ → Answer (Unit {0
 tags_fault version s n at = fault (many (pointed_tag_at version s) n at)
 
 -- all fields behind the header, and of the tags how many they are
-unfoldable pub front_at : ℕ → List ℕ → Answer Outline
+unfoldable pub front_at : ℕ → List ℕ → Answer Fields
 front_at version s =
     and_then (kind_at version s) λ k.
     and_then (time_at version s) λ t.
     and_then (pointed_text version s 56) λ c.
     and_then (tags_table_at version s) λ p.
-    shown (record { version = version; kind = k; time = record { 0 = t }; content = c; tag_count = entries_in p })
+    shown (record { version = version; kind = k; time = t; content = c; tag_count = entries_in p })
 
 -- the table of tag i
 unfoldable pub tag_table : ℕ → List ℕ → Answer Part

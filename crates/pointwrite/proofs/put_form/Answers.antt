@@ -5,5 +5,5 @@ use Rattle.pointwrite.proofs.put_form.Goals as goal
 
 pub returns : goal.returns
 returns c =
-    form_wrote c.args.s.now c.args.h
+    form_wrote c.args.form.now.packed.bytes.now c.args.form.now.packed.head
     (then c.put_front-a.ensures (then c.put_data-b.ensures (then c.put_part-c.ensures c.put_part.ensures)))

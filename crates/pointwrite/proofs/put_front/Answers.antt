@@ -9,19 +9,19 @@ use Rattle.pointwrite.proofs.put_front.Goals as goal
 -- the content stands in the data
 pub put_pointer-e-requires : goal.put_pointer-e-requires
 put_pointer-e-requires c =
-    let a = c.args in
-    omega (arith, data_parts a.s.now a.h, length_padded (text_of a.s.now a.h.content), c.text_len-content.ensures.value, c.requires.len_value.0, c.requires.len_value.1)
+    let f = c.args.form.now in
+    omega (arith, data_parts f.packed.bytes.now f.packed.head, length_padded (text_of f.packed.bytes.now f.packed.head.content), c.text_len-content.ensures.value, c.args.form.now.len_value, c.args.form.now.len_bound)
 
 -- and so does the table of tags
 pub overflow_mul-h : goal.overflow_mul-h
-overflow_mul-h c = omega (arith, data_parts c.args.s.now c.args.h, c.requires.len_value.0, c.requires.len_value.1)
+overflow_mul-h c = omega (arith, data_parts c.args.form.now.packed.bytes.now c.args.form.now.packed.head, c.args.form.now.len_value, c.args.form.now.len_bound)
 
 pub put_pointer-requires : goal.put_pointer-requires
-put_pointer-requires c = omega (arith, data_parts c.args.s.now c.args.h, c.padded_len-tags.ensures.value, c.requires.len_value.0, c.requires.len_value.1)
+put_pointer-requires c = omega (arith, data_parts c.args.form.now.packed.bytes.now c.args.form.now.packed.head, c.padded_len-tags.ensures.value, c.args.form.now.len_value, c.args.form.now.len_bound)
 
 pub returns : goal.returns
 returns c =
-    front_wrote c.args.s.now c.args.h c.padded_len-tags.ensures.value c.requires.len_value.0 c.text_len-content.ensures.value c.time_word.ensures
+    front_wrote c.args.form.now.packed.bytes.now c.args.form.now.packed.head c.padded_len-tags.ensures.value c.args.form.now.len_value c.text_len-content.ensures.value c.time_word.ensures
     (then c.put_word-a.ensures
     (then c.put_part-b.ensures
     (then c.put_word-c.ensures

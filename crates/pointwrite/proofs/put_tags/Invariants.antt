@@ -1,6 +1,6 @@
 -- `put_tags` writes the tags as it goes over them again. The invariant: what is left to write is the tags left, from
 -- the offset where they stand; and they end at the offset where all end.
-use Prim.Native.Nat.{◌+◌}
+use Prim.Native.Nat.{◌+◌, ◌-◌}
 use mathlib.Core.Path.{◌≡◌}
 use Rattle.buffer.proofs.Laws.{Left}
 use Rattle.notepack.specs.inner.Again.{tags_again}
@@ -8,10 +8,8 @@ use Rattle.pointer.specs.Written.{tag_pieces}
 use Rattle.pointwrite.specs.inner.Pieces.{tags_size}
 use Rattle.pointwrite.proofs.put_tags.Given as goal
 
-abbrev pub invariant-loop-left : goal.invariant-loop-left
-invariant-loop-left l =
-    Left l.initial.out l.initial.o (tag_pieces l.initial.next (tags_again l.initial.left l.s l.initial.i)) l.out l.o (tag_pieces l.next (tags_again l.left l.s l.i))
-    × (l.next + tags_size (tags_again l.left l.s l.i) ≡ l.initial.next + tags_size (tags_again l.initial.left l.s l.initial.i))
-
-abbrev pub decreases-loop-left : goal.decreases-loop-left
-decreases-loop-left l = l.left
+abbrev pub invariant-loop : goal.invariant-loop
+invariant-loop l =
+    let f = l.fn.from in
+    Left l.initial.out f.out (tag_pieces f.offset (tags_again l.packed.head.tag_count l.packed.bytes.now f.next)) l.out l.reached.out (tag_pieces l.reached.offset (tags_again (l.packed.head.tag_count - l.counter) l.packed.bytes.now l.reached.next))
+    × (l.reached.offset + tags_size (tags_again (l.packed.head.tag_count - l.counter) l.packed.bytes.now l.reached.next) ≡ f.offset + tags_size (tags_again l.packed.head.tag_count l.packed.bytes.now f.next))

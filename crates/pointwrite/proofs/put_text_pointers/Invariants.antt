@@ -1,17 +1,17 @@
 -- `put_text_pointers` writes the pointers to texts as it goes over them again. The invariant: what is left to write is
--- the pointers to the texts left, from the offset where they stand; and they end at the offset where all end.
-use Prim.Native.Nat.{◌+◌}
+-- the pointers to the texts left, from the offset where they stand; these end at the offset, and are read to the place,
+-- where all are.
+use Prim.Native.Nat.{◌+◌, ◌-◌}
 use mathlib.Core.Path.{◌≡◌}
 use lib.ListN.{length}
 use Rattle.buffer.proofs.Laws.{Left}
-use Rattle.notepack.specs.inner.Again.{texts_again}
+use Rattle.notepack.specs.inner.Again.{texts_again, texts_end}
 use Rattle.pointer.specs.Written.{padded_texts, text_pointers}
 use Rattle.pointwrite.proofs.put_text_pointers.Given as goal
 
-abbrev pub invariant-loop-left : goal.invariant-loop-left
-invariant-loop-left l =
-    Left l.initial.out l.initial.o (text_pointers l.initial.next (texts_again l.initial.left l.s l.initial.i)) l.out l.o (text_pointers l.next (texts_again l.left l.s l.i))
-    × (l.next + length (padded_texts (texts_again l.left l.s l.i)) ≡ l.initial.next + length (padded_texts (texts_again l.initial.left l.s l.initial.i)))
-
-abbrev pub decreases-loop-left : goal.decreases-loop-left
-decreases-loop-left l = l.left
+abbrev pub invariant-loop : goal.invariant-loop
+invariant-loop l =
+    let f = l.fn.from in
+    Left l.initial.out f.out (text_pointers f.offset (texts_again l.count l.packed.bytes.now f.next)) l.out l.reached.out (text_pointers l.reached.offset (texts_again (l.count - l.counter) l.packed.bytes.now l.reached.next))
+    × (l.reached.offset + length (padded_texts (texts_again (l.count - l.counter) l.packed.bytes.now l.reached.next)) ≡ f.offset + length (padded_texts (texts_again l.count l.packed.bytes.now f.next)))
+    × (texts_end l.count l.packed.bytes.now f.next ≡ texts_end (l.count - l.counter) l.packed.bytes.now l.reached.next)

@@ -8,6 +8,3 @@ returns-then-is_replaceable c =
     let a = c.args in
     rw (c.same_bytes.ensures, c.part-then-is_replaceable.ensures, c.part.ensures)
     (same-replaceable a.s.now a.t.now a.h a.k c.if-h-k.true (rw (← c.is_replaceable.ensures) c.if-is_replaceable.true))
-
-pub returns : goal.returns
-returns c = rw (c.same_key.ensures, c.key_at-2.ensures, c.key_at.ensures)

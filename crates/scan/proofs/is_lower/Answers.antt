@@ -1,25 +1,14 @@
-use mathlib.Core.Path.{refl}
-use native.Mathlib.Omega.{arith}
-use Rattle.scan.proofs.CompareLaws.{lowers}
+-- `is_lower` is the library's order of slices, which compares as `lower` does: the first difference decides.
+-- By the library's law for a comparison by lists' heads.
+use Rattle.std.proofs.Common.{refl}
+use Rattle.std.proofs.lemmas.Cmp.{same_from_slice_cmp_tested}
+use Rattle.std.specs.Ordering.{nat_cmp, is_lt}
+use Rattle.scan.specs.Compare.{lower}
+use Rattle.scan.proofs.CompareLaws.{lower_heads}
 use Rattle.scan.proofs.is_lower.Goals as goal
 
-pub loop-i-init : goal.loop-i-init
-loop-i-init c = (omega arith, refl)
-
-pub returns-then-b-i : goal.returns-then-b-i
-returns-then-b-i c = search lowers
-
-pub returns-then-a-i : goal.returns-then-a-i
-returns-then-a-i c = search lowers
-
-pub returns-then-a-i-2 : goal.returns-then-a-i-2
-returns-then-a-i-2 c = search lowers
-
-pub loop-i-preserved : goal.loop-i-preserved
-loop-i-preserved c = (omega arith, search lowers)
-
-pub returns-then-i-b : goal.returns-then-i-b
-returns-then-i-b c = search lowers
-
 pub returns : goal.returns
-returns c = search lowers
+unfolding lower
+returns c =
+    let a = c.args in
+    same_from_slice_cmp_tested nat_cmp is_lt lower refl (λ _ _. refl) (λ _ _. refl) lower_heads a.a.now a.b.now _ c.lt.ensures

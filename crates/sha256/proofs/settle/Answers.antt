@@ -5,4 +5,4 @@ use Rattle.sha256.proofs.settle.Goals as goal
 
 pub returns : goal.returns
 unfolding settled
-returns c = let l = c.args.l.now in rw (c.whole_blocks-h.ensures, tail_block l l _ c.block_of-tail.ensures)
+returns c = rw (c.whole_blocks.ensures, tail_block c.args.l.now _ c.block_of.ensures)

@@ -1,11 +1,12 @@
 -- `whole_blocks` hashes block after block. The invariant: the blocks that are left, from the value so far, give the
 -- result. Each turn is `blocks_turn`, the end `blocks_done`.
-use Rattle.std.proofs.Common.{◌≡◌, ◌-◌, ◌/◌, ◌≤◌, length, drop}
-use Rattle.sha256.specs.Compression.{blocks}
+use Rattle.std.proofs.Common.{◌≡◌}
+use Rattle.std.specs.Slice.Iter.{chunks_exact_rest, chunks_exact_size}
+use Rattle.sha256.specs.Message.{hashed}
 use Rattle.sha256.proofs.whole_blocks.Given as goal
 
-abbrev pub invariant-loop-i : goal.invariant-loop-i
-invariant-loop-i l = (l.i ≤ length l.s) × (length l.w ≡ 64) × (blocks ((length l.s - l.i) / 64) l.h (drop l.i l.s) ≡ blocks (length l.s / 64) l.initial.h l.s)
-
-abbrev pub decreases-loop-i : goal.decreases-loop-i
-decreases-loop-i l = length l.s - l.i
+abbrev pub invariant-loop-block : goal.invariant-loop-block
+invariant-loop-block l = record {
+  size : chunks_exact_size l.block-iterator ≡ 64;
+  hash : hashed l.h (chunks_exact_rest l.block-iterator) ≡ hashed l.initial.h l.s;
+}

@@ -1,23 +1,19 @@
 use native.Mathlib.Omega.{arith}
-use Rattle.buffer.proofs.Laws.{start, part, done, also, same}
+use Rattle.buffer.proofs.Laws.{start, part, done, also}
 use Rattle.slots.specs.Slots.{free_slot}
 use Rattle.slotbytes.proofs.Turns.{bytes_turn, bytes_end}
 use Rattle.slotbytes.proofs.put_slots.Goals as goal
 
-pub loop-i-init : goal.loop-i-init
-loop-i-init c = start
+pub loop-s-init : goal.loop-s-init
+loop-s-init c = start
 
-pub loop-i-preserved : goal.loop-i-preserved
-loop-i-preserved c =
-    let turn = c in
-    let q = turn.loop-i in
-    let t = turn.args.t in
-    part (also (bytes_turn t q.i free_slot (omega (arith, turn.loop-i-test.true, turn.well_formed))) q.invariant) c.put_slot-o.ensures
-
-pub shape_of-out : goal.shape_of-out
-shape_of-out c = same c.loop-i.invariant
+pub loop-s-preserved : goal.loop-s-preserved
+loop-s-preserved c =
+    let q = c.loop-s in
+    let t = c.args.t.now in
+    part (also (bytes_turn t q.s-index free_slot (omega (arith, c.well_formed))) q.invariant) c.put_slot-o.ensures
 
 pub returns : goal.returns
 returns c =
-    let q = c.loop-i in
-    done (also (bytes_end c.args.t q.i (omega (arith, c.loop-i-test.false, c.well_formed))) q.invariant)
+    let q = c.loop-s in
+    done (also (bytes_end c.args.t.now q.s-index (omega (arith, c.well_formed))) q.invariant)

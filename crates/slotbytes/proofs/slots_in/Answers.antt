@@ -8,13 +8,12 @@ loop-i-init c = (refl, refl)
 
 pub loop-i-preserved : goal.loop-i-preserved
 loop-i-preserved c =
-    let turn = c in
-    let q = turn.loop-i in (
-      length-set q.t q.i _ ∙ q.invariant.0,
-      table_turn 64 _ _ q.t q.i _ q.invariant.0 q.invariant.1 turn.loop-i-test.true c.part.ensures c.slot_of-s.ensures,
+    let q = c.loop-i in (
+      length-set q.slot-items q.i _ ∙ q.invariant.0,
+      table_turn 64 _ _ q.slot-items q.i _ q.invariant.0 q.invariant.1 c.loop-i-test.true c.part.ensures c.slot_of.ensures,
     )
 
 pub returns : goal.returns
 returns c =
     let q = c.loop-i in
-    table_end 64 c.args.b.now q.t q.i q.invariant.0 q.invariant.1 c.loop-i-test.false
+    table_end 64 c.args.b.now q.slot-items q.i q.invariant.0 q.invariant.1 c.loop-i-test.false

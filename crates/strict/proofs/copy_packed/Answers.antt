@@ -1,7 +1,6 @@
 -- `copy_packed` writes the strict form of a walked event: the input itself where that is strict, or piece by piece.
 -- By the laws for the two ways; a slice's numbers are bytes.
 use mathlib.Core.Path.{refl}
-use native.Mathlib.Omega.{arith}
 use borrow.Author.Tests.{not-true}
 use Rattle.scan.proofs.AllLaws.{all_places}
 use Rattle.notepack.proofs.Again.{accepted}
@@ -11,11 +10,11 @@ use Rattle.strict.proofs.copy_packed.Goals as goal
 pub returns-then-not-t : goal.returns-then-not-t
 returns-then-not-t c =
     let s = c.args.s.now in
-    let bytes = all_places s (λ i. omega (arith, c.shared_slice_known-1.given i)) in
+    let bytes = all_places s (λ i. (c.type_inv.s i).fits) in
     copied_whole s _ (accepted s bytes _ _ refl c.requires) c.if-t-s.true (not-true _ c.if-not-t.true) c.put_bytes.ensures
 
 pub returns : goal.returns
 returns c =
     let s = c.args.s.now in
-    let bytes = all_places s (λ i. omega (arith, c.shared_slice_known-1.given i)) in
+    let bytes = all_places s (λ i. (c.type_inv.s i).fits) in
     copied_pieces s _ (accepted s bytes _ _ refl c.requires) c.put_packed.ensures

@@ -6,8 +6,8 @@ use Rattle.stringform.specs.StringForm.{itself}
 use Rattle.stringform.proofs.Steps.{tells}
 use Rattle.stringform.proofs.read_all.Goals as goal
 
-pub returns : goal.returns
-returns c =
+pub returns-else-n-le-MAX_INPUT : goal.returns-else-n-le-MAX_INPUT
+returns-else-n-le-MAX_INPUT c =
     let a = c.args in
     let k = tells itself a.out.now (accepted_long a.bare (decoded a.text.now) (omega (arith, c.decoded_len-n.ensures, c.if-n-le-MAX_INPUT.false))) in
     record { result_value = k.0; out_after = k.1 }

@@ -1,31 +1,22 @@
--- What an offer decides: its answer, and the slot that changes with what it becomes. `lenttable/proofs/Laws` shows that
--- it is what the table says of the offer. Assumes nothing.
-use Rattle.std.specs.Prelude.{ℕ, List, length, eqb}
-use Rattle.scan.specs.Choice.{pick, Answer, shown, refused}
-use Rattle.event.specs.inner.Told.{told}
-use Rattle.archive.specs.declared.Outcome.{Outcome}
+-- What an offer decides: what it comes to, and the slot that changes with what it becomes, which `lenttable` carries
+-- out on the slots. Assumes nothing.
+use Rattle.std.specs.Prelude.{ℕ, Option, Some, None, length}
+use Rattle.scan.specs.Choice.{Answer, shown, and_then}
+use Rattle.event.specs.Event.{Event}
 use Rattle.notepack.specs.Strict.{pack}
 use Rattle.slots.specs.declared.Slot.{Slot}
-use Rattle.slots.specs.Slots.{free_slot, used_slot}
-use Rattle.table.specs.Offer.{Offer, offer, Place, nowhere, slot, place_in}
-use Rattle.tableoffer.specs.declared.Offering.{Offering}
-use Rattle.tableoffer.specs.declared.Offering.TheVariants as offering-by
+use Rattle.slots.specs.Slots.{used_slot}
+use Rattle.table.specs.Offer.{Offer, Place, nowhere, slot, place_in}
 use Rattle.tableoffer.specs.declared.Decision.{Decision}
 
--- an offer to a table of n slots, which are those of t where there are 64
-unfoldable pub lent_offer : ℕ → List Slot → List ℕ → List ℕ → Answer Offer
-lent_offer n t cells packed = pick (eqb n 64) (offer t cells packed) (refused 34 0)
+-- the slot that changes, if the event has a place, with what it becomes
+abbrev pub change_at : Place → Event → Option (ℕ × Slot)
+change_at nowhere e = None
+change_at (slot i) e = Some (i, used_slot (length (pack e)))
 
-abbrev pub decision_at : ℕ → Place → Offer → Decision
-decision_at n nowhere o = record { at = n; slot = free_slot; answer = offering-by.Told o.outcome }
-decision_at n (slot i) o = record { at = i; slot = used_slot (length (pack o.event)); answer = offering-by.Told o.outcome }
+abbrev pub decision_at : Place → Offer → Decision
+decision_at w o = record { outcome = o.outcome; change = change_at w o.event }
 
--- the slot that changes, or n where none does
-abbrev pub decision : ℕ → Answer Offer → Decision
-decision n (shown o) = decision_at n (place_in o) o
-decision n (refused k p) = record { at = n; slot = free_slot; answer = offering-by.Refused (record { number = k; place = p }) }
-
--- what an answer of the code means: the outcome, or the refusal
-abbrev pub offering : Offering → Answer Outcome
-offering (offering-by.Told r) = shown r
-offering (offering-by.Refused r) = told r
+-- what is decided of an offer, or its refusal
+abbrev pub decided : Answer Offer → Answer Decision
+decided a = and_then a λ o. shown (decision_at (place_in o) o)

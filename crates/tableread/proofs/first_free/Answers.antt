@@ -1,26 +1,9 @@
-use mathlib.Core.Path.{◌≡◌, refl}
-use native.Mathlib.Omega.{arith}
-use lib.ListN.{length}
-use Rattle.tableread.proofs.Passes.{free_found, free_again, free_left}
+-- `first_free` asks for the first slot that is free, by `position`.
+use Rattle.std.proofs.Common.{rules, ◌∙◌}
+use Rattle.std.proofs.lemmas.Iterator.{YieldsList-from_slice}
+use Rattle.std.proofs.lemmas.Iterator.Search.{position_from_yields_List}
+use Rattle.tableread.proofs.Passes.{is_free, free_first}
 use Rattle.tableread.proofs.first_free.Goals as goal
 
-pub loop-i-init : goal.loop-i-init
-loop-i-init c = refl
-
-pub returns-in-Free : goal.returns-in-Free
-returns-in-Free c =
-    let ks = c.args.ks in
-    let size : length ks ≡ 64 = omega (arith, c.well_formed) in
-    free_found ks size c.loop-i.i c.loop-i.invariant c.loop-i-test.true c.in-Free.is
-
-pub loop-i-preserved : goal.loop-i-preserved
-loop-i-preserved c =
-    let ks = c.args.ks in
-    let size : length ks ≡ 64 = omega (arith, c.well_formed) in
-    free_again ks size c.loop-i.i c.loop-i.invariant c.loop-i-test.true c.in_default.not-Free
-
 pub returns : goal.returns
-returns c =
-    let ks = c.args.ks in
-    let size : length ks ≡ 64 = omega (arith, c.well_formed) in
-    free_left ks size c.loop-i.i c.loop-i.invariant c.loop-i-test.false
+returns c = position_from_yields_List is_free _ _ _ c.position.ensures.ran (YieldsList-from_slice c.args.ks.now cc) (λ x b q k. search rules) ∙ free_first c.args.ks.now

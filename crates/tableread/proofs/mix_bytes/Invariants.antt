@@ -1,13 +1,7 @@
 -- `mix_bytes` takes bytes into a print. The invariant is one equation: the print from the start is that from here.
--- Each turn is a law of `Turns`.
-use Prim.Native.Nat.{◌-◌}
-use mathlib.Core.Path.{◌≡◌}
-use lib.ListN.{length, drop}
+use Rattle.std.proofs.Common.{◌≡◌, drop}
 use Rattle.tableread.specs.inner.Prints.{folded}
 use Rattle.tableread.proofs.mix_bytes.Given as goal
 
-abbrev pub invariant-loop-i : goal.invariant-loop-i
-invariant-loop-i l = folded l.h l.s ≡ folded l.r (drop l.i l.s)
-
-abbrev pub decreases-loop-i : goal.decreases-loop-i
-decreases-loop-i l = length l.s - l.i
+abbrev pub invariant-loop-b : goal.invariant-loop-b
+invariant-loop-b l = folded l.h l.s ≡ folded l.r (drop l.b-index l.s)

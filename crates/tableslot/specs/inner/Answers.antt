@@ -1,17 +1,16 @@
 -- The meaning of the code's answers, case by case. Assumes nothing.
-use Rattle.std.specs.Prelude.{ℕ, List, [], take, drop}
+use Rattle.std.specs.Prelude.{ℕ, Result, Ok, Err, List, [], take, drop}
 use Rattle.scan.specs.Choice.{Answer, shown, refused}
 use Rattle.event.specs.inner.Told.{told}
+use Rattle.event.specs.declared.Refusal.{Refusal}
 use Rattle.table.specs.Standing.{Stand}
 use Rattle.tableread.specs.declared.Known.{Known}
 use Rattle.tableread.specs.declared.Known.TheVariants.{Free, Bad, Good}
-use Rattle.tableslot.specs.declared.SlotRead.{SlotRead}
-use Rattle.tableslot.specs.declared.SlotRead.TheVariants as slot-by
 
 -- where it stands, or the refusal
-abbrev pub slot_read : SlotRead → Answer Stand
-slot_read (slot-by.Found at len) = shown (record { at = at; len = len })
-slot_read (slot-by.Refused r) = told r
+abbrev pub slot_read : Result (ℕ × ℕ) Refusal → Answer Stand
+slot_read (Ok x) = shown (record { at = x.0; len = x.1 })
+slot_read (Err r) = told r
 
 -- a slot that is known: where its event stands
 abbrev pub known_stand : Known → Answer Stand

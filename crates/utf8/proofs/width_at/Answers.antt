@@ -2,11 +2,11 @@
 -- 0.
 -- The bounds are the laws `width_most` and `width_left`, said of the result.
 use Prim.Native.Nat.{ℕ, ◌-◌, ◌≤◌}
-use mathlib.Core.Path.{◌≡◌, sym}
+use mathlib.Core.Path.{◌≡◌}
 use mathlib.Core.List.{List}
 use lib.ListN.{length}
 use Rattle.utf8.specs.inner.Width.{width_at}
-use Rattle.utf8.proofs.WidthLaws.{width_here, width_none, width_ascii, width_most, width_left}
+use Rattle.utf8.proofs.WidthLaws.{width_here, width_most, width_left}
 use Rattle.utf8.proofs.width_at.Goals as goal
 
 abbrev Bounded : List ℕ → ℕ → ℕ → Type 0
@@ -23,14 +23,6 @@ bounded s at r e = record {
   upper_bound_2 = rw e (width_left s at);
 }
 
--- nothing stands there
-pub returns-then-s-at : goal.returns-then-s-at
-returns-then-s-at c = let a = c.args in bounded _ _ _ (sym (width_none a.s.now a.at c.if-s-at.true))
-
--- an ASCII byte
-pub returns-then-s-at-lt128 : goal.returns-then-s-at-lt128
-returns-then-s-at-lt128 c = let a = c.args in bounded _ _ _ (sym (width_ascii a.s.now a.at c.if-s-at.false c.if-s-at-lt128.true))
-
 -- four bytes that are there
 pub returns-then-s-at-ge4 : goal.returns-then-s-at-ge4
 returns-then-s-at-ge4 c =
@@ -42,5 +34,5 @@ pub returns : goal.returns
 returns c =
     let a = c.args in
     bounded a.s.now a.at _
-    (rw (width_here a.s.now a.at c.if-s-at.false, ← c.byte_at-b.ensures, ← c.byte_at-c.ensures, ← c.byte_at-d.ensures)
+    (rw (width_here a.s.now a.at c.if-s-at.false, ← c.byte_at.ensures, ← c.byte_at-2.ensures, ← c.byte_at-3.ensures)
     c.width_of-2.ensures)

@@ -1,5 +1,5 @@
--- The decision: how many bytes one sequence takes, and whether a text is made of sequences. `Laws.is_utf8_lem` shows that
--- `is_utf8` is `Utf8`. Of one sequence: `WidthLaws.width_accepts` (a character of `Utf8` has its length as width),
+-- The decision: how many bytes one sequence takes, and whether a text is made of sequences. `Laws.is_utf8_lem` shows
+-- that `is_utf8` is `Utf8`. Of one sequence: `WidthLaws.width_accepts` (a character of `Utf8` has its length as width),
 -- `width_consumes` (a width other than 0 is that of a character that stands there), both stated by `scan/inner/Span`,
 -- which an auditor of them reads too; and `width_here` (`width_at` is `width_of` of four bytes). Assumes nothing.
 use Rattle.std.specs.Prelude.{ℕ, zero, suc, ◌+◌, ◌-◌, Bool, true, false, ◌&&◌, List, [], ◌∷◌, length, ltb, eqb}

@@ -1,5 +1,5 @@
--- What the fast pass in front of the rows promises: how far a text surely is well-formed. Every promise is one-sided: it
--- says what holds where nothing misfits, and nothing where something does. `WindowLaws.reach` shows that a text is
+-- What the fast pass in front of the rows promises: how far a text surely is well-formed. Every promise is one-sided:
+-- it says what holds where nothing misfits, and nothing where something does. `WindowLaws.reach` shows that a text is
 -- well-formed up to a place where its bytes fit. Assumes nothing.
 use Rattle.std.specs.Prelude.{ℕ, ◌+◌, ◌/◌, ◌≤◌, ◌<◌, ◌≡◌, List, ◌∷◌, length, take}
 use Rattle.scan.specs.Place.{byte_at}

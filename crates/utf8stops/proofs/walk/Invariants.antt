@@ -5,8 +5,8 @@ use lib.ListN.{length}
 use Rattle.utf8stops.proofs.Pass.{Walked}
 use Rattle.utf8stops.proofs.walk.Given as goal
 
-abbrev pub invariant-loop-at : goal.invariant-loop-at
-invariant-loop-at l = Walked l.d l.at l.p
+abbrev pub invariant-loop-w : goal.invariant-loop-w
+invariant-loop-w l = Walked l.d l.at l.p
 
-abbrev pub decreases-loop-at : goal.decreases-loop-at
-decreases-loop-at l = length l.d - l.p
+abbrev pub decreases-loop-w : goal.decreases-loop-w
+decreases-loop-w l = length l.d - l.p

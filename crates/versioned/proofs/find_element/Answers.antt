@@ -1,29 +1,30 @@
 -- `find_element` tells where an element of an input of either form stands in the bytes given.
 -- By the laws of `Viewing` for each way it can end.
-use mathlib.Core.Path.{sym, ap, ◌∙◌}
+use mathlib.Core.Path.{sym}
 use native.Mathlib.Omega.{arith}
-use Rattle.notepack.specs.Views.{element_of}
+use Rattle.event.proofs.Handed.{handed_on}
 use Rattle.versioned.proofs.Viewing.{element_none, element_start, part_fits}
 use Rattle.versioned.proofs.find_element.Goals as goal
+
+pub returns-in_err-k : goal.returns-in_err-k
+returns-in_err-k c =
+    let a = c.args in
+    rw (handed_on _ c.from_residual.ensures) (sym (element_none a.bare a.s.now a.i a.j (sym c.in_err-k.ensures)))
+
+pub returns-in_err-p : goal.returns-in_err-p
+returns-in_err-p c =
+    let a = c.args in
+    let e = element_start a.bare a.s.now (sym c.in_ok-k.ensures) a.i a.j in
+    rw (handed_on _ c.from_residual-in_err-p.ensures, e, ← c.from.ensures, ← c.find_element.ensures, ← c.in_err-p.ensures)
 
 pub move_part-requires : goal.move_part-requires
 move_part-requires c =
     let a = c.args in
-    let e = sym c.in-At.ensures in
-    let h = part_fits a.bare a.s.now e a.i a.j (ap (element_of a.i a.j) (sym c.from.ensures) ∙ sym c.in-Found.ensures) in
-    omega (arith, h)
+    let h = rw (c.find_element.ensures, c.from.ensures) at c.in_ok-p.ensures in
+    omega (arith, part_fits a.bare a.s.now (sym c.in_ok-k.ensures) a.i a.j h)
 
-pub returns-in-Refused : goal.returns-in-Refused
-returns-in-Refused c = let a = c.args in sym (element_none a.bare a.s.now a.i a.j (sym c.in-Refused.ensures))
-
-pub returns-in-Found : goal.returns-in-Found
-returns-in-Found c =
+pub returns : goal.returns
+returns c =
     let a = c.args in
-    let e = sym c.in-At.ensures in
-    rw (c.move_part.ensures, element_start a.bare a.s.now e a.i a.j, ← c.from.ensures, ← c.in-Found.ensures)
-
-pub returns-in-Refused-found : goal.returns-in-Refused-found
-returns-in-Refused-found c =
-    let a = c.args in
-    let e = sym c.in-At.ensures in
-    rw (c.moved.ensures, element_start a.bare a.s.now e a.i a.j, ← c.from.ensures, ← c.in-Refused-found.ensures)
+    let e = element_start a.bare a.s.now (sym c.in_ok-k.ensures) a.i a.j in
+    rw (c.move_part.ensures, e, ← c.from.ensures, ← c.find_element.ensures, ← c.in_ok-p.ensures)

@@ -1,9 +1,0 @@
--- `read_full` reads behind what stands in the buffer. Each turn but the last reads a byte or more, and never past the end.
-use Rattle.std.proofs.Common.{◌≤◌, ◌-◌, length}
-use Rattle.views.proofs.read_full.Given as goal
-
-abbrev pub invariant-loop-n : goal.invariant-loop-n
-invariant-loop-n g l = l.n ≤ length l.out
-
-abbrev pub decreases-loop-n : goal.decreases-loop-n
-decreases-loop-n g l = length l.out - l.n
