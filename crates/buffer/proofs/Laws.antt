@@ -4,15 +4,14 @@
 use Prim.Native.Nat.{ℕ, zero, suc, ◌+◌, ◌-◌, ◌<◌, ◌≤◌, min}
 use mathlib.Core.Path.{◌≡◌, refl, sym, ap, ◌∙◌}
 use mathlib.Core.Bool.{Bool, true, false}
-use mathlib.Core.List.{List, [], ◌∷◌, ◌++◌, append_assoc}
+use mathlib.Core.List.{List, [], ◌∷◌, ◌++◌}
 use mathlib.Core.Logic.{dite}
 use native.Mathlib.Nat.{add-zero}
 use native.Mathlib.Numerals.{add-one}
 use native.Mathlib.Omega.{arith}
 use native.Mathlib.Decide.{dec_lt}
-use lib.ListN.{length, set, take, drop, length-set, length-take}
-use lib.Seq.{sets, sets-eq, drop-drop}
-use borrow.Rule.Slice.PartMut.{put_mid}
+use lib.ListN.{length, set, take, drop, length-set}
+use lib.Seq.{sets, sets-eq}
 use Rattle.std.proofs.lemmas.List.{take_min}
 use lib.Dec.{ltb}
 use borrow.Author.Tests.{lt-ltb, le-ltb}
@@ -103,17 +102,10 @@ nothing = record { is = refl }
 pub cut : {d : List ℕ} {at : ℕ} {vs d' : List ℕ} {r : ℕ} → Wrote d at (take (length d - at) vs) d' r → Wrote d at vs d' r
 cut {d} {at} {vs} w = record { is = w.is ∙ puts_take (length d - at) d at vs (omega arith) }
 
--- as much of a text as there is room for, copied over the bytes from `at` on
-pub copied : {d s x : List ℕ} {at m k : ℕ} → at ≤ length d → m ≡ min (length d - at) (length s) → x ≡ take m s → k ≡ length (take m s)
-    → Wrote d at s (put_mid at k d x) (at + length (take m s))
-copied {d} {s} {x} {at} {m} {k} h e f g =
-    let v = take m s in
-    let same : v ≡ take (length d - at) s = ap (λ (n : ℕ). take n s) e ∙ take_min (length d - at) s in
-    let room : at + length v ≤ length d = omega (arith, length-take m s, e) in
-    let text = take at d ++ v ++ drop (at + length v) d in
-    let over : put_mid at k d x ≡ text = rw (f, g, drop-drop, append_assoc) in
-    let whole : (put_mid at k d x, at + length v) ≡ puts (d, at) v = ap (λ (l : List ℕ). (l, at + length v)) over ∙ sym (puts_eq d at v room) in
-    cut (record { is = whole ∙ ap (puts (d, at)) same })
+-- as much of a text as there is room for
+pub cut_min : {d : List ℕ} {at : ℕ} {s d' : List ℕ} {r m : ℕ} → m ≡ min (length d - at) (length s) → Wrote d at (take m s) d' r
+    → Wrote d at s d' r
+cut_min {d} {at} {s} e w = cut (rw (e, take_min (length d - at) s) at w)
 
 -- ---- a loop: it begins, it stores a byte where there is room, it calls a writer, it is done
 

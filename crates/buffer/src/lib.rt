@@ -16,6 +16,20 @@ pub fn put_byte(out: &mut [u8], at: usize, b: u8) -> usize
     }
 }
 
+// All of s, where there is room for it: one loop with no test for each byte. `copy_from_slice` calls `memmove`, which
+// takes longer for the short strings that most are, and which whoever links the library would have to bring.
+fn copy(out: &mut [u8], at: usize, s: &[u8]) -> usize
+    requires { at + length s.now ≤ length out.old }
+    ensures { Wrote out.old at s.now out.new result }
+{
+    let mut o = at;
+    for &b in s {
+        out[o] = b;
+        o += 1;
+    }
+    o
+}
+
 // A byte string.
 pub fn put_bytes(out: &mut [u8], at: usize, s: &[u8]) -> usize
     ensures { Wrote out.old at s.now out.new result }
@@ -24,10 +38,7 @@ pub fn put_bytes(out: &mut [u8], at: usize, s: &[u8]) -> usize
         return at;
     }
     let room = out.len() - at;
-    let part = &s[..room.min(s.len())];
-    let end = at + part.len();
-    out[at..end].copy_from_slice(part);
-    end
+    copy(out, at, &s[..room.min(s.len())])
 }
 
 // The n bytes of s from a place on, or as many of them as there are.

@@ -25,12 +25,13 @@ pub enum Text {
 
 // ---- blocks of plain ASCII
 
-// Whether a byte is anything but plain ASCII in a string: a control byte, a quote, a backslash or above ASCII.
+// Whether a byte is anything but plain ASCII in a string: a control byte, above ASCII, a quote or a backslash. The first
+// two stand together, since they are one comparison of a signed byte.
 #[tactic(auto, using(scan::proofs::Step::tests), unfolding(crate::specs::inner::Plain::is_special))]
 fn is_special(b: u8) -> bool
     ensures { result ≡ is_special b }
 {
-    b < 0x20 || b == b'"' || b == b'\\' || 0x80 <= b
+    b < 0x20 || 0x80 <= b || b == b'"' || b == b'\\'
 }
 
 // Whether a block has a special byte. No exit on the way: a loop for vectors.

@@ -142,10 +142,9 @@ pub fn skip_value(s: &[u8], at: usize, depth: usize) -> Result<usize, Refusal>
     ensures { skipped result ≡ value_at depth s.now at }
 {
     match scan::byte_at(s, at) {
-        b'"' => {
-            let (_, next) = jsonstring::read_string(s, at)?;
-            Ok(next)
-        }
+        // no `?`: it stores a refusal's reason by itself, and then every answer here is copied in pieces, for which
+        // the caller waits
+        b'"' => jsonstring::read_string(s, at).map(|(_, next)| next),
         b'{' => skip_walk(s, at, depth, b'}'),
         b'[' => skip_walk(s, at, depth, b']'),
         b't' => skip_word(b"true", s, at),

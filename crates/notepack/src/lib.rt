@@ -451,7 +451,14 @@ pub fn part_again(s: &[u8], at: usize) -> (Part, usize)
         len: 0,
         raw: false,
     };
-    read_part(s, at).unwrap_or((nothing, at))
+    let (p, next) = read_part(s, at).unwrap_or((nothing, at));
+    // Field by field: a copy of the whole has the bytes between the fields too, and waits for the stores before it.
+    let part = Part {
+        at: p.at,
+        len: p.len,
+        raw: p.raw,
+    };
+    (part, next)
 }
 
 // A tag's number of texts; 0, and the place stays, where none is read.

@@ -197,3 +197,25 @@ pub fn text_len(t: &[u8]) -> Result<usize, Reason>
     check_text(&t[..])?;
     Ok(jsonunescape::unescaped_len(&t[..], 0, t.len()))
 }
+
+// The earliest fault of the bytes between two quotes, or none; and the length of the text that they spell, which is
+// told where a fault stands too.
+#[derive(Clone, Copy)]
+pub struct Seen {
+    pub fault: Result<(), Reason>,
+    pub len: usize,
+}
+
+// Both, whether a fault stands or not.
+pub fn look(t: &[u8]) -> Seen
+    ensures fault_value { fault_of result.fault ≡ fault_in t.now }
+    ensures len_value { result.len ≡ length (unescape t.now) }
+{
+    match text_len(t) {
+        Ok(len) => Seen { fault: Ok(()), len },
+        Err(fault) => Seen {
+            fault: Err(fault),
+            len: jsonunescape::unescaped_len(t, 0, t.len()),
+        },
+    }
+}

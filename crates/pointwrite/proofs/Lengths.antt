@@ -1,12 +1,12 @@
 -- The lengths of what is written: a text with its filling, the tags, the data and the whole; and the whole, cut in
 -- front of the data and behind it.
 -- By induction on the tags; the rest is counting.
-use Prim.Native.Nat.{ℕ, ◌+◌, ◌≤◌}
+use Prim.Native.Nat.{ℕ, zero, suc, ◌+◌, ◌≤◌}
 use mathlib.Core.Path.{◌≡◌, refl, sym, ap, ◌∙◌}
 use mathlib.Core.List.{List, [], ◌∷◌, ◌++◌, append_assoc}
 use native.Mathlib.Omega.{arith}
-use lib.ListN.{length, take, replicate, length-append}
-use Rattle.std.proofs.lemmas.List.{take-replicate}
+use lib.ListN.{length, replicate, length-append}
+use Rattle.littleendian.specs.LittleEndian.{low_first}
 use Rattle.event.specs.Event.{Text, Tag, Event, Valid}
 use Rattle.pointer.specs.Written.{filling, padded_text, tag_piece, tag_size, tag_pieces, tag_pointers, pieces_offset, pointer_data, pointer_form}
 use Rattle.pointer.proofs.Filled.{length_filling, length_tags, length_piece}
@@ -22,10 +22,15 @@ pub length_padded : (t : Text) → length (padded_text t) ≡ length t + length 
 unfolding padded_text
 length_padded t = length-append t (filling (length t))
 
--- as many of seven zeros
-pub filling_zeros : (n : ℕ) {k : ℕ} → k ≡ length (filling n) → filling n ≡ take k (replicate 7 0)
+-- the lowest bytes of 0 are zeros
+zeros : (k : ℕ) → low_first k 0 ≡ replicate k 0
+unfolding low_first
+zeros zero = refl
+zeros (suc k) = ap (λ (l : List ℕ). 0 ∷ l) (zeros k)
+
+pub filling_zeros : (n : ℕ) {k : ℕ} → k ≡ length (filling n) → filling n ≡ low_first k 0
 unfolding filling
-filling_zeros n {k} e = sym (take-replicate k 7 0 (omega (arith, e, filling_most n)) ∙ ap (λ (j : ℕ). replicate j 0) (e ∙ length_filling n))
+filling_zeros n {k} e = sym (zeros k ∙ ap (λ (j : ℕ). replicate j 0) (e ∙ length_filling n))
 
 -- ---- the whole
 

@@ -140,12 +140,13 @@ fn put_pointer(out: &mut [u8], at: usize, offset: usize, len: usize) -> usize
     put_word(out, at, OFFSET * offset as u64 + len as u64)
 }
 
-// The zeros behind n bytes.
+// The zeros behind n bytes, as the lowest bytes of 0: a part of an array of zeros becomes a call of `memset`, which
+// takes longer for so few.
 #[tactic(auto, using(crate::proofs::Lengths::filling_zeros))]
 fn put_filling(out: &mut [u8], at: usize, n: usize) -> usize
     ensures { Wrote out.old at (filling n) out.new result }
 {
-    buffer::put_bytes(out, at, &[0; 7][..filling_len(n)])
+    littleendian::put_number(out, at, 0, filling_len(n))
 }
 
 // A part's text.

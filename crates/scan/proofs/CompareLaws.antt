@@ -3,8 +3,9 @@
 use Prim.Native.Nat.{ℕ}
 use mathlib.Core.Path.{◌≡◌, refl, sym, ap, ◌∙◌}
 use mathlib.Core.Bool.{Bool, true, false}
-use mathlib.Core.List.{List, [], ◌∷◌}
+use mathlib.Core.List.{List, [], ◌∷◌, ◌++◌}
 use native.Mathlib.Omega.{arith}
+use lib.ListN.{length, drop}
 use lib.Dec.{eqb}
 use lib.Pointwise.{pointwise}
 use Rattle.std.specs.Ordering.{nat_cmp, MatchOrdering}
@@ -12,6 +13,7 @@ use Rattle.std.specs.declared.cmp.Ordering.{Ordering}
 use borrow.Author.Tests.{eq-eqb, eqb-true}
 use Rattle.std.proofs.lemmas.Bool.Decides.{nat_tests}
 use Rattle.scan.specs.Choice.{pick}
+use Rattle.scan.specs.Place.{begins}
 use Rattle.scan.specs.Compare.{same_bytes, lower}
 use Rattle.scan.proofs.Step.{pick_and, pick_true, false_true}
 
@@ -48,6 +50,18 @@ same_eq [] [] = refl
 same_eq [] (y ∷ b) = refl
 same_eq (x ∷ a) [] = refl
 same_eq (x ∷ a) (y ∷ b) = pick_and (eqb x y) (pointwise eqb a b) ∙ ap (λ (t : Bool). pick (eqb x y) t false) (same_eq a b)
+
+-- in parts: the first begins the other string, and the rest is the same
+pub same_append : (a b c : List ℕ) → same_bytes (a ++ b) c ≡ pick (begins a c) (same_bytes b (drop (length a) c)) false
+unfolding same_bytes begins
+same_append [] b c = refl
+same_append (x ∷ a) b [] = refl
+same_append (x ∷ a) b (y ∷ c) = go (same_append a b c) (eqb x y)
+  where
+    go : same_bytes (a ++ b) c ≡ pick (begins a c) (same_bytes b (drop (length a) c)) false → (t : Bool)
+        → pick t (same_bytes (a ++ b) c) false ≡ pick (pick t (begins a c) false) (same_bytes b (drop (length a) c)) false
+    go e true = e
+    go e false = refl
 
 -- ---- lower as bytes: the heads decide, as in the library's order of lists
 

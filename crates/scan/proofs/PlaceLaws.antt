@@ -1,24 +1,24 @@
 -- A range is its bounds; a fixed byte string stands at a place exactly where it is a span; a run is the longest span of
 -- bytes that pass.
--- Loops over a run cite the laws of each turn, the ruleset `runs`; a grammar cites the four laws that speak of `Span`.
-use Prim.Native.Nat.{ℕ, zero, suc, ◌+◌, ◌<◌, ◌≤◌}
+-- The loops of the code cite the laws of each turn and the ruleset `runs`; a grammar cites the four laws that speak of
+-- `Span`.
+use Prim.Native.Nat.{ℕ, zero, suc, ◌+◌, ◌-◌, ◌<◌, ◌≤◌}
 use mathlib.Core.Path.{◌≡◌, refl, sym, ap, ◌∙◌}
 use mathlib.Core.Bool.{Bool, true, false, cond}
 use mathlib.Core.List.{List, [], ◌∷◌, ◌++◌}
 use mathlib.Core.Logic.{dite}
 use native.Mathlib.Omega.{arith}
 use native.Mathlib.Decide.{dec_lt}
-use lib.ListN.{length, get_or, take, drop, length-drop}
+use lib.ListN.{length, get_or, drop, length-drop}
 use lib.Dec.{leb, eqb}
-use lib.Pointwise.{pointwise}
 use Rattle.std.specs.List.{prefix_len}
 use Rattle.scan.specs.Choice.{pick}
-use borrow.Author.Tests.{leb-true, eq-eqb, eqb-true}
+use borrow.Author.Tests.{leb-true, eq-eqb, ne_eqb, eqb-true}
 use Rattle.scan.specs.Place.{begins, stands_at, within, run, run_at}
 use Rattle.scan.specs.Bytes.{All, none, also}
 use Rattle.scan.specs.inner.Span.{here, step, Span}
-use Rattle.scan.proofs.Step.{rest_none, rest_more, pick_and, pick_by, pick_true, false_true}
-use Rattle.scan.proofs.SpanLaws.{from_span, to_span, place}
+use Rattle.scan.proofs.Step.{rest_none, rest_more, pick_by, pick_true, false_true}
+use Rattle.scan.proofs.SpanLaws.{from_span, to_span, place, span_fits}
 
 -- ---- a range
 
@@ -27,13 +27,26 @@ pub within_bounds : (low high b : ℕ) → within low high b ≡ true → (low �
 unfolding within
 within_bounds low high b h = let t = pick_true (leb low b) (leb b high) h in (leb-true low b t.0, leb-true b high t.1)
 
--- ---- a fixed byte string: what the library's `==` of slices computes
+-- ---- a fixed byte string: where the loop stands
 
-pub begins_eq : (w l : List ℕ) → pointwise eqb w (take (length w) l) ≡ begins w l
-unfolding begins
-begins_eq [] l = refl
-begins_eq (b ∷ w) [] = refl
-begins_eq (b ∷ w) (c ∷ l) = pick_and (eqb b c) (pointwise eqb w (take (length w) l)) ∙ ap (λ (t : Bool). pick (eqb b c) t false) (begins_eq w l)
+module _ (w s : List ℕ) (at i j : ℕ) where
+  pub stands_again : stands_at w s at ≡ begins (drop j w) (drop i s) → j < length w → i < length s → get_or w j 0 ≡ get_or s i 0
+      → stands_at w s at ≡ begins (drop (j + 1) w) (drop (i + 1) s)
+  unfolding begins
+  stands_again v h l e = v ∙ rw (rest_more w j, rest_more s i, eq-eqb _ _ e)
+
+  pub stands_other : stands_at w s at ≡ begins (drop j w) (drop i s) → j < length w → i < length s → (get_or w j 0 ≡ get_or s i 0 → ⊥)
+      → false ≡ stands_at w s at
+  unfolding begins
+  stands_other v h l n = sym (v ∙ rw (rest_more w j, rest_more s i, ne_eqb _ _ n))
+
+  pub stands_whole : stands_at w s at ≡ begins (drop j w) (drop i s) → length w ≤ j → true ≡ stands_at w s at
+  unfolding begins
+  stands_whole v h = sym (v ∙ rw (rest_none w j))
+
+pub stands_start : (w s : List ℕ) (at : ℕ) → stands_at w s at ≡ begins (drop 0 w) (drop at s)
+unfolding stands_at
+stands_start w s at = refl
 
 -- ---- a fixed byte string as a span, in both directions
 
@@ -62,6 +75,14 @@ begins_rest (b ∷ w) (c ∷ l) h =
 pub stands_span : (w s : List ℕ) (at : ℕ) → stands_at w s at ≡ true → Span s at w (at + length w)
 unfolding stands_at
 stands_span w s at h = let r = begins_rest w (drop at s) h in to_span s w r.0 at r.1
+
+-- it does not stand where too few bytes are left
+pub stands_short : (w s : List ℕ) (at : ℕ) → length s - at < length w → false ≡ stands_at w s at
+stands_short w s at h = go (stands_at w s at) refl
+  where
+    go : (t : Bool) → stands_at w s at ≡ t → false ≡ stands_at w s at
+    go true e = absurd (omega (arith, h, span_fits (stands_span w s at e)))
+    go false e = sym e
 
 -- ---- a run: where the loop stands
 

@@ -29,12 +29,20 @@ pub fn rest(s: &[u8], at: usize) -> usize
     s.len().saturating_sub(at)
 }
 
-// Whether the byte string w stands at a place.
-#[tactic(auto, using(crate::proofs::PlaceLaws::begins_eq), unfolding(crate::specs::Place::stands_at))]
+// Whether the byte string w stands at a place. Byte by byte, since w is short and mostly a constant, which is then
+// compared in place: `==` of slices is a call.
 pub fn stands_at(w: &[u8], s: &[u8], at: usize) -> bool
     ensures { result ≡ stands_at w.now s.now at }
 {
-    w == part(s, at, w.len())
+    if rest(s, at) < w.len() {
+        return false;
+    }
+    for (j, &b) in w.iter().enumerate() {
+        if b != s[at + j] {
+            return false;
+        }
+    }
+    true
 }
 
 // Whether a byte is from low to high, both included.

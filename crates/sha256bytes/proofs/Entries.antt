@@ -8,7 +8,7 @@ use native.Mathlib.Omega.{arith}
 use lib.ListN.{length, take, drop}
 use lib.Seq.{take-take}
 use lib.Dec.{leb}
-use borrow.Author.Tests.{le-leb, leb-true}
+use borrow.Author.Tests.{le-leb, lt-leb, leb-true}
 use Rattle.scan.specs.Choice.{Answer, shown, refused}
 use Rattle.scan.proofs.Many.{pick_shown}
 use Rattle.buffer.specs.inner.Store.{Wrote}
@@ -38,6 +38,11 @@ state_made b e f g =
 pub lent : (b : List ℕ) {s : Hash} → 104 ≤ length b → s ≡ state_of b → lent_state b ≡ shown s
 unfolding lent_state
 lent b h e = rw (le-leb 104 (length b) h) (ap shown (sym e))
+
+-- too few bytes: 11 with 104
+pub few : (b : List ℕ) → length b < 104 → refused 11 104 ≡ lent_state b
+unfolding lent_state
+few b h = sym (rw (lt-leb 104 (length b) h) refl)
 
 -- a state that was found has its bytes
 room : (b : List ℕ) {s : Hash} → shown s ≡ lent_state b → 104 ≤ length b

@@ -16,6 +16,11 @@ const STATE: usize = 104;
 // The bytes of a digest.
 const DIGEST: usize = 32;
 
+const NO_STATE: Refusal = Refusal {
+    reason: Reason::TooLittleRoom,
+    place: STATE,
+};
+
 const TOO_LONG: Refusal = Refusal {
     reason: Reason::MessageTooLong,
     place: 0,
@@ -69,10 +74,7 @@ fn lent_state(b: &[u8]) -> Result<Hash, Refusal>
     ensures { answer result ≡ lent_state b.now }
 {
     if b.len() < STATE {
-        return Err(Refusal {
-            reason: Reason::TooLittleRoom,
-            place: STATE,
-        });
+        return Err(NO_STATE);
     }
     Ok(state_of(b))
 }
@@ -92,10 +94,7 @@ pub fn start_in(state: &mut [u8]) -> Result<usize, Refusal>
     ensures state_after { state.new ≡ filled (bytes_of_state started) state.old }
 {
     if state.len() < STATE {
-        return Err(Refusal {
-            reason: Reason::TooLittleRoom,
-            place: STATE,
-        });
+        return Err(NO_STATE);
     }
     Ok(put_state(state, sha256::start()))
 }
@@ -105,7 +104,11 @@ pub fn add_in(state: &mut [u8], piece: &[u8]) -> Result<usize, Refusal>
     ensures result_value { answer result ≡ writes bytes_of_state (add_in state.old piece.now) state.old }
     ensures state_after { state.new ≡ leaves bytes_of_state (add_in state.old piece.now) state.old }
 {
-    let s = lent_state(state)?;
+    // no `lent_state`: a state in a `Result` is copied twice, which short pieces feel
+    if state.len() < STATE {
+        return Err(NO_STATE);
+    }
+    let s = state_of(state);
     if sha256::is_too_long(s, piece.len()) {
         return Err(TOO_LONG);
     }

@@ -2,6 +2,8 @@
 #![tactic(auto)]
 
 ghost use Rattle.std.specs.Prelude.{◌≤◌, ◌<◌, ◌^◌, ◌≡◌, ◌++◌, length};
+ghost use Rattle.scan.specs.Place.{stands_at};
+ghost use Rattle.buffer.specs.inner.Store.{Wrote};
 ghost use Rattle.buffer.specs.Entry.{written, filled, writes, leaves};
 ghost use Rattle.event.specs.inner.Told.{answer};
 ghost use Rattle.base64text.specs.Base64.{decoded};
@@ -24,6 +26,14 @@ fn prefix(bare: bool) -> &'static [u8]
     if bare { b"notepack_" } else { b"notepack1_" }
 }
 
+// Whether a text starts with the prefix.
+#[tactic(auto, unfolding(crate::specs::StringForm::prefix))]
+fn is_prefixed(t: &[u8], bare: bool) -> bool
+    ensures { result ≡ stands_at (prefix bare) t.now 0 }
+{
+    scan::stands_at(prefix(bare), t, 0)
+}
+
 // What stands in front of the bare bytes.
 #[tactic(auto, unfolding(crate::specs::StringForm::front))]
 fn front(bare: bool) -> &'static [u8]
@@ -34,20 +44,27 @@ fn front(bare: bool) -> &'static [u8]
 
 // ---- the writer
 
+// The prefix, from the start.
+#[tactic(auto, unfolding(crate::specs::StringForm::prefix))]
+fn put_prefix(out: &mut [u8], bare: bool) -> usize
+    ensures { Wrote out.old 0 (prefix bare) out.new result }
+{
+    buffer::put_bytes(out, 0, prefix(bare))
+}
+
 // The string form of bytes: 11 with the length needed, or the length written.
 fn put_string(out: &mut [u8], bare: bool, b: &[u8]) -> Result<usize, Refusal>
     ensures result_value { answer result ≡ written (string_form bare b.now) out.old }
     ensures out_after { out.new ≡ filled (string_form bare b.now) out.old }
 {
-    let prefix = prefix(bare);
-    let n = prefix.len() + base64text::encoded_len(b);
+    let n = prefix(bare).len() + base64text::encoded_len(b);
     if out.len() < n {
         return Err(Refusal {
             reason: Reason::TooLittleRoom,
             place: n,
         });
     }
-    let o = buffer::put_bytes(out, 0, prefix);
+    let o = put_prefix(out, bare);
     Ok(base64text::put_encoded(out, o, b))
 }
 
@@ -144,13 +161,13 @@ pub fn read_string(t: &[u8], bare: bool, out: &mut [u8]) -> Result<usize, Refusa
     ensures result_value { answer result ≡ writes itself (read_string bare t.now) out.old }
     ensures out_after { out.new ≡ leaves itself (read_string bare t.now) out.old }
 {
-    let prefix = prefix(bare);
-    if !scan::stands_at(prefix, t, 0) {
+    if !is_prefixed(t, bare) {
         return Err(Refusal {
             reason: Reason::NoPrefix,
             place: 0,
         });
     }
+    let prefix = prefix(bare);
     let end = base64text::alphabet_end(t, prefix.len());
     if end < t.len() {
         return Err(Refusal {

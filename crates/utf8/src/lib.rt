@@ -96,8 +96,7 @@ fn is_mixed(s: &[u8]) -> bool
 }
 
 // A short text is ASCII most often: a function of its own, since within `is_utf8` it took a third longer (tried).
-// `&s[..]` hands on the slice as a new one: handed on as it came it is copied whole, and the copy waits for the two
-// stores of whoever has just made it.
+// `&s[..]` hands on the slice as a new one, which an older kit needed (docs/DECISIONS.md, section 2).
 #[tactic(auto, using(crate::proofs::FittingLaws::most_utf8))]
 fn is_short(s: &[u8]) -> bool
     ensures { result ≡ is_utf8 s.now }

@@ -7,34 +7,33 @@ use Rattle.stringform.specs.StringForm.{itself}
 use Rattle.stringform.proofs.Steps.{not_prefixed, prefix_fits, outside, unfinished, holds, tells}
 use Rattle.stringform.proofs.read_string.Goals as goal
 
-pub returns-then-not-stands_at : goal.returns-then-not-stands_at
-returns-then-not-stands_at c =
+pub returns-then-not-is_prefixed : goal.returns-then-not-is_prefixed
+returns-then-not-is_prefixed c =
     let a = c.args in
-    let s = rw c.prefix-prefix.ensures.value at c.stands_at.ensures in
-    let k = tells itself a.out.now (not_prefixed a.bare a.t.now (sym s ∙ c.if-not-stands_at.true)) in
+    let k = tells itself a.out.now (not_prefixed a.bare a.t.now (sym c.is_prefixed.ensures ∙ c.if-not-is_prefixed.true)) in
     record { result_value = k.0; out_after = k.1 }
 
 pub returns-then-end-t : goal.returns-then-end-t
 returns-then-end-t c =
     let a = c.args in
-    let p = sym (rw c.prefix-prefix.ensures.value at c.stands_at.ensures) ∙ c.if-not-stands_at.false in
+    let p = sym c.is_prefixed.ensures ∙ c.if-not-is_prefixed.false in
     let k = tells itself a.out.now (outside a.bare a.t.now p (ap length c.prefix-prefix.ensures.value) c.alphabet_end-end.ensures c.if-end-t.true) in
     record { result_value = k.0; out_after = k.1 }
 
 pub slice_bounds-text-count : goal.slice_bounds-text-count
 slice_bounds-text-count c =
-    let p = sym (rw c.prefix-prefix.ensures.value at c.stands_at.ensures) ∙ c.if-not-stands_at.false in
+    let p = sym c.is_prefixed.ensures ∙ c.if-not-is_prefixed.false in
     prefix_fits _ _ p (ap length c.prefix-prefix.ensures.value)
 
 pub slice_bounds-text-start : goal.slice_bounds-text-start
 slice_bounds-text-start c =
-    let p = sym (rw c.prefix-prefix.ensures.value at c.stands_at.ensures) ∙ c.if-not-stands_at.false in
+    let p = sym c.is_prefixed.ensures ∙ c.if-not-is_prefixed.false in
     prefix_fits _ _ p (ap length c.prefix-prefix.ensures.value)
 
 pub returns-then-not-ends_whole : goal.returns-then-not-ends_whole
 returns-then-not-ends_whole c =
     let a = c.args in
-    let p = sym (rw c.prefix-prefix.ensures.value at c.stands_at.ensures) ∙ c.if-not-stands_at.false in
+    let p = sym c.is_prefixed.ensures ∙ c.if-not-is_prefixed.false in
     let h = rw (rest_whole a.t.now) at (sym c.ends_whole.ensures ∙ c.if-not-ends_whole.true) in
     let k = tells itself a.out.now (unfinished a.bare a.t.now p (ap length c.prefix-prefix.ensures.value) c.alphabet_end-end.ensures c.if-end-t.false h) in
     record { result_value = k.0; out_after = k.1 }
@@ -42,7 +41,7 @@ returns-then-not-ends_whole c =
 pub returns : goal.returns
 returns c =
     let a = c.args in
-    let p = sym (rw c.prefix-prefix.ensures.value at c.stands_at.ensures) ∙ c.if-not-stands_at.false in
+    let p = sym c.is_prefixed.ensures ∙ c.if-not-is_prefixed.false in
     let h = rw (rest_whole a.t.now) at (sym c.ends_whole.ensures ∙ c.if-not-ends_whole.false) in
     let k = holds a.bare a.t.now p (ap length c.prefix-prefix.ensures.value) c.alphabet_end-end.ensures c.if-end-t.false h in
     record {
